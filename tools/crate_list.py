@@ -20,23 +20,23 @@ Each layer stands only on itself and on those above it in this list. The sentenc
 which says what the crate promises. This file is made by `tools/crate_list.py`.
 """
 LAYERS = {
-    "Base": "plain_values step_counter io_edge number_hash state_table demand_order",
-    "Language": "imp_lex imp_syntax imp_parse imp_print print_round_trip imp_slots imp_check program_table program_chains"
-    " analysis_words edit_entries loop_breaks imp_edit edit_history",
-    "Input and output": "command_words request_json script_loop gen_summary",
+    "Base": "base_values base_counter io_edge base_hash state_table daig_order",
+    "Language": "imp_lex imp_syntax imp_parse imp_print imp_round_trip imp_slots imp_check imp_table imp_chains"
+    " imp_words edit_entries edit_breaks imp_edit edit_history",
+    "Input and output": "serve_command request_json serve_script gen_summary",
     "Meaning": "concrete_sem imp_run domain_laws batch_meaning batch_sound cert_meaning",
-    "Domains": "num_bounds numeric_slots cert_words portable_states interval_meaning interval_words dom_interval dbm_core"
-    " dbm_close dbm_incremental dbm_narrow octagon_meaning octagon_states octagon_words dom_octagon shape_graph"
-    " shape_steps listseg_meaning graph_sets listseg_words dom_listseg product_meaning dom_product batch_converges"
-    " product_answers fold_laws",
-    "Batch interpretation and certificates": "call_contexts selected_chains alarm_report batch_interp cert_sound"
+    "Domains": "num_bounds dom_numeric cert_words cert_meaning dom_interval_meaning dom_interval_words dom_interval dbm_core"
+    " dbm_close dbm_incremental dbm_narrow dom_octagon_meaning dom_octagon_states dom_octagon_words dom_octagon shape_graph"
+    " shape_steps dom_listseg_meaning dom_listseg_sets dom_listseg_words dom_listseg dom_product_meaning dom_product batch_converges"
+    " batch_product fold_laws",
+    "Batch interpretation and certificates": "call_contexts call_chains alarm_report batch_interp cert_sound"
     " cert_complete cert_lines cert_write cert_reading cert_accepted cert_check",
-    "Cells": "cell_names cell_rows cells_sound demand_laws why_slice flow_rows imp_flow daig_graph named_cells loop_unroll"
-    " memo_table daig_query why_cells kept_set kept_after cell_removal edit_invalidate edit_places_stay edits_keep_cells",
-    "Sessions": "session_machine open_tickets daig_session line_replies line_answers session_lines"
+    "Cells": "cell_names cell_rows cells_sound daig_demands why_slice imp_flow_rows imp_flow daig_graph cell_graph loop_unroll"
+    " memo_table daig_query why_cells cell_kept_set cell_kept_set cell_removal edit_invalidate edit_keeps edit_keeps",
+    "Sessions": "daig_machine daig_tickets daig_session serve_replies serve_answers serve_session"
     " reply_lines reuse_laws",
-    "Program": "daig_gen generated_sources server_jobs daig_server daig",
-    "Tests": "domain_tests session_tests server_tests examples",
+    "Program": "daig_gen gen_sources serve_output daig_server daig",
+    "Tests": "test_domains test_session test_server examples",
 }
 SENTENCE = re.compile(r"(.+?[.])(?= [A-Z\[`(]|$)")
 

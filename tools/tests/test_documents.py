@@ -51,10 +51,10 @@ def test_words_are_counted():
 def test_each_crate_has_a_layer():
     assert [fault for _, fault in crate_list.faults()] == ["", ""]
     wrong = dict(crate_list.LAYERS)
-    wrong["Base"] = wrong["Base"].replace("plain_values", "imp_edit")
+    wrong["Base"] = wrong["Base"].replace("base_values", "imp_edit")
     wrong["Language"] = wrong["Language"].replace(" imp_edit", "")
     faults = [fault for _, fault in crate_list.faults(wrong)]
-    assert "plain_values" in faults[0] and "imp_edit on" in faults[1], faults
+    assert "base_values" in faults[0] and "imp_edit on" in faults[1], faults
 
 
 def test_the_diagram_says_what_stands_on_what():

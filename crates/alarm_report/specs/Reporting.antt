@@ -1,8 +1,8 @@
 -- What is found of the check of a statement.
 use Rattle.imp_slots.specs.Plain.{Act}
 use Rattle.domain_laws.specs.Operations.{Operations}
-use Rattle.analysis_words.specs.declared.verdict.Verdict.{Verdict}
-use Rattle.analysis_words.specs.declared.verdict.Verdict.TheVariants.{Dead, May}
+use Rattle.imp_words.specs.declared.verdict.Verdict.{Verdict}
+use Rattle.imp_words.specs.declared.verdict.Verdict.TheVariants.{Dead, May}
 use Rattle.alarm_report.specs.declared.Found.{Found}
 use Rattle.alarm_report.specs.declared.Found.TheVariants.{Absent, Over, State}
 

@@ -10,10 +10,10 @@ ghost use Rattle.imp_slots.specs.ActionViews.{act_of};
 ghost use Rattle.domain_laws.specs.Checks.{kind_in};
 ghost use Rattle.alarm_report.specs.Reporting.{verdict_for};
 
+use base_values::Memory;
 use domain_laws::{Check, Domain, Finding, Verdict, check_of};
 use imp_slots::SlotStmt;
 use imp_syntax::StmtId;
-use plain_values::Memory;
 use std::alloc::Global;
 
 /// What is known in front of a statement, under all chains to its procedure.

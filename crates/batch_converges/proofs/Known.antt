@@ -2,7 +2,7 @@
 use Rattle.std.specs.Prelude.{List, [], ◌∷◌, ◌++◌}
 use Rattle.domain_laws.specs.Operations.{Operations}
 use Rattle.batch_meaning.specs.Values.{Value, State, Over, lift, lift2}
-use Rattle.batch_meaning.specs.Batch.{Engine, joined}
+use Rattle.batch_meaning.specs.Batch.{LoopOptions, joined}
 
 abbrev pub Known : {S : Type 0} → Value S → Type 0
 Known (State s) = Unit {0}
@@ -25,6 +25,6 @@ pub known_both : {S : Type 0} (xs ys : List (Value S)) → EachKnown xs → Each
 known_both [] ys k j = j
 known_both (x ∷ xs) ys k j = (k.0, known_both xs ys k.1 j)
 
-pub known_joined : {S : Type 0} (dom : Operations S) (engine : Engine) (v : Value S) (xs : List (Value S)) → Known v → EachKnown xs → Known (joined dom engine v xs)
+pub known_joined : {S : Type 0} (dom : Operations S) (engine : LoopOptions) (v : Value S) (xs : List (Value S)) → Known v → EachKnown xs → Known (joined dom engine v xs)
 known_joined dom engine v [] k j = k
 known_joined dom engine v (x ∷ xs) k j = known_joined dom engine (lift2 dom.join v x) xs (known_lift2 dom.join v x k j.0) j.1

@@ -3,11 +3,11 @@ use Rattle.std.specs.Prelude.{◌≡◌, ◌≤◌, ◌+◌, ◌*◌, ℤ, List,
 use Rattle.std.proofs.Common.{arith}
 use Rattle.std.proofs.Math.Nat.{mul-le-mul_left, mul-le-mul_right}
 use Rattle.imp_slots.specs.Plain.{Layout}
-use Rattle.interval_meaning.specs.State.{Intervals, Empty, Within}
-use Rattle.interval_meaning.specs.Covers.{fits}
-use Rattle.interval_meaning.specs.Domain.{intervals}
-use Rattle.interval_meaning.specs.Convergence.{most_changes, changes_left}
-use Rattle.interval_meaning.proofs.ConvergenceLaws.{widening_does_end}
+use Rattle.dom_interval_meaning.specs.State.{Intervals, Empty, Within}
+use Rattle.dom_interval_meaning.specs.Covers.{fits}
+use Rattle.dom_interval_meaning.specs.Domain.{intervals}
+use Rattle.dom_interval_meaning.specs.Convergence.{most_changes, changes_left}
+use Rattle.dom_interval_meaning.proofs.ConvergenceLaws.{widening_does_end}
 use Rattle.batch_converges.specs.Converges.{Ending, Grows, until_widening}
 
 seldom : (ms : List ℤ) (l : Layout) (ls : List Layout) (s : Intervals) → fits s (l ∷ ls) ≡ true → changes_left ms l s ≤ most_changes (length l.numbers) (length ms) + 1

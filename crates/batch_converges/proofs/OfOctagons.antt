@@ -2,9 +2,9 @@
 use Rattle.std.specs.Prelude.{◌≤◌, ◌+◌, ◌*◌}
 use Rattle.std.proofs.Common.{arith}
 use Rattle.std.proofs.Math.Nat.{mul-le-mul_left, mul-le-mul_right}
-use Rattle.octagon_meaning.specs.Domain.{octagons}
-use Rattle.octagon_meaning.specs.Convergence.{most_changes, changes_left}
-use Rattle.octagon_meaning.proofs.Convergence.{widening_ends}
+use Rattle.dom_octagon_meaning.specs.Domain.{octagons}
+use Rattle.dom_octagon_meaning.specs.Convergence.{most_changes, changes_left}
+use Rattle.dom_octagon_meaning.proofs.Convergence.{widening_ends}
 use Rattle.batch_converges.specs.Converges.{Ending, Grows, until_widening}
 
 pub octagon_ending : Ending octagons until_widening most_changes

@@ -1,10 +1,10 @@
 -- How often list segments can change.
 use Rattle.std.specs.Prelude.{◌≤◌, ◌∷◌}
 use Rattle.std.proofs.Common.{arith}
-use Rattle.listseg_meaning.specs.State.{Segments, Top, Graphs}
-use Rattle.listseg_meaning.specs.Domain.{segments}
-use Rattle.listseg_meaning.specs.Convergence.{changes_left}
-use Rattle.listseg_meaning.proofs.ConvergenceLaws.{joins-end, widenings-end}
+use Rattle.dom_listseg_meaning.specs.State.{Segments, Top, Graphs}
+use Rattle.dom_listseg_meaning.specs.Domain.{segments}
+use Rattle.dom_listseg_meaning.specs.Convergence.{changes_left}
+use Rattle.dom_listseg_meaning.proofs.ConvergenceLaws.{joins-end, widenings-end}
 use Rattle.batch_converges.specs.Converges.{Ending, Grows, from_the_first, most_graphs}
 
 seldom : (s : Segments) → changes_left s ≤ 65

@@ -4,17 +4,17 @@ use Rattle.std.proofs.Common.{refl, sym, ◌∙◌, arith, inl, inr}
 use Rattle.std.proofs.lemmas.Bool.Decides.{nat_tests}
 use Rattle.imp_slots.specs.Plain.{Layout}
 use Rattle.concrete_sem.specs.Values.{Variables, Heap}
-use Rattle.program_chains.specs.Marks.{IsRising}
+use Rattle.imp_chains.specs.Thresholds.{IsRising}
 use Rattle.domain_laws.specs.Operations.{Operations}
 use Rattle.domain_laws.specs.Laws.{Laws}
 use Rattle.batch_meaning.specs.Values.{Value, State, Over, lift}
-use Rattle.batch_meaning.specs.Batch.{Engine, Fixed, next_of, settle, iterate, fix}
+use Rattle.batch_meaning.specs.Batch.{LoopOptions, Fixed, next_of, settle, iterate, fix}
 use Rattle.batch_sound.proofs.Values.{Fit}
 use Rattle.batch_converges.specs.Converges.{Ending}
 use Rattle.batch_converges.proofs.Known.{Known}
 
-module _ {S : Type 0} (dom : Operations S) (engine : Engine) (covers : S → Heap → List Variables → Type 0) (laws : Laws dom covers) (wait : ℕ → ℕ) (most : ℕ → ℕ → ℕ) (ending : Ending dom wait most) where
-  -- The budget is enough for a procedure of this layout, with these marks.
+module _ {S : Type 0} (dom : Operations S) (engine : LoopOptions) (covers : S → Heap → List Variables → Type 0) (laws : Laws dom covers) (wait : ℕ → ℕ) (most : ℕ → ℕ → ℕ) (ending : Ending dom wait most) where
+  -- The budget is enough for a procedure of this layout, with these thresholds.
   abbrev pub IsRoomy : Layout → List ℤ → Type 0
   IsRoomy l ms = most (length l.numbers) (length ms) + wait engine.widening.delay + 2 ≤ engine.budget
 

@@ -8,29 +8,29 @@ use Rattle.imp_syntax.specs.declared.edit.Location.TheVariants.{Before, After, H
 use Rattle.imp_slots.specs.Plain.{Layout, Invoke, Routine}
 use Rattle.imp_slots.specs.Fits.{IsChecked}
 use Rattle.concrete_sem.specs.Values.{Variables, Heap}
-use Rattle.program_chains.specs.Chains.{selected}
-use Rattle.program_chains.specs.Marks.{marks}
-use Rattle.program_chains.specs.Claims.{MarksRise}
+use Rattle.imp_chains.specs.Chains.{selected}
+use Rattle.imp_chains.specs.Thresholds.{thresholds}
+use Rattle.imp_chains.specs.Claims.{ThresholdsRise}
 use Rattle.domain_laws.specs.Operations.{Operations}
 use Rattle.domain_laws.specs.Laws.{Laws}
 use Rattle.batch_meaning.specs.Values.{Value, State, lift}
-use Rattle.batch_meaning.specs.Batch.{Engine, calls_of}
+use Rattle.batch_meaning.specs.Batch.{LoopOptions, calls_of}
 use Rattle.batch_meaning.specs.Places.{Spot, spots, find, from, main_layout, if_some, head_value, value_in, entered, entry, value_at}
-use Rattle.analysis_words.specs.declared.refusal.Refusal.TheVariants.{LongString}
+use Rattle.imp_words.specs.declared.refusal.QueryRefusal.TheVariants.{LongString}
 use Rattle.batch_meaning.specs.Answers.{Answer, Refuses, Answers, Found, In, Misses, procedure_of, all_values, summed, sum_of, answer_in, answer}
 use Rattle.batch_sound.proofs.Values.{Fit}
-use Rattle.plain_values.proofs.Cases.{by_test}
+use Rattle.base_values.proofs.Cases.{by_test}
 use Rattle.batch_meaning.proofs.Procedures.{look_get, FitBack, fit_back, fit_back_from}
 use Rattle.batch_meaning.proofs.Places.{found_member}
 use Rattle.batch_sound.proofs.Fitting.{SpotFit, spots_fit, procedure_fit, entered_fit}
 use Rattle.batch_sound.proofs.Answered.{then_inv}
-use Rattle.batch_converges.specs.Converges.{Ending, Grows, most_slots, most_marks, IsEnough, Converge}
+use Rattle.batch_converges.specs.Converges.{Ending, Grows, most_slots, most_thresholds, IsEnough, Converge}
 use Rattle.batch_converges.proofs.Known.{Known, EachKnown, known_lift, known_joined}
 use Rattle.batch_converges.proofs.Blocks.{SpotKnown, EachRoomy, block_known, spots_known, procedure_known}
 use Rattle.std.proofs.lemmas.Option.{same_Some}
 use Rattle.std.proofs.Math.Nat.{le-max_left, le-max_right}
 
-module _ {S : Type 0} (dom : Operations S) (engine : Engine) (covers : S → Heap → List Variables → Type 0) (laws : Laws dom covers) (wait : ℕ → ℕ) (most : ℕ → ℕ → ℕ) (ending : Ending dom wait most) (rises : MarksRise) where
+module _ {S : Type 0} (dom : Operations S) (engine : LoopOptions) (covers : S → Heap → List Variables → Type 0) (laws : Laws dom covers) (wait : ℕ → ℕ) (most : ℕ → ℕ → ℕ) (ending : Ending dom wait most) (rises : ThresholdsRise) where
   abbrev Fine : Value S → List Layout → Type 0
   Fine = Fit dom engine covers laws
 
@@ -50,7 +50,7 @@ module _ {S : Type 0} (dom : Operations S) (engine : Engine) (covers : S → Hea
   roomy_from (b ∷ ps) q h = by_test q (length ps) (λ c. Roomy (if c then b ∷ ps else from ps q)) (λ e. h) (λ e. roomy_from ps q h.1)
 
   abbrev spots_here : (z : List ℕ) (r : Routine) (earlier : List Routine) (v : Value S) → List (ℕ × Spot S)
-  spots_here z r earlier v = spots dom engine (marks engine.widening r) z (calls_of dom engine earlier z) r.code v
+  spots_here z r earlier v = spots dom engine (thresholds engine.widening r) z (calls_of dom engine earlier z) r.code v
 
   module _ (z : List ℕ) (r : Routine) (earlier : List Routine) (v : Value S) (x : Entry (r ∷ earlier) v) where
     keep_call : (n q : ℕ) (c : Routine) (v : Value S) → slice_get (reverse earlier) q ≡ Some c → Fine v (c.layout ∷ r.layout ∷ x.below) → Fine (calls_of dom engine earlier z n q v) (c.layout ∷ r.layout ∷ x.below)
@@ -60,13 +60,13 @@ module _ {S : Type 0} (dom : Operations S) (engine : Engine) (covers : S → Hea
     know_call n q c v g f k = procedure_known dom engine covers laws wait most ending rises earlier (n ∷ z) q c (r.layout ∷ x.below) v (look_get earlier q ∙ g) x.back.1 x.roomy.1 f k
 
     abbrev SpotFine : ℕ × Spot S → Type 0
-    SpotFine = SpotFit dom engine covers laws (marks engine.widening r) (rises engine.widening (reverse earlier) r x.back.0) z (calls_of dom engine earlier z) (reverse earlier) r.layout x.below keep_call
+    SpotFine = SpotFit dom engine covers laws (thresholds engine.widening r) (rises engine.widening (reverse earlier) r x.back.0) z (calls_of dom engine earlier z) (reverse earlier) r.layout x.below keep_call
 
     spot_fine : (n : ℕ) (s : Spot S) → find n (spots_here z r earlier v) ≡ Some s → SpotFine (n, s)
-    spot_fine n s e = (spots_fit dom engine covers laws (marks engine.widening r) (rises engine.widening (reverse earlier) r x.back.0) z (calls_of dom engine earlier z) (reverse earlier) r.layout x.below keep_call r.code v x.back.0 (x.fine r earlier refl)).at (n, s) (found_member n s _ e)
+    spot_fine n s e = (spots_fit dom engine covers laws (thresholds engine.widening r) (rises engine.widening (reverse earlier) r x.back.0) z (calls_of dom engine earlier z) (reverse earlier) r.layout x.below keep_call r.code v x.back.0 (x.fine r earlier refl)).at (n, s) (found_member n s _ e)
 
     spot_known : (n : ℕ) (s : Spot S) → find n (spots_here z r earlier v) ≡ Some s → SpotKnown dom engine covers laws wait most ending (n, s)
-    spot_known n s e = (spots_known dom engine covers laws wait most ending (marks engine.widening r) (rises engine.widening (reverse earlier) r x.back.0) z (calls_of dom engine earlier z) (reverse earlier) r.layout x.below x.roomy.0 keep_call know_call r.code v x.back.0 (x.fine r earlier refl) x.known).at (n, s) (found_member n s _ e)
+    spot_known n s e = (spots_known dom engine covers laws wait most ending (thresholds engine.widening r) (rises engine.widening (reverse earlier) r x.back.0) z (calls_of dom engine earlier z) (reverse earlier) r.layout x.below x.roomy.0 keep_call know_call r.code v x.back.0 (x.fine r earlier refl) x.known).at (n, s) (found_member n s _ e)
 
     entered_here : (n : ℕ) (s : Spot S) (k : Invoke × ℕ) → s.call ≡ Some k → SpotFine (n, s) → SpotKnown dom engine covers laws wait most ending (n, s) → Entry (from earlier k.1) (lift (dom.enter k.0.entering) s.before)
     entered_here n s k e f j = record {
@@ -90,7 +90,7 @@ module _ {S : Type 0} (dom : Operations S) (engine : Engine) (covers : S → Hea
     value_known (Head n) u g = spot_value n head_value u (λ s e f. f.head_known u e) g
     value_known (End y) u g =
         end_value (bytes_eq y r.name) u _
-        (block_known dom engine covers laws wait most ending (marks engine.widening r) (rises engine.widening (reverse earlier) r x.back.0) z (calls_of dom engine earlier z) (reverse earlier) r.layout x.below x.roomy.0 keep_call know_call r.code v x.back.0 (x.fine r earlier refl) x.known).value g
+        (block_known dom engine covers laws wait most ending (thresholds engine.widening r) (rises engine.widening (reverse earlier) r x.back.0) z (calls_of dom engine earlier z) (reverse earlier) r.layout x.below x.roomy.0 keep_call know_call r.code v x.back.0 (x.fine r earlier refl) x.known).value g
 
   entered_entry : (n : ℕ) (z : List ℕ) (list : List Routine) (v : Value S) → Entry list v → (t : List Routine × Value S) → entered dom engine n z (list, v) ≡ Some t → Entry t.0 t.1
   entered_entry n z [] v x t g = absurd cc
@@ -127,16 +127,16 @@ module _ {S : Type 0} (dom : Operations S) (engine : Engine) (covers : S → Hea
   summed_known (v ∷ vs) k = known_joined dom engine (lift dom.shed v) (map (lift dom.shed) vs) (known_lift dom.shed v k.0) (shed_known vs k.1)
 
   module _ (grows : Grows most) (program : List Routine) (checked : IsChecked program) (enough : IsEnough wait most engine program) where
-    each_forth : (rs : List Routine) → most_slots rs ≤ most_slots program → most_marks engine.widening rs ≤ most_marks engine.widening program → Roomy rs
+    each_forth : (rs : List Routine) → most_slots rs ≤ most_slots program → most_thresholds engine.widening rs ≤ most_thresholds engine.widening program → Roomy rs
     each_forth [] s m = tt
     each_forth (r ∷ rs) s m =
         let a = le-max_left (length r.layout.numbers) (most_slots rs) in
         let b = le-max_right (length r.layout.numbers) (most_slots rs) in
-        let c = le-max_left (length (marks engine.widening r)) (most_marks engine.widening rs) in
-        let d = le-max_right (length (marks engine.widening r)) (most_marks engine.widening rs) in
+        let c = le-max_left (length (thresholds engine.widening r)) (most_thresholds engine.widening rs) in
+        let d = le-max_right (length (thresholds engine.widening r)) (most_thresholds engine.widening rs) in
         let v : length r.layout.numbers ≤ most_slots program = omega arith in
-        let w : length (marks engine.widening r) ≤ most_marks engine.widening program = omega arith in
-        let g = grows (length r.layout.numbers) (most_slots program) (length (marks engine.widening r)) (most_marks engine.widening program) v w in
+        let w : length (thresholds engine.widening r) ≤ most_thresholds engine.widening program = omega arith in
+        let g = grows (length r.layout.numbers) (most_slots program) (length (thresholds engine.widening r)) (most_thresholds engine.widening program) v w in
         (omega arith, each_forth rs (omega arith) (omega arith))
 
     -- the procedures in turn, and back
@@ -178,5 +178,5 @@ module _ {S : Type 0} (dom : Operations S) (engine : Engine) (covers : S → Hea
         by true = tt
         by false = in_known l string (procedure_of program l)
 
-pub converges : {S : Type 0} (dom : Operations S) (covers : S → Heap → List Variables → Type 0) (laws : Laws dom covers) (rises : MarksRise) (wait : ℕ → ℕ) (most : ℕ → ℕ → ℕ) → Ending dom wait most → Grows most → Converge dom wait most
+pub converges : {S : Type 0} (dom : Operations S) (covers : S → Heap → List Variables → Type 0) (laws : Laws dom covers) (rises : ThresholdsRise) (wait : ℕ → ℕ) (most : ℕ → ℕ → ℕ) → Ending dom wait most → Grows most → Converge dom wait most
 converges dom covers laws rises wait most ending grows engine program l string n z checked enough e = subst (NotOver dom engine covers laws wait most ending rises) e (not_over dom engine covers laws wait most ending rises grows program checked enough l string)

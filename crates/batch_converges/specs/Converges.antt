@@ -3,23 +3,23 @@ use Rattle.std.specs.Prelude.{◌≡◌, ◌≤◌, ◌<◌, ◌⊎◌, ℕ, ◌
 use Rattle.imp_syntax.specs.declared.edit.Location.{Location}
 use Rattle.imp_slots.specs.Plain.{Layout, Routine}
 use Rattle.imp_slots.specs.Fits.{IsChecked}
-use Rattle.program_chains.specs.declared.widening.Widening.{Widening}
-use Rattle.program_chains.specs.Marks.{marks}
+use Rattle.imp_chains.specs.declared.widening.Widening.{Widening}
+use Rattle.imp_chains.specs.Thresholds.{thresholds}
 use Rattle.domain_laws.specs.Operations.{Operations}
 use Rattle.batch_meaning.specs.Values.{Over}
-use Rattle.batch_meaning.specs.Batch.{Engine}
+use Rattle.batch_meaning.specs.Batch.{LoopOptions}
 use Rattle.batch_meaning.specs.Answers.{Answers, answer}
-use Rattle.interval_meaning.specs.Domain.{intervals}
-use Rattle.interval_meaning.specs.Convergence.{most_changes}
-use Rattle.octagon_meaning.specs.Domain.{octagons}
-use Rattle.octagon_meaning.specs.Convergence.{most_changes as most_rises}
-use Rattle.listseg_meaning.specs.Sets as sets
-use Rattle.listseg_meaning.specs.Domain.{segments}
+use Rattle.dom_interval_meaning.specs.Domain.{intervals}
+use Rattle.dom_interval_meaning.specs.Convergence.{most_changes}
+use Rattle.dom_octagon_meaning.specs.Domain.{octagons}
+use Rattle.dom_octagon_meaning.specs.Convergence.{most_changes as most_rises}
+use Rattle.dom_listseg_meaning.specs.Sets as sets
+use Rattle.dom_listseg_meaning.specs.Domain.{segments}
 
 -- How often a state of a frame can still change in the rounds of a loop, from the round `wait delay` on: each widening with
--- these marks keeps the state or leaves fewer changes, and so does each join, where there are joins from that round on.
--- There are at most so many changes, by the numeric slots and the marks, and one more.
-pub record Ending {S : Type 0} (dom : Operations S) (wait : (delay : ℕ) → ℕ) (most : (slots marks : ℕ) → ℕ) : Type 0 where
+-- these thresholds keeps the state or leaves fewer changes, and so does each join, where there are joins from that round on.
+-- There are at most so many changes, by the numeric slots and the thresholds, and one more.
+pub record Ending {S : Type 0} (dom : Operations S) (wait : (delay : ℕ) → ℕ) (most : (slots thresholds : ℕ) → ℕ) : Type 0 where
   pub left : List ℤ → Layout → S → ℕ
   pub falls : (ms : List ℤ) (l : Layout) (ls : List Layout) (s t : S) → dom.fits s (l ∷ ls) ≡ true → dom.fits t (l ∷ ls) ≡ true → (dom.widen ms s t ≡ s) ⊎ (left ms l (dom.widen ms s t) < left ms l s)
   pub joins_fall : (delay : ℕ) (ms : List ℤ) (l : Layout) (ls : List Layout) (s t : S) → wait delay < delay → dom.fits s (l ∷ ls) ≡ true → dom.fits t (l ∷ ls) ≡ true → (dom.join s t ≡ s) ⊎ (left ms l (dom.join s t) < left ms l s)
@@ -33,26 +33,26 @@ until_widening delay = delay
 abbrev pub from_the_first : (delay : ℕ) → ℕ
 from_the_first delay = 0
 
--- more slots or marks allow no fewer changes
+-- more slots or thresholds allow no fewer changes
 abbrev pub Grows : (ℕ → ℕ → ℕ) → Type 0
 Grows most = (v w m n : ℕ) → v ≤ w → m ≤ n → most v m ≤ most w n
 
--- the greatest number of numeric slots of a procedure, and of marks
+-- the greatest number of numeric slots of a procedure, and of thresholds
 abbrev pub most_slots : List Routine → ℕ
 most_slots [] = 0
 most_slots (r ∷ rs) = max (length r.layout.numbers) (most_slots rs)
 
-abbrev pub most_marks : Widening → List Routine → ℕ
-most_marks w [] = 0
-most_marks w (r ∷ rs) = max (length (marks w r)) (most_marks w rs)
+abbrev pub most_thresholds : Widening → List Routine → ℕ
+most_thresholds w [] = 0
+most_thresholds w (r ∷ rs) = max (length (thresholds w r)) (most_thresholds w rs)
 
 -- the changes, the rounds before they are counted, the first iterate and the one that shows that it is over
-abbrev pub IsEnough : (ℕ → ℕ) → (ℕ → ℕ → ℕ) → Engine → List Routine → Type 0
-IsEnough wait most engine program = most (most_slots program) (most_marks engine.widening program) + wait engine.widening.delay + 2 ≤ engine.budget
+abbrev pub IsEnough : (ℕ → ℕ) → (ℕ → ℕ → ℕ) → LoopOptions → List Routine → Type 0
+IsEnough wait most engine program = most (most_slots program) (most_thresholds engine.widening program) + wait engine.widening.delay + 2 ≤ engine.budget
 
 abbrev pub Converge : {S : Type 0} → Operations S → (ℕ → ℕ) → (ℕ → ℕ → ℕ) → Type 0
 Converge {S} dom wait most =
-    (engine : Engine) (program : List Routine) (l : Location) (string : List ℕ) (n : ℕ) (z : List ℕ) → IsChecked program → IsEnough wait most engine program →
+    (engine : LoopOptions) (program : List Routine) (l : Location) (string : List ℕ) (n : ℕ) (z : List ℕ) → IsChecked program → IsEnough wait most engine program →
     answer dom engine program l string ≡ Answers (Over n z) → ⊥
 
 abbrev pub IntervalsConverge : Type 0
@@ -62,8 +62,8 @@ abbrev pub OctagonsConverge : Type 0
 OctagonsConverge = Converge octagons until_widening most_rises
 
 -- a set of graphs can grow so often, and become Top once more
-abbrev pub most_graphs : (slots marks : ℕ) → ℕ
-most_graphs slots marks = sets.most
+abbrev pub most_graphs : (slots thresholds : ℕ) → ℕ
+most_graphs slots thresholds = sets.most
 
 abbrev pub SegmentsConverge : Type 0
 SegmentsConverge = Converge segments from_the_first most_graphs

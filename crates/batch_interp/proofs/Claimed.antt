@@ -6,19 +6,19 @@ use Rattle.imp_slots.specs.ActionViews.{effect_of}
 use Rattle.imp_slots.specs.BlockViews.{before_code, code_of}
 use Rattle.imp_slots.specs.declared.blocks.SlotNode.{SlotNode}
 use Rattle.imp_slots.specs.declared.blocks.SlotNode.TheVariants as node
-use Rattle.analysis_words.specs.declared.findings.Check as asked
+use Rattle.imp_words.specs.declared.findings.Check as asked
 use Rattle.domain_laws.specs.Checks.{Check, check_of, kind_if}
 use Rattle.domain_laws.specs.Operations.{Operations}
 use Rattle.batch_meaning.specs.Values.{Value, lift}
 use Rattle.batch_meaning.specs.Batch.{head_of}
-use Rattle.batch_meaning.specs.Report.{Checked, checked_one, checked_in}
+use Rattle.batch_meaning.specs.Report.{CheckedStatement, checked_one, checked_in}
 use Rattle.batch_interp.specs.Answered.{value_of}
-use Rattle.batch_interp.specs.Frames.{Plan, marks_at, passed}
+use Rattle.batch_interp.specs.Frames.{Plan, thresholds_at, passed}
 use Rattle.batch_interp.specs.Checking.{is_checked}
 use Rattle.batch_interp.specs.Reporting.{claim_of, claims, before_one, befores, in_front}
 use Rattle.batch_interp.specs.declared.value.Answer.{Answer}
 use Rattle.batch_interp.specs.declared.claim.Claim.{Claim}
-use Rattle.plain_values.proofs.Lists.{drop_item}
+use Rattle.base_values.proofs.Lists.{drop_item}
 
 -- a statement has a check where its check asks something
 pub asks : (o : Option Check) (r : Option asked.Check) (k : asked.Check) → r ≡ kind_if o → r ≡ Some k → true ≡ is_checked o
@@ -49,7 +49,7 @@ checked_before (node.Call n i q) r = refl
 checked_before (node.Break n) r = refl
 
 claims_before : (s : SlotNode) (r : Code) → claims (checked_in (before_code s r)) ≡ claims (checked_in (before_code s Stop)) ++ claims (checked_in r)
-claims_before s r = ap claims (checked_before s r) ∙ map-append (λ (c : Checked). (c.number, c.effect)) (checked_in (before_code s Stop)) (checked_in r)
+claims_before s r = ap claims (checked_before s r) ∙ map-append (λ (c : CheckedStatement). (c.number, c.effect)) (checked_in (before_code s Stop)) (checked_in r)
 
 pub claims_step : (ss : List SlotNode) (i : ℕ) (s : SlotNode) → i < length ss → s ≡ get_or ss i s → claims (checked_in (code_of (drop i ss))) ≡ claims (checked_in (before_code s Stop)) ++ claims (checked_in (code_of (drop (i + 1) ss)))
 claims_step ss i s h e = ap (λ xs. claims (checked_in (code_of xs))) (drop_item ss i s h e) ∙ claims_before s (code_of (drop (i + 1) ss))
@@ -57,11 +57,11 @@ claims_step ss i s h e = ap (λ xs. claims (checked_in (code_of xs))) (drop_item
 pub claims_end : (ss : List SlotNode) (i : ℕ) → length ss ≤ i → claims (checked_in (code_of (drop i ss))) ≡ []
 claims_end ss i h = ap (λ xs. claims (checked_in (code_of xs))) (drop_all i ss h)
 
-pub claims_one : (xs : List Checked) → claims (xs ++ []) ≡ claims xs
+pub claims_one : (xs : List CheckedStatement) → claims (xs ++ []) ≡ claims xs
 claims_one xs = ap claims (append-nil xs)
 
-pub claims_two : (xs ys : List Checked) → claims (xs ++ (ys ++ [])) ≡ claims xs ++ claims ys
-claims_two xs ys = ap (λ zs. claims (xs ++ zs)) (append-nil ys) ∙ map-append (λ (c : Checked). (c.number, c.effect)) xs ys
+pub claims_two : (xs ys : List CheckedStatement) → claims (xs ++ (ys ++ [])) ≡ claims xs ++ claims ys
+claims_two xs ys = ap (λ zs. claims (xs ++ zs)) (append-nil ys) ∙ map-append (λ (c : CheckedStatement). (c.number, c.effect)) xs ys
 
 pub one_before : {S : Type 0} (o : Option Check) (v : Value S) → is_checked o ≡ true → before_one o v ≡ v ∷ []
 one_before None v h = absurd cc
@@ -90,5 +90,5 @@ module _ {S : Type 0} (dom : Operations S) (plan : Plan) (place : ℕ) (z : List
   pub befores_end : (ss : List SlotNode) (i : ℕ) (v : Value S) → length ss ≤ i → befores dom plan place z (code_of (drop i ss)) v ≡ []
   befores_end ss i v h = ap (λ xs. befores dom plan place z (code_of xs) v) (drop_all i ss h)
 
-  pub while_front : (n : ℕ) (c : Guard) (b : Code) (v h w : Value S) → h ≡ (head_of dom plan.engine (marks_at plan place) z n c (passed dom plan place z b) v).value → w ≡ lift (dom.assume c true) h → befores dom plan place z b w ≡ in_front dom plan place z (node.While n c b) v
+  pub while_front : (n : ℕ) (c : Guard) (b : Code) (v h w : Value S) → h ≡ (head_of dom plan.engine (thresholds_at plan place) z n c (passed dom plan place z b) v).value → w ≡ lift (dom.assume c true) h → befores dom plan place z b w ≡ in_front dom plan place z (node.While n c b) v
   while_front n c b v h w j k = ap (befores dom plan place z b) (k ∙ ap (lift (dom.assume c true)) j)

@@ -5,31 +5,31 @@ use Rattle.std.proofs.lemmas.List.{map-append, reverse-reverse, drop_all}
 use Rattle.imp_syntax.specs.declared.edit.Location.TheVariants.{Before}
 use Rattle.imp_slots.specs.Plain.{Guard, Effect, Does, DoBreak, Invoke, Code, Stop, Simple, If, While, Call, Break, Routine, code_numbers}
 use Rattle.imp_slots.specs.Fits.{Distinct, IsChecked}
-use Rattle.program_chains.specs.Chains.{chains, holder}
-use Rattle.program_chains.specs.Claims.{PlacesAreFound}
+use Rattle.imp_chains.specs.Chains.{chains, holder}
+use Rattle.imp_chains.specs.Claims.{PlacesAreFound}
 use Rattle.domain_laws.specs.Operations.{Operations}
 use Rattle.domain_laws.specs.Checks.{Check, check_of, kind_of}
-use Rattle.analysis_words.specs.declared.findings.Finding.{Finding}
-use Rattle.analysis_words.specs.declared.refusal.Refusal.TheVariants.{NoStatement}
+use Rattle.imp_words.specs.declared.findings.Finding.{Finding}
+use Rattle.imp_words.specs.declared.refusal.QueryRefusal.TheVariants.{NoStatement}
 use Rattle.batch_meaning.specs.Values.{Value, lift, lift2}
-use Rattle.batch_meaning.specs.Batch.{Engine, head_of, behind}
+use Rattle.batch_meaning.specs.Batch.{LoopOptions, head_of, behind}
 use Rattle.batch_meaning.specs.Places.{Spot, spot, if_some, entry, value_in, value_at}
 use Rattle.batch_meaning.specs.Answers.{found_or, all_values, sum_of, answer_in, answer}
-use Rattle.batch_meaning.specs.Report.{Checked, checked_one, checked_in, checked_statements, verdict_on, finding}
+use Rattle.batch_meaning.specs.Report.{CheckedStatement, checked_one, checked_in, checked_statements, verdict_on, finding}
 use Rattle.batch_interp.specs.Answered.{value_of}
-use Rattle.batch_interp.specs.Frames.{Plan, earlier, marks_at, calls_in, passed, body_of, body_at}
+use Rattle.batch_interp.specs.Frames.{Plan, earlier, thresholds_at, calls_in, passed, body_of, body_at}
 use Rattle.batch_interp.specs.Seeking.{places}
 use Rattle.batch_interp.specs.Handing.{in_one, IsEnteredBy}
 use Rattle.batch_interp.specs.Pairs.{All2}
-use Rattle.batch_interp.specs.Summing.{added}
+use Rattle.batch_interp.specs.Summing.{sum_with}
 use Rattle.batch_interp.specs.Reporting.{claim_of, claims, before_one, befores}
-use Rattle.batch_interp.specs.Totalling.{first_of, behind_first, all_added, answered, EachWith, AreTotals, kind_for, found_from, all_found}
+use Rattle.batch_interp.specs.Totalling.{first_of, behind_first, all_added, answer_of_sum, EachWith, AreTotals, kind_for, found_from, all_found}
 use Rattle.batch_interp.specs.declared.claim.Claim.{Claim}
 use Rattle.batch_interp.specs.declared.value.Answer.{Answer}
-use Rattle.batch_interp.specs.declared.frames.Frame.{Frame}
+use Rattle.batch_interp.specs.declared.frames.CallFrame.{CallFrame}
 use Rattle.batch_interp.specs.declared.walks.Entered.{Entered}
-use Rattle.plain_values.proofs.Lists.{drop_item, drop_next}
-use Rattle.plain_values.proofs.Members.{Member, here, there, in_left, in_right}
+use Rattle.base_values.proofs.Lists.{drop_item, drop_next}
+use Rattle.base_values.proofs.Members.{Member, here, there, in_left, in_right}
 use Rattle.batch_meaning.proofs.Places.{found}
 use Rattle.batch_sound.proofs.Chains.{has_member, once_in, every_ends}
 use Rattle.batch_interp.proofs.Members.{all2_both, all2_as, all2_length, AllOf, all_both, all_as, At}
@@ -39,7 +39,7 @@ use Rattle.batch_interp.proofs.Seekings.{numbers_of_places}
 use Rattle.batch_interp.proofs.Walkings.{before_there}
 use Rattle.batch_interp.proofs.Gathering.{gathered, gathered_none, one_added_chain}
 
-claims_both : (xs ys : List Checked) → claims (xs ++ ys) ≡ claims xs ++ claims ys
+claims_both : (xs ys : List CheckedStatement) → claims (xs ++ ys) ≡ claims xs ++ claims ys
 claims_both [] ys = refl
 claims_both (x ∷ xs) ys = ap (λ zs. (x.number, x.effect) ∷ zs) (claims_both xs ys)
 
@@ -57,13 +57,13 @@ module _ {S : Type 0} (dom : Operations S) (plan : Plan) where
       stands : Member (k.0, spot) (places dom plan place z c v)
       is : spot.before ≡ b
 
-    abbrev All_stand : (c : Code) (v : Value S) → List Checked → List (Value S) → Type 0
+    abbrev All_stand : (c : Code) (v : Value S) → List CheckedStatement → List (Value S) → Type 0
     All_stand c v cs bs = All2 (Stands c v) (claims cs) bs
 
-    more : (c d : Code) (v w : Value S) (cs : List Checked) (bs : List (Value S)) → ((x : ℕ × Spot S) → Member x (P c v) → Member x (P d w)) → All_stand c v cs bs → All_stand d w cs bs
+    more : (c d : Code) (v w : Value S) (cs : List CheckedStatement) (bs : List (Value S)) → ((x : ℕ × Spot S) → Member x (P c v) → Member x (P d w)) → All_stand c v cs bs → All_stand d w cs bs
     more c d v w cs bs f h = all2_as (Stands c v) (Stands d w) (claims cs) bs (λ k b s. record { spot = s.spot; stands = f (k.0, s.spot) s.stands; is = s.is }) h
 
-    join : (c : Code) (v : Value S) (cs ds : List Checked) (xs ys : List (Value S)) → All_stand c v cs xs → All_stand c v ds ys → All_stand c v (cs ++ ds) (xs ++ ys)
+    join : (c : Code) (v : Value S) (cs ds : List CheckedStatement) (xs ys : List (Value S)) → All_stand c v cs xs → All_stand c v ds ys → All_stand c v (cs ++ ds) (xs ++ ys)
     join c v cs ds xs ys f g = subst (λ ks. All2 (Stands c v) ks (xs ++ ys)) (sym (claims_both cs ds)) (all2_both (Stands c v) (claims cs) (claims ds) xs ys f g)
 
     one : (n : ℕ) (e : Effect) (r : Code) (v : Value S) (o : Option Check) → All_stand (Simple n e r) v (checked_one n e o) (before_one o v)
@@ -80,7 +80,7 @@ module _ {S : Type 0} (dom : Operations S) (plan : Plan) where
     both g t e v = lift2 dom.join (passed dom plan place z t (holds g v)).value (passed dom plan place z e (fails g v)).value
 
     abbrev head : ℕ → Guard → Code → Value S → Value S
-    head n g b v = (head_of dom plan.engine (marks_at plan place) z n g (passed dom plan place z b) v).value
+    head n g b v = (head_of dom plan.engine (thresholds_at plan place) z n g (passed dom plan place z b) v).value
 
     abbrev out : ℕ → Guard → Code → Value S → Value S
     out n g b v = behind dom plan.engine g (passed dom plan place z b) (head n g b v)
@@ -142,7 +142,7 @@ module _ {S : Type 0} (dom : Operations S) (plan : Plan) where
   one_more_chain all rest z (c ∷ cs) vs [] f g = absurd f
   one_more_chain all rest z (c ∷ cs) vs (b ∷ bs) f g = (one_added_chain dom plan.engine (at_claim c) rest z (first_of vs) b f.0 ∙ g.0, one_more_chain all rest z cs (behind_first vs) bs f.1 g.1)
 
-  gathered_end : (o : Option (Value S)) → gathered dom plan.engine o (Some []) ≡ answered o
+  gathered_end : (o : Option (Value S)) → gathered dom plan.engine o (Some []) ≡ answer_of_sum o
   gathered_end None = refl
   gathered_end (Some v) = refl
 
@@ -151,11 +151,11 @@ module _ {S : Type 0} (dom : Operations S) (plan : Plan) where
   all_chains zs (c ∷ cs) vs g = (sym g.0 ∙ gathered_end (first_of vs), all_chains zs cs (behind_first vs) g.1)
 
   -- A checked statement of a block is one of its statements, and has that check.
-  record Right (code : Code) (c : Checked) : Type 0 where
+  record Right (code : Code) (c : CheckedStatement) : Type 0 where
     stands : Member c.number (code_numbers code)
     check : check_of c.effect ≡ Some c.check
 
-  right_more : (c d : Code) (cs : List Checked) → ((n : ℕ) → Member n (code_numbers c) → Member n (code_numbers d)) → AllOf (Right c) cs → AllOf (Right d) cs
+  right_more : (c d : Code) (cs : List CheckedStatement) → ((n : ℕ) → Member n (code_numbers c) → Member n (code_numbers d)) → AllOf (Right c) cs → AllOf (Right d) cs
   right_more c d cs f h = all_as (Right c) (Right d) cs (λ x k. record { stands = f x.number k.stands; check = k.check }) h
 
   right_one : (n : ℕ) (e : Effect) (r : Code) (o : Option Check) → check_of e ≡ o → AllOf (Right (Simple n e r)) (checked_one n e o)
@@ -178,18 +178,18 @@ module _ {S : Type 0} (dom : Operations S) (plan : Plan) where
   all_right (Break n r) = right_more r (Break n r) (checked_in r) (λ x. there) (all_right r)
 
   module _ (place : ℕ) (r : Routine) (checked : IsChecked plan.program) (law : PlacesAreFound) (at : slice_get plan.program place ≡ Some r) where
-    one_finding : (c : Checked) (o : Option (Value S)) → Right r.code c → sum_of dom plan.engine (all_values dom plan.engine (value_at dom plan.engine plan.program (Before c.number)) (chains plan.program place)) ≡ answered o → found_from dom plan.engine (c.number, c.effect) o ≡ finding dom plan.engine plan.program c
+    one_finding : (c : CheckedStatement) (o : Option (Value S)) → Right r.code c → sum_of dom plan.engine (all_values dom plan.engine (value_at dom plan.engine plan.program (Before c.number)) (chains plan.program place)) ≡ answer_of_sum o → found_from dom plan.engine (c.number, c.effect) o ≡ finding dom plan.engine plan.program c
     one_finding c o k t =
         let f = value_at dom plan.engine plan.program (Before c.number) in
         let h : holder c.number plan.program ≡ Some place = (law plan.program checked place r at).statement c.number (has_member c.number (code_numbers r.code) k.stands) in
-        let same : answer dom plan.engine plan.program (Before c.number) [] ≡ answered o =
+        let same : answer dom plan.engine plan.program (Before c.number) [] ≡ answer_of_sum o =
         ap (λ p. answer_in dom plan.engine plan.program (Before c.number) [] (found_or NoStatement p)) h
         ∙ ap (λ zs. sum_of dom plan.engine (all_values dom plan.engine f zs)) (every_ends (chains plan.program place)) ∙ t in
         let kind : kind_for (check_of c.effect) ≡ kind_of c.check = ap kind_for k.check in
-        let verdict : verdict_on dom plan.engine c.effect (answered o) ≡ verdict_on dom plan.engine c.effect (answer dom plan.engine plan.program (Before c.number) []) = ap (verdict_on dom plan.engine c.effect) (sym same) in
+        let verdict : verdict_on dom plan.engine c.effect (answer_of_sum o) ≡ verdict_on dom plan.engine c.effect (answer dom plan.engine plan.program (Before c.number) []) = ap (verdict_on dom plan.engine c.effect) (sym same) in
         λ i. record { id = c.number; check = kind i; verdict = verdict i }
 
-    each_finding : (cs : List Checked) (vs : List (Value S)) → AllOf (Right r.code) cs → AreTotals dom plan (chains plan.program place) (claims cs) vs → all_found dom plan.engine (claims cs) vs ≡ map (finding dom plan.engine plan.program) cs
+    each_finding : (cs : List CheckedStatement) (vs : List (Value S)) → AllOf (Right r.code) cs → AreTotals dom plan (chains plan.program place) (claims cs) vs → all_found dom plan.engine (claims cs) vs ≡ map (finding dom plan.engine plan.program) cs
     each_finding [] vs k t = refl
     each_finding (c ∷ cs) vs k t = λ i. one_finding c (first_of vs) k.0 t.0 i ∷ each_finding cs (behind_first vs) k.1 t.1 i
 
@@ -205,9 +205,9 @@ pub rest_popped : {S : Type 0} (o : Option (Answer S)) (xs ys : List (Answer S))
 rest_popped None xs ys h = ap (λ zs. behind_first (map value_of (reverse zs))) h.0 ∙ sym (ap (λ zs. map value_of (reverse zs)) h.1)
 rest_popped (Some x) xs ys h = ap (λ zs. behind_first (map value_of zs)) (reversed xs ys x h)
 
-pub one_added : {S : Type 0} (dom : Operations S) (all all' before before' left left' : List (Answer S)) (next : Answer S) → left ≡ left' ++ next ∷ [] → behind_first (map value_of (reverse before)) ≡ map value_of (reverse before') → map value_of all' ≡ map value_of all ++ added dom (first_of (map value_of (reverse before))) (value_of next) ∷ [] → map value_of all' ++ all_added dom (map value_of (reverse before')) (map value_of (reverse left')) ≡ map value_of all ++ all_added dom (map value_of (reverse before)) (map value_of (reverse left))
+pub one_added : {S : Type 0} (dom : Operations S) (all all' before before' left left' : List (Answer S)) (next : Answer S) → left ≡ left' ++ next ∷ [] → behind_first (map value_of (reverse before)) ≡ map value_of (reverse before') → map value_of all' ≡ map value_of all ++ sum_with dom (first_of (map value_of (reverse before))) (value_of next) ∷ [] → map value_of all' ++ all_added dom (map value_of (reverse before')) (map value_of (reverse left')) ≡ map value_of all ++ all_added dom (map value_of (reverse before)) (map value_of (reverse left))
 one_added dom all all' before before' left left' next l q a =
-    let total = added dom (first_of (map value_of (reverse before))) (value_of next) in
+    let total = sum_with dom (first_of (map value_of (reverse before))) (value_of next) in
     let rest = all_added dom (map value_of (reverse before')) (map value_of (reverse left')) in
     ap (λ zs. zs ++ rest) a ∙ append_assoc (map value_of all) (total ∷ []) rest
     ∙ ap (λ zs. map value_of all ++ zs)
@@ -230,7 +230,7 @@ behind_next : {S : Type 0} (xs : List (Answer S)) (i : ℕ) → behind_first (ma
 behind_next xs i = rw add-one (behind_drop xs i)
 
 -- the finding of one more statement
-pub finding_step : {S : Type 0} (dom : Operations S) (engine : Engine) (found found' : List Finding) (cs : List Claim) (ts : List (Answer S)) (i : ℕ) (c : Claim) (o : Option (Answer S)) (f : Finding) → i < length cs → c ≡ get_or cs i c → o ≡ slice_get ts i → f ≡ found_from dom engine (claim_of c) (option_map value_of o) → found' ≡ found ++ f ∷ [] → found' ++ all_found dom engine (map claim_of (drop (i + 1) cs)) (map value_of (drop (i + 1) ts)) ≡ found ++ all_found dom engine (map claim_of (drop i cs)) (map value_of (drop i ts))
+pub finding_step : {S : Type 0} (dom : Operations S) (engine : LoopOptions) (found found' : List Finding) (cs : List Claim) (ts : List (Answer S)) (i : ℕ) (c : Claim) (o : Option (Answer S)) (f : Finding) → i < length cs → c ≡ get_or cs i c → o ≡ slice_get ts i → f ≡ found_from dom engine (claim_of c) (option_map value_of o) → found' ≡ found ++ f ∷ [] → found' ++ all_found dom engine (map claim_of (drop (i + 1) cs)) (map value_of (drop (i + 1) ts)) ≡ found ++ all_found dom engine (map claim_of (drop i cs)) (map value_of (drop i ts))
 finding_step dom engine found found' cs ts i c o f h e g k a =
     let rest = all_found dom engine (map claim_of (drop (i + 1) cs)) (map value_of (drop (i + 1) ts)) in
     let here : all_found dom engine (map claim_of (drop i cs)) (map value_of (drop i ts)) ≡ f ∷ rest =
@@ -250,8 +250,8 @@ module _ {S : Type 0} (dom : Operations S) (plan : Plan) where
       let here : code ≡ r.0.code = ap body_of r.1 in
       let v = value_of e.before in
       let z = at.item in
-      let p : e.frame.place ≡ place = ap (λ (f : Frame). f.place) at.holds.frame in
-      let q : e.frame.sites ≡ z = ap (λ (f : Frame). f.sites) at.holds.frame in
+      let p : e.frame.place ≡ place = ap (λ (f : CallFrame). f.place) at.holds.frame in
+      let q : e.frame.sites ≡ z = ap (λ (f : CallFrame). f.sites) at.holds.frame in
       let same : befores dom plan place z r.0.code v ≡ map value_of more = sym (m ∙ (λ j. befores dom plan (p j) (q j) ((b ∙ here) j) v)) in
       let front = subst (λ bs. All2 (λ (c : ℕ × Effect) x. Some x ≡ value_at dom plan.engine plan.program (Before c.0) z) (claims (checked_in r.0.code)) bs) same (fronts dom plan place z r.0 v checked r.1 at.holds.value) in
       let front' = subst (λ c. All2 (λ (c : ℕ × Effect) x. Some x ≡ value_at dom plan.engine plan.program (Before c.0) z) (claims (checked_in c)) (map value_of more)) (sym here) front in

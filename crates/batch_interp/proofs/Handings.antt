@@ -4,25 +4,25 @@ use Rattle.std.specs.Prelude.{◌==◌, if◌then◌else◌}
 use Rattle.std.proofs.lemmas.List.{drop_all, take_all, length-take-le}
 use Rattle.imp_slots.specs.Plain.{Guard, Does, DoBreak, Invoke, Code, Stop, Simple, If, While, Call, Break, Routine}
 use Rattle.imp_slots.specs.Fits.{Distinct, IsChecked}
-use Rattle.program_chains.specs.Chains.{calls_to, extended, through, chains_within, chains}
-use Rattle.program_chains.specs.Claims.{ChainsAreThroughCallers}
-use Rattle.program_chains.proofs.Found.{called_earlier}
+use Rattle.imp_chains.specs.Chains.{calls_to, extended, through, chains_within, chains}
+use Rattle.imp_chains.specs.Claims.{ChainsAreThroughCallers}
+use Rattle.imp_chains.proofs.Found.{called_earlier}
 use Rattle.domain_laws.specs.Operations.{Operations}
 use Rattle.batch_meaning.specs.Values.{Value, lift, lift2}
 use Rattle.batch_meaning.specs.Batch.{head_of, behind}
 use Rattle.batch_meaning.specs.Places.{Spot, spot, find, if_some, entered, entry}
-use Rattle.plain_values.proofs.Cases.{by_test}
-use Rattle.plain_values.proofs.Lists.{get_take, drop_next}
-use Rattle.plain_values.proofs.Members.{Member, here, there, in_left, in_right}
+use Rattle.base_values.proofs.Cases.{by_test}
+use Rattle.base_values.proofs.Lists.{get_take, drop_next}
+use Rattle.base_values.proofs.Members.{Member, here, there, in_left, in_right}
 use Rattle.batch_meaning.proofs.Places.{found}
 use Rattle.batch_interp.specs.Answered.{value_of}
-use Rattle.batch_interp.specs.Frames.{Plan, earlier, marks_at, calls_in, passed, body_of, body_at}
+use Rattle.batch_interp.specs.Frames.{Plan, earlier, thresholds_at, calls_in, passed, body_of, body_at}
 use Rattle.batch_interp.specs.Handing.{told_of, handed_on, all_handed, handed_to, handed_besides, calls_from, IsEnteredBy, coming, AreEntered, AreHandedBy, AreHanded}
 use Rattle.batch_interp.specs.Pairs.{All2}
 use Rattle.batch_interp.specs.Seeking.{places}
 use Rattle.batch_interp.specs.Walking.{entered_of, called_from}
 use Rattle.batch_interp.specs.declared.calls.Handed.{Handed}
-use Rattle.batch_interp.specs.declared.frames.Frame.{Frame}
+use Rattle.batch_interp.specs.declared.frames.CallFrame.{CallFrame}
 use Rattle.batch_interp.specs.declared.walks.Entered.{Entered}
 use Rattle.batch_interp.proofs.Members.{all2_both, all2_as, all2_map, all2_length, At}
 use Rattle.batch_interp.proofs.Once.{fit_at, called_before}
@@ -61,7 +61,7 @@ sites_of p (Call n i q r) = by_test p q (λ c. (if c then n ∷ sites_to p (call
 sites_of p (Break n r) = sites_of p r
 
 -- main's frame, where main stands at this place
-abbrev main_at : ℕ → Frame
+abbrev main_at : ℕ → CallFrame
 main_at n = record { place = n; sites = [] }
 
 module _ {S : Type 0} (dom : Operations S) (plan : Plan) where
@@ -69,11 +69,11 @@ module _ {S : Type 0} (dom : Operations S) (plan : Plan) where
     abbrev P : Code → Value S → List (ℕ × Spot S)
     P = places dom plan place z
 
-    abbrev F : Code → Value S → List (Frame × Value S)
+    abbrev F : Code → Value S → List (CallFrame × Value S)
     F = calls_from dom plan place z
 
     -- a call of a block, and the procedure that it enters
-    record Stands (c : Code) (v : Value S) (k : ℕ × ℕ) (w : Frame × Value S) : Type 0 where
+    record Stands (c : Code) (v : Value S) (k : ℕ × ℕ) (w : CallFrame × Value S) : Type 0 where
       spot : Spot S
       invoke : Invoke
       stands : Member (k.0, spot) (places dom plan place z c v)
@@ -82,7 +82,7 @@ module _ {S : Type 0} (dom : Operations S) (plan : Plan) where
       frame : w.0 ≡ record { place = k.1; sites = k.0 ∷ z }
       value : lift (dom.enter invoke.entering) spot.before ≡ w.1
 
-    more : (c d : Code) (v w : Value S) (ks : List (ℕ × ℕ)) (xs : List (Frame × Value S)) → ((x : ℕ × Spot S) → Member x (P c v) → Member x (P d w)) → ((p n : ℕ) → Member n (calls_to p c) → Member n (calls_to p d)) → All2 (Stands c v) ks xs → All2 (Stands d w) ks xs
+    more : (c d : Code) (v w : Value S) (ks : List (ℕ × ℕ)) (xs : List (CallFrame × Value S)) → ((x : ℕ × Spot S) → Member x (P c v) → Member x (P d w)) → ((p n : ℕ) → Member n (calls_to p c) → Member n (calls_to p d)) → All2 (Stands c v) ks xs → All2 (Stands d w) ks xs
     more c d v w ks xs f g h = all2_as (Stands c v) (Stands d w) ks xs (λ k x s. record { spot = s.spot; invoke = s.invoke; stands = f (k.0, s.spot) s.stands; calls = s.calls; called = g k.1 k.0 s.called; frame = s.frame; value = s.value }) h
 
     abbrev holds : Guard → Value S → Value S
@@ -95,7 +95,7 @@ module _ {S : Type 0} (dom : Operations S) (plan : Plan) where
     both g t e v = lift2 dom.join (passed dom plan place z t (holds g v)).value (passed dom plan place z e (fails g v)).value
 
     abbrev head : ℕ → Guard → Code → Value S → Value S
-    head n g b v = (head_of dom plan.engine (marks_at plan place) z n g (passed dom plan place z b) v).value
+    head n g b v = (head_of dom plan.engine (thresholds_at plan place) z n g (passed dom plan place z b) v).value
 
     abbrev out : ℕ → Guard → Code → Value S → Value S
     out n g b v = behind dom plan.engine g (passed dom plan place z b) (head n g b v)
@@ -168,7 +168,7 @@ module _ {S : Type 0} (dom : Operations S) (plan : Plan) where
   row place z c r x es checked g b i m =
       let v = value_of x.before in
       let same : calls_from dom plan place z r.code v ≡ map told_of es =
-      (let p : place ≡ x.frame.place = sym (ap (λ (f : Frame). f.place) i.frame) in let q : z ≡ x.frame.sites = sym (ap (λ (f : Frame). f.sites) i.frame) in λ j. calls_from dom plan (p j) (q j) (sym b j) v) ∙ sym m in
+      (let p : place ≡ x.frame.place = sym (ap (λ (f : CallFrame). f.place) i.frame) in let q : z ≡ x.frame.sites = sym (ap (λ (f : CallFrame). f.sites) i.frame) in λ j. calls_from dom plan (p j) (q j) (sym b j) v) ∙ sym m in
       let all = subst (All2 (Stands place z r.code v) (calls_made r.code)) same (all_stand place z r.code v) in
       all2_as (λ k e. Stands place z r.code v k (told_of e)) (Enters z) (calls_made r.code) es (λ k e s. enters place z r v k e checked g i.value s) (all2_map (Stands place z r.code v) told_of (calls_made r.code) es all)
 
@@ -186,7 +186,7 @@ module _ {S : Type 0} (dom : Operations S) (plan : Plan) where
   one_on zs z k h e c i = record { callee = c.callee; all = all2_both (λ z e. IsEnteredBy dom plan k.1 (k.0 ∷ z) e) zs (z ∷ []) h.entered (e ∷ []) c.all (i, tt) }
 
   first_on : (z : List ℕ) (k : ℕ × ℕ) (e : Entered S) → Enters z k e → Column (z ∷ []) k (handed_on None e)
-  first_on z k e i = record { callee = ap (λ (f : Frame). f.place) i.frame; all = (i, tt) }
+  first_on z k e i = record { callee = ap (λ (f : CallFrame). f.place) i.frame; all = (i, tt) }
 
   first_row : (z : List ℕ) (ks : List (ℕ × ℕ)) (es : List (Entered S)) → All2 (Enters z) ks es → All2 (Column (z ∷ [])) ks (all_handed [] es)
   first_row z [] [] h = tt
@@ -322,7 +322,7 @@ module _ {S : Type 0} (dom : Operations S) (plan : Plan) where
   -- main alone is handed down where no procedure has been walked
   pub main_first : (e : Entered S) → 0 < length plan.program → entry dom plan.engine (reverse plan.program) [] ≡ Some (entered_of plan.program e) → e.frame ≡ record { place = length plan.program - 1; sites = [] } → AreHanded dom plan (length plan.program) (handed_on None e ∷ [])
   main_first e some en f = λ p l.
-      let main : e.frame.place ≡ length plan.program - 1 = ap (λ (f : Frame). f.place) f in
+      let main : e.frame.place ≡ length plan.program - 1 = ap (λ (f : CallFrame). f.place) f in
       by_test (suc p) (length plan.program) (λ c. AreEntered dom plan p (if c then [] ∷ [] else through (chains plan.program) (length plan.program) (drop (length plan.program) plan.program) p) (if e.frame.place == p then e ∷ [] else []))
       (λ q.
       let here : e.frame.place ≡ p = omega (arith, main, q) in

@@ -7,14 +7,14 @@ use Rattle.imp_slots.specs.Fits.{Distinct, IsChecked}
 use Rattle.imp_slots.specs.BlockViews.{before_code, code_of}
 use Rattle.imp_slots.specs.declared.blocks.SlotNode.{SlotNode}
 use Rattle.imp_slots.specs.declared.blocks.SlotNode.TheVariants as node
-use Rattle.program_chains.specs.Chains.{chains}
+use Rattle.imp_chains.specs.Chains.{chains}
 use Rattle.domain_laws.specs.Operations.{Operations}
 use Rattle.batch_meaning.specs.Values.{Value, lift, lift2}
 use Rattle.batch_meaning.specs.Batch.{behind}
 use Rattle.batch_meaning.specs.Places.{Spot, if_some, head_value, entry, value_in, value_at}
 use Rattle.cert_meaning.specs.Written.{loops}
-use Rattle.plain_values.proofs.Lists.{drop_item, drop_next}
-use Rattle.plain_values.proofs.Members.{Member, here, there, in_left, in_right, keys, keys_both}
+use Rattle.base_values.proofs.Lists.{drop_item, drop_next}
+use Rattle.base_values.proofs.Members.{Member, here, there, in_left, in_right, keys, keys_both}
 use Rattle.batch_meaning.proofs.Places.{found}
 use Rattle.batch_interp.specs.Answered.{value_of}
 use Rattle.batch_interp.specs.Frames.{Plan, earlier, passed, calls_in, body_of, body_at}
@@ -22,9 +22,9 @@ use Rattle.batch_interp.specs.Seeking.{places}
 use Rattle.batch_interp.specs.Handing.{in_one, IsEnteredBy}
 use Rattle.batch_interp.specs.Pairs.{All2}
 use Rattle.batch_interp.specs.Heads.{loop_value, head_told, heads_under, under_told, told_under, all_loops_told, value_at_head, loop_values, values_inside}
-use Rattle.batch_interp.specs.declared.heads.Head.{Head}
+use Rattle.batch_interp.specs.declared.heads.LoopHead.{LoopHead}
 use Rattle.batch_interp.specs.declared.heads.LoopsUnder.{LoopsUnder}
-use Rattle.batch_interp.specs.declared.frames.Frame.{Frame}
+use Rattle.batch_interp.specs.declared.frames.CallFrame.{CallFrame}
 use Rattle.batch_interp.specs.declared.walks.Entered.{Entered}
 use Rattle.batch_interp.proofs.Members.{AllOf, all_both, all_as, all2_length, At}
 use Rattle.batch_interp.proofs.Procedures.{there_at}
@@ -33,7 +33,7 @@ use Rattle.batch_interp.proofs.Seekings.{numbers_of_places}
 use Rattle.batch_interp.proofs.Walkings.{head_there}
 use Rattle.batch_sound.proofs.Chains.{once_in}
 
-pub heads_one : {S : Type 0} (xs : List (Head S)) (x : Head S) → map loop_value (xs ++ x ∷ []) ≡ map loop_value xs ++ loop_value x ∷ []
+pub heads_one : {S : Type 0} (xs : List (LoopHead S)) (x : LoopHead S) → map loop_value (xs ++ x ∷ []) ≡ map loop_value xs ++ loop_value x ∷ []
 heads_one xs x = map-append loop_value xs (x ∷ [])
 
 module _ {S : Type 0} (dom : Operations S) (plan : Plan) (place : ℕ) (z : List ℕ) where
@@ -58,7 +58,7 @@ module _ {S : Type 0} (dom : Operations S) (plan : Plan) (place : ℕ) (z : List
   pub values_end : (ss : List SlotNode) (i : ℕ) (v : Value S) → length ss ≤ i → loop_values dom plan place z (code_of (drop i ss)) v ≡ []
   values_end ss i v h = ap (λ xs. F (code_of xs) v) (drop_all i ss h)
 
-  pub loop_found : (old middle : List (Head S)) (x : Head S) (new : List (Head S)) (n : ℕ) (c : Guard) (b : Code) (v w : Value S) → x.stmt ≡ n → value_of x.value ≡ value_at_head dom plan place z n c b v → w ≡ lift (dom.assume c true) (value_of x.value) → middle ≡ old ++ x ∷ [] → map loop_value new ≡ map loop_value middle ++ loop_values dom plan place z b w → map loop_value new ≡ map loop_value old ++ values_inside dom plan place z (node.While n c b) v
+  pub loop_found : (old middle : List (LoopHead S)) (x : LoopHead S) (new : List (LoopHead S)) (n : ℕ) (c : Guard) (b : Code) (v w : Value S) → x.stmt ≡ n → value_of x.value ≡ value_at_head dom plan place z n c b v → w ≡ lift (dom.assume c true) (value_of x.value) → middle ≡ old ++ x ∷ [] → map loop_value new ≡ map loop_value middle ++ loop_values dom plan place z b w → map loop_value new ≡ map loop_value old ++ values_inside dom plan place z (node.While n c b) v
   loop_found old middle x new n c b v w k head a m f =
       let told : loop_value x ≡ (n, value_at_head dom plan place z n c b v) = λ i. (k i, head i) in
       let inner : w ≡ lift (dom.assume c true) (value_at_head dom plan place z n c b v) = a ∙ ap (lift (dom.assume c true)) head in
@@ -143,7 +143,7 @@ module _ {S : Type 0} (dom : Operations S) (plan : Plan) where
       (all_stand dom plan place z r.code v))
       ∙ (λ i. map (told_by f) (loops_told dom plan place z r.code v i))
 
-  told_twice : (hs : List (Head S)) → map head_told hs ≡ map found_at (map loop_value hs)
+  told_twice : (hs : List (LoopHead S)) → map head_told hs ≡ map found_at (map loop_value hs)
   told_twice [] = refl
   told_twice (h ∷ hs) = ap (λ xs. head_told h ∷ xs) (told_twice hs)
 
@@ -154,8 +154,8 @@ module _ {S : Type 0} (dom : Operations S) (plan : Plan) where
       let ns = loops (body_at plan.program place) in
       let r = there_at plan.program place h in
       let here : body_at plan.program place ≡ r.0.code = ap body_of r.1 in
-      let p : e.frame.place ≡ place = ap (λ (f : Frame). f.place) at.holds.frame in
-      let q : e.frame.sites ≡ at.item = ap (λ (f : Frame). f.sites) at.holds.frame in
+      let p : e.frame.place ≡ place = ap (λ (f : CallFrame). f.place) at.holds.frame in
+      let q : e.frame.sites ≡ at.item = ap (λ (f : CallFrame). f.sites) at.holds.frame in
       let heads : map head_told u.heads ≡ heads_under dom plan.engine plan.program ns at.item =
       told_twice u.heads
       ∙ ap (map found_at) (m ∙ (λ j. loop_values dom plan (p j) (q j) ((b ∙ here) j) (value_of e.before)))

@@ -12,5 +12,5 @@ pub mod CallLemmas
 pub mod Turned
 pub mod Handings
 pub mod Fronts
-pub mod Marking
+pub mod ThresholdTables
 pub mod HeadLemmas

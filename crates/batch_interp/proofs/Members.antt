@@ -1,6 +1,6 @@
 -- Members of lists, and two lists item by item.
 use Rattle.std.proofs.Common.{ℕ, zero, suc, ◌≡◌, ◌+◌, ◌<◌, List, [], ◌∷◌, ◌++◌, length, map, drop, take, get_or, slice_get, Some, refl, sym, ap, subst, arith, add-one}
-use Rattle.plain_values.proofs.Lists.{drop_from, take_next}
+use Rattle.base_values.proofs.Lists.{drop_from, take_next}
 use Rattle.batch_interp.specs.Pairs.{All2}
 
 pub all2_both : {A B : Type 0} (P : A → B → Type 0) (xs xs' : List A) (ys ys' : List B) → All2 P xs ys → All2 P xs' ys' → All2 P (xs ++ xs') (ys ++ ys')

@@ -2,11 +2,11 @@
 use Rattle.std.proofs.Common.{ℕ, zero, suc, ◌≡◌, List, [], ◌∷◌, ◌++◌, take, slice_get, Option, Some, None, refl, sym, subst, append_assoc}
 use Rattle.imp_slots.specs.Plain.{Routine}
 use Rattle.imp_slots.specs.Fits.{FitsCode, FitInTurn, IsChecked}
-use Rattle.program_chains.specs.Chains.{calls_to}
+use Rattle.imp_chains.specs.Chains.{calls_to}
 use Rattle.std.proofs.lemmas.List.{append-nil}
-use Rattle.plain_values.proofs.Members.{Member}
-use Rattle.program_chains.proofs.Found.{called_earlier}
-use Rattle.plain_values.proofs.Lists.{none_past}
+use Rattle.base_values.proofs.Members.{Member}
+use Rattle.imp_chains.proofs.Found.{called_earlier}
+use Rattle.base_values.proofs.Lists.{none_past}
 
 -- each procedure fits those in front of it
 pub fit_at : (before rs : List Routine) (k : ℕ) (r : Routine) → FitInTurn before rs → slice_get rs k ≡ Some r → FitsCode (before ++ take k rs) r.layout r.code

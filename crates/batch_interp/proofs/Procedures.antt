@@ -3,14 +3,14 @@ use Rattle.std.specs.Prelude.{◌≡◌, ◌≢◌, ℕ, zero, suc, ◌<◌, ◌
 use Rattle.std.proofs.Common.{refl, sym, ap, ◌∙◌, arith}
 use Rattle.std.proofs.lemmas.List.{reverse-append, reverse-reverse, length-reverse, take-append-le}
 use Rattle.imp_slots.specs.Plain.{Routine}
-use Rattle.program_chains.specs.Marks.{marks}
+use Rattle.imp_chains.specs.Thresholds.{thresholds}
 use Rattle.domain_laws.specs.Operations.{Operations}
 use Rattle.batch_meaning.specs.Values.{Value}
-use Rattle.batch_meaning.specs.Batch.{Engine, batch, procedure, calls_of}
+use Rattle.batch_meaning.specs.Batch.{LoopOptions, batch, procedure, calls_of}
 use Rattle.batch_meaning.specs.Places.{from}
-use Rattle.batch_interp.specs.Frames.{Plan, earlier, marks_at, marks_of, calls_in, passed}
-use Rattle.plain_values.proofs.Cases.{by_test}
-use Rattle.plain_values.proofs.Lists.{get_last, get_other, get_take, take_take}
+use Rattle.batch_interp.specs.Frames.{Plan, earlier, thresholds_at, thresholds_of, calls_in, passed}
+use Rattle.base_values.proofs.Cases.{by_test}
+use Rattle.base_values.proofs.Lists.{get_last, get_other, get_take, take_take}
 use Rattle.std.proofs.lemmas.Option.{slice_get_within, same_Some}
 use Rattle.std.proofs.Math.Seq.{take-length}
 
@@ -61,16 +61,16 @@ from_earlier program place q r e =
 pub from_gone : (program : List Routine) (place q : ℕ) → slice_get (take place program) q ≡ None → from (earlier program place) q ≡ []
 from_gone program place q e = from_nowhere (earlier program place) q (ap (λ xs. slice_get xs q) (reverse-reverse (take place program)) ∙ e)
 
-module _ {S : Type 0} (dom : Operations S) (engine : Engine) where
+module _ {S : Type 0} (dom : Operations S) (engine : LoopOptions) where
   value_of : List Routine → List ℕ → Value S → Value S
   value_of [] z a = a
-  value_of (r ∷ rest) z a = (batch dom engine (marks engine.widening r) z (calls_of dom engine rest z) r.code a).value
+  value_of (r ∷ rest) z a = (batch dom engine (thresholds engine.widening r) z (calls_of dom engine rest z) r.code a).value
 
   procedure_from : (ps : List Routine) (z : List ℕ) (q : ℕ) (a : Value S) → procedure dom engine ps z q a ≡ value_of (from ps q) z a
   unfolding value_of
   procedure_from [] z q a = refl
   procedure_from (b ∷ ps) z q a =
-      by_test q (length ps) (λ c. (if c then (batch dom engine (marks engine.widening b) z (calls_of dom engine ps z) b.code a).value else procedure dom engine ps z q a) ≡ value_of (if c then b ∷ ps else from ps q) z a)
+      by_test q (length ps) (λ c. (if c then (batch dom engine (thresholds engine.widening b) z (calls_of dom engine ps z) b.code a).value else procedure dom engine ps z q a) ≡ value_of (if c then b ∷ ps else from ps q) z a)
       (λ k. refl)
       (λ k. procedure_from ps z q a)
 
@@ -80,7 +80,7 @@ module _ {S : Type 0} (dom : Operations S) (plan : Plan) where
   unfolding value_of
   call_there place z n q r a e =
       let here : slice_get plan.program q ≡ Some r = get_take plan.program place q r e in
-      let m : marks plan.engine.widening r ≡ marks_at plan q = ap (marks_of plan.engine.widening) (sym here) in
+      let m : thresholds plan.engine.widening r ≡ thresholds_at plan q = ap (thresholds_of plan.engine.widening) (sym here) in
       procedure_from dom plan.engine (earlier plan.program place) (n ∷ z) q a
       ∙ ap (λ ps. value_of dom plan.engine ps (n ∷ z) a) (from_earlier plan.program place q r e)
       ∙ ap (λ ms. (batch dom plan.engine ms (n ∷ z) (calls_of dom plan.engine (earlier plan.program q) (n ∷ z)) r.code a).value) m

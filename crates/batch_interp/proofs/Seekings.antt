@@ -1,20 +1,20 @@
 -- Statements found by their numbers, one at a time.
 use Rattle.std.proofs.Common.{ℕ, ◌≡◌, ◌≢◌, ◌+◌, ◌<◌, ◌||◌, true, false, List, [], ◌∷◌, ◌++◌, length, drop, get_or, Some, None, refl, sym, ap, ◌∙◌, append_assoc}
 use Rattle.std.specs.Prelude.{if◌then◌else◌}
-use Rattle.plain_values.proofs.Members.{keys, keys_both}
+use Rattle.base_values.proofs.Members.{keys, keys_both}
 use Rattle.imp_slots.specs.Plain.{Guard, Does, DoBreak, Code, Stop, Simple, If, While, Call, Break, code_numbers}
 use Rattle.imp_slots.specs.BlockViews.{before_code, code_of, number_of}
 use Rattle.imp_slots.specs.declared.blocks.SlotNode.{SlotNode}
 use Rattle.imp_slots.specs.declared.blocks.SlotNode.TheVariants as node
-use Rattle.program_chains.specs.Chains.{has}
+use Rattle.imp_chains.specs.Chains.{has}
 use Rattle.domain_laws.specs.Operations.{Operations}
 use Rattle.batch_meaning.specs.Values.{Value, lift, lift2}
 use Rattle.batch_meaning.specs.Batch.{head_of, behind}
 use Rattle.batch_meaning.specs.Places.{Spot, find}
-use Rattle.batch_interp.specs.Frames.{Plan, marks_at, calls_in, passed}
+use Rattle.batch_interp.specs.Frames.{Plan, thresholds_at, calls_in, passed}
 use Rattle.batch_interp.specs.Seeking.{holds_inside, places, spot_at, inner_of}
-use Rattle.plain_values.proofs.Cases.{by_test}
-use Rattle.plain_values.proofs.Lists.{drop_item}
+use Rattle.base_values.proofs.Cases.{by_test}
+use Rattle.base_values.proofs.Lists.{drop_item}
 use Rattle.call_contexts.proofs.Numbered.{has_both}
 use Rattle.batch_meaning.proofs.Places.{find_both, find_key, or_else}
 
@@ -45,7 +45,7 @@ module _ {S : Type 0} (dom : Operations S) (plan : Plan) (place : ℕ) (z : List
       ∙ ap (λ ns. keys (P t (lift (dom.assume g true) v)) ++ ns) (keys_both (P e (lift (dom.assume g false) v)) (P r x))
       ∙ (λ i. numbers_of_places t (lift (dom.assume g true) v) i ++ (numbers_of_places e (lift (dom.assume g false) v) i ++ numbers_of_places r x i)))
   numbers_of_places (While n g b r) v =
-      let h = (head_of dom plan.engine (marks_at plan place) z n g (passed dom plan place z b) v).value in
+      let h = (head_of dom plan.engine (thresholds_at plan place) z n g (passed dom plan place z b) v).value in
       let x = behind dom plan.engine g (passed dom plan place z b) h in
       ap (λ ns. n ∷ ns)
       (keys_both (P b (lift (dom.assume g true) h)) (P r x)
@@ -68,7 +68,7 @@ module _ {S : Type 0} (dom : Operations S) (plan : Plan) (place : ℕ) (z : List
       ap (has n) (keys_both (P t (lift (dom.assume c true) v)) (P e (lift (dom.assume c false) v)))
       ∙ has_both n (keys (P t (lift (dom.assume c true) v))) (keys (P e (lift (dom.assume c false) v)))
       ∙ (λ i. has n (numbers_of_places t (lift (dom.assume c true) v) i) || has n (numbers_of_places e (lift (dom.assume c false) v) i))
-  inner_numbers n (node.While m c b) v = ap (has n) (numbers_of_places b (lift (dom.assume c true) (head_of dom plan.engine (marks_at plan place) z m c (passed dom plan place z b) v).value))
+  inner_numbers n (node.While m c b) v = ap (has n) (numbers_of_places b (lift (dom.assume c true) (head_of dom plan.engine (thresholds_at plan place) z m c (passed dom plan place z b) v).value))
   inner_numbers n (node.Call m k q) v = refl
   inner_numbers n (node.Break m) v = refl
 
@@ -99,5 +99,5 @@ module _ {S : Type 0} (dom : Operations S) (plan : Plan) (place : ℕ) (z : List
   else_part n m c t e v h =
       sym (second_part n (P t (lift (dom.assume c true) v)) (P e (lift (dom.assume c false) v)) (ap (has n) (numbers_of_places t (lift (dom.assume c true) v)) ∙ h))
 
-  pub body_part : (n m : ℕ) (c : Guard) (b : Code) (v h : Value S) → h ≡ (head_of dom plan.engine (marks_at plan place) z m c (passed dom plan place z b) v).value → find n (places dom plan place z b (lift (dom.assume c true) h)) ≡ find n (inner_of dom plan place z (node.While m c b) v)
+  pub body_part : (n m : ℕ) (c : Guard) (b : Code) (v h : Value S) → h ≡ (head_of dom plan.engine (thresholds_at plan place) z m c (passed dom plan place z b) v).value → find n (places dom plan place z b (lift (dom.assume c true) h)) ≡ find n (inner_of dom plan place z (node.While m c b) v)
   body_part n m c b v h e = ap (λ x. find n (P b (lift (dom.assume c true) x))) e

@@ -6,22 +6,22 @@ use Rattle.std.proofs.lemmas.List.{reverse-append, take-append-drop, take_all}
 use Rattle.imp_slots.specs.Plain.{Invoke, Code, Routine}
 use Rattle.imp_syntax.specs.declared.edit.Location.{Location}
 use Rattle.imp_syntax.specs.declared.edit.Location.TheVariants.{Before, Head, End}
-use Rattle.program_chains.specs.Marks.{marks}
+use Rattle.imp_chains.specs.Thresholds.{thresholds}
 use Rattle.domain_laws.specs.Operations.{Operations}
 use Rattle.batch_meaning.specs.Values.{Value, State, lift}
 use Rattle.batch_meaning.specs.Batch.{calls_of, batch}
 use Rattle.batch_meaning.specs.Places.{Spot, spots, find, if_some, head_value, from, earlier_of, main_layout, spots_in, end_of, value_in, entered, entry}
 use Rattle.batch_interp.specs.Answered.{value_of}
-use Rattle.batch_interp.specs.Frames.{Plan, earlier, marks_at, marks_of, passed, body_of, body_at}
+use Rattle.batch_interp.specs.Frames.{Plan, earlier, thresholds_at, thresholds_of, passed, body_of, body_at}
 use Rattle.batch_interp.specs.Handing.{told_of}
 use Rattle.batch_interp.specs.Seeking.{places, call_at, spot_of}
 use Rattle.batch_interp.specs.Walking.{entered_of, IsGone, IsEntered, called_from}
-use Rattle.batch_interp.specs.declared.frames.Frame.{Frame}
+use Rattle.batch_interp.specs.declared.frames.CallFrame.{CallFrame}
 use Rattle.batch_interp.specs.declared.value.Answer.{Answer}
 use Rattle.batch_interp.specs.declared.spots.Seen.{Seen}
 use Rattle.batch_interp.specs.declared.walks.Entered.{Entered}
 use Rattle.std.proofs.lemmas.Option.{slice_get_within}
-use Rattle.plain_values.proofs.Lists.{get_take, get_there, take_next, take_back}
+use Rattle.base_values.proofs.Lists.{get_take, get_there, take_next, take_back}
 use Rattle.std.proofs.Math.Seq.{take-length}
 use Rattle.batch_interp.proofs.Procedures.{from_earlier, from_gone}
 use Rattle.batch_interp.proofs.Lists.{if_ok_along}
@@ -46,7 +46,7 @@ module _ {S : Type 0} (dom : Operations S) (plan : Plan) where
   -- the statements of a procedure that is entered
   pub spots_there : (k : ℕ) (z : List ℕ) (r : Routine) (v : Value S) → slice_get plan.program k ≡ Some r → spots_in dom plan.engine (earlier plan.program (suc k)) z v ≡ places dom plan k z r.code v
   spots_there k z r v g =
-      let m : marks plan.engine.widening r ≡ marks_at plan k = ap (marks_of plan.engine.widening) (sym g) in
+      let m : thresholds plan.engine.widening r ≡ thresholds_at plan k = ap (thresholds_of plan.engine.widening) (sym g) in
       ap (λ rs. spots_in dom plan.engine rs z v) (standing plan.program k r g)
       ∙ ap (λ ms. spots dom plan.engine ms z (calls_of dom plan.engine (earlier plan.program k) z) r.code v) m
 
@@ -71,11 +71,11 @@ module _ {S : Type 0} (dom : Operations S) (plan : Plan) where
   pub callee_there : (k q : ℕ) (z : List ℕ) (i : Invoke) (v : Value S) (r : Routine) (e : Entered S) → Some r ≡ slice_get (take k plan.program) q → told_of e ≡ (record { place = q; sites = z }, lift (dom.enter i.entering) v) → IsEntered plan.program z (Some e) (called_from dom plan.program k v (Some (i, q)))
   callee_there k q z i v r e g t =
       let here : slice_get plan.program q ≡ Some r = get_take plan.program k q r (sym g) in
-      let p : e.frame.place ≡ q = ap (λ (x : Frame × Value S). x.0.place) t in
+      let p : e.frame.place ≡ q = ap (λ (x : CallFrame × Value S). x.0.place) t in
       let list : from (earlier plan.program k) q ≡ earlier plan.program (suc e.frame.place) =
       from_earlier plan.program k q r (sym g) ∙ sym (standing plan.program q r here) ∙ ap (λ n. earlier plan.program (suc n)) (sym p) in
-      let w : lift (dom.enter i.entering) v ≡ value_of e.before = sym (ap (λ (x : Frame × Value S). x.1) t) in
-      ((λ j. Some (list j, w j)), omega (arith, slice_get_within plan.program q r here, p), ap (λ (x : Frame × Value S). x.0.sites) t)
+      let w : lift (dom.enter i.entering) v ≡ value_of e.before = sym (ap (λ (x : CallFrame × Value S). x.1) t) in
+      ((λ j. Some (list j, w j)), omega (arith, slice_get_within plan.program q r here, p), ap (λ (x : CallFrame × Value S). x.0.sites) t)
 
   pub callee_gone : (k q : ℕ) (i : Invoke) (v : Value S) → None ≡ slice_get (take k plan.program) q → IsGone (called_from dom plan.program k v (Some (i, q)))
   callee_gone k q i v g = from_gone plan.program k q (sym g)
@@ -124,7 +124,7 @@ module _ {S : Type 0} (dom : Operations S) (plan : Plan) where
 
   pub end_there : (k : ℕ) (name : List ℕ) (z : List ℕ) (r : Routine) (v : Value S) → slice_get plan.program k ≡ Some r → (if bytes_eq name r.name then Some (passed dom plan k z r.code v).value else None) ≡ value_in dom plan.engine (earlier plan.program (suc k)) z v (End name)
   end_there k name z r v g =
-      let m : marks_at plan k ≡ marks plan.engine.widening r = ap (marks_of plan.engine.widening) g in
+      let m : thresholds_at plan k ≡ thresholds plan.engine.widening r = ap (thresholds_of plan.engine.widening) g in
       ap (λ ms. if bytes_eq name r.name then Some (batch dom plan.engine ms z (calls_of dom plan.engine (earlier plan.program k) z) r.code v).value else None) m
       ∙ ap (λ rs. end_of dom plan.engine rs z v name) (sym (standing plan.program k r g))
 

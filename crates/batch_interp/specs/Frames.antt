@@ -1,28 +1,28 @@
 -- The program that is interpreted, and where a block of it stands.
 use Rattle.std.specs.Prelude.{ℕ, ℤ, List, [], reverse, take, slice_get, Option, Some, None}
 use Rattle.imp_slots.specs.Plain.{Code, Stop, Routine}
-use Rattle.program_chains.specs.declared.widening.Widening.{Widening}
-use Rattle.program_chains.specs.Marks.{marks}
+use Rattle.imp_chains.specs.declared.widening.Widening.{Widening}
+use Rattle.imp_chains.specs.Thresholds.{thresholds}
 use Rattle.domain_laws.specs.Operations.{Operations}
 use Rattle.batch_meaning.specs.Values.{Value}
-use Rattle.batch_meaning.specs.Batch.{Engine, Passed, batch, calls_of}
+use Rattle.batch_meaning.specs.Batch.{LoopOptions, Passed, batch, calls_of}
 
 -- A program, and how its loops are interpreted.
 pub record Plan : Type 0 where
   pub program : List Routine
-  pub engine : Engine
+  pub engine : LoopOptions
 
 -- the procedures in front of a place, the last one first
 abbrev pub earlier : List Routine → (place : ℕ) → List Routine
 earlier program place = reverse (take place program)
 
-abbrev pub marks_of : Widening → Option Routine → List ℤ
-marks_of w None = []
-marks_of w (Some r) = marks w r
+abbrev pub thresholds_of : Widening → Option Routine → List ℤ
+thresholds_of w None = []
+thresholds_of w (Some r) = thresholds w r
 
--- the marks of the procedure at a place
-abbrev pub marks_at : Plan → (place : ℕ) → List ℤ
-marks_at plan place = marks_of plan.engine.widening (slice_get plan.program place)
+-- the thresholds of the procedure at a place
+abbrev pub thresholds_at : Plan → (place : ℕ) → List ℤ
+thresholds_at plan place = thresholds_of plan.engine.widening (slice_get plan.program place)
 
 -- the body of the procedure at a place
 abbrev pub body_of : Option Routine → Code
@@ -39,4 +39,4 @@ module _ {S : Type 0} (dom : Operations S) (plan : Plan) (place : ℕ) (z : List
 
   -- a block there
   abbrev pub passed : Code → Value S → Passed S
-  passed = batch dom plan.engine (marks_at plan place) z calls_in
+  passed = batch dom plan.engine (thresholds_at plan place) z calls_in

@@ -3,16 +3,16 @@ use Rattle.std.specs.Prelude.{◌≡◌, ℕ, suc, ◌==◌, ◌<◌, List, [], 
 use Rattle.imp_slots.specs.Plain.{Code, Stop, Simple, If, While, Call, Break, Routine}
 use Rattle.imp_slots.specs.declared.blocks.SlotNode.{SlotNode}
 use Rattle.imp_slots.specs.declared.blocks.SlotNode.TheVariants as node
-use Rattle.program_chains.specs.Chains.{calls_to, extended, through, chains}
+use Rattle.imp_chains.specs.Chains.{calls_to, extended, through, chains}
 use Rattle.domain_laws.specs.Operations.{Operations}
 use Rattle.batch_meaning.specs.Values.{Value, lift}
 use Rattle.batch_meaning.specs.Batch.{head_of}
 use Rattle.batch_meaning.specs.Places.{entry}
 use Rattle.batch_interp.specs.Answered.{value_of}
-use Rattle.batch_interp.specs.Frames.{Plan, earlier, marks_at, passed, body_at}
+use Rattle.batch_interp.specs.Frames.{Plan, earlier, thresholds_at, passed, body_at}
 use Rattle.batch_interp.specs.Pairs.{All2}
 use Rattle.batch_interp.specs.Totalling.{first_of, behind_first}
-use Rattle.batch_interp.specs.declared.frames.Frame.{Frame}
+use Rattle.batch_interp.specs.declared.frames.CallFrame.{CallFrame}
 use Rattle.batch_interp.specs.declared.walks.Entered.{Entered}
 use Rattle.batch_interp.specs.declared.calls.Handed.{Handed}
 
@@ -22,7 +22,7 @@ in_one [] = []
 in_one (xs ∷ more) = xs ++ in_one more
 
 -- where a procedure is entered, and the value in front of its body
-abbrev pub told_of : {S : Type 0} → Entered S → Frame × Value S
+abbrev pub told_of : {S : Type 0} → Entered S → CallFrame × Value S
 told_of e = (e.frame, value_of e.before)
 
 -- what a call statement hands down so far to the procedure at a place
@@ -50,23 +50,23 @@ handed_besides p (h ∷ hs) = if h.place == p then handed_besides p hs else h �
 
 module _ {S : Type 0} (dom : Operations S) (plan : Plan) (place : ℕ) (z : List ℕ) where
   -- the procedures that the calls of a block enter, in the order of the text
-  abbrev pub calls_from : Code → Value S → List (Frame × Value S)
+  abbrev pub calls_from : Code → Value S → List (CallFrame × Value S)
   calls_from Stop v = []
   calls_from (Simple n e r) v = calls_from r (passed dom plan place z (Simple n e Stop) v).value
   calls_from (If n g t e r) v =
       (calls_from t (lift (dom.assume g true) v) ++ calls_from e (lift (dom.assume g false) v)) ++ calls_from r (passed dom plan place z (If n g t e Stop) v).value
   calls_from (While n g b r) v =
-      calls_from b (lift (dom.assume g true) (head_of dom plan.engine (marks_at plan place) z n g (passed dom plan place z b) v).value)
+      calls_from b (lift (dom.assume g true) (head_of dom plan.engine (thresholds_at plan place) z n g (passed dom plan place z b) v).value)
       ++ calls_from r (passed dom plan place z (While n g b Stop) v).value
   calls_from (Call n i q r) v =
       (record { place = q; sites = n ∷ z }, lift (dom.enter i.entering) v) ∷ calls_from r (passed dom plan place z (Call n i q Stop) v).value
   calls_from (Break n r) v = calls_from r (passed dom plan place z (Break n Stop) v).value
 
   -- those of one statement and the statements inside it
-  abbrev pub calls_inside : SlotNode → Value S → List (Frame × Value S)
+  abbrev pub calls_inside : SlotNode → Value S → List (CallFrame × Value S)
   calls_inside (node.Simple n a) v = []
   calls_inside (node.If n g t e) v = calls_from t (lift (dom.assume g true) v) ++ calls_from e (lift (dom.assume g false) v)
-  calls_inside (node.While n g b) v = calls_from b (lift (dom.assume g true) (head_of dom plan.engine (marks_at plan place) z n g (passed dom plan place z b) v).value)
+  calls_inside (node.While n g b) v = calls_from b (lift (dom.assume g true) (head_of dom plan.engine (thresholds_at plan place) z n g (passed dom plan place z b) v).value)
   calls_inside (node.Call n i q) v = (record { place = q; sites = n ∷ z }, lift (dom.enter i.entering) v) ∷ []
   calls_inside (node.Break n) v = []
 

@@ -16,7 +16,7 @@ states ss = map plain.State ss
 
 -- A block ends in this answer, and the states that leave it come behind those that left before.
 abbrev pub Ends : {S : Type 0} → (before after : List S) → Passed S → Answer S → Type 0
-Ends before after p (State t) = meaning.after (states before) p ≡ record { value = plain.State t; leaving = states after }
+Ends before after p (State t) = meaning.with_leaving (states before) p ≡ record { value = plain.State t; leaving = states after }
 Ends before after p (Over n chain) = p.value ≡ plain.Over n (reverse chain)
 
 -- The iterates of a loop come to this: the state at its head and what leaves the body from there, or a loop that is Over.

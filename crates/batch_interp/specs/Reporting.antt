@@ -8,16 +8,16 @@ use Rattle.domain_laws.specs.Checks.{Check, check_of}
 use Rattle.domain_laws.specs.Operations.{Operations}
 use Rattle.batch_meaning.specs.Values.{Value, lift}
 use Rattle.batch_meaning.specs.Batch.{head_of}
-use Rattle.batch_meaning.specs.Report.{Checked}
-use Rattle.batch_interp.specs.Frames.{Plan, marks_at, passed}
+use Rattle.batch_meaning.specs.Report.{CheckedStatement}
+use Rattle.batch_interp.specs.Frames.{Plan, thresholds_at, passed}
 use Rattle.batch_interp.specs.declared.claim.Claim.{Claim}
 
 -- statements that have a check, by their number and what they do
 abbrev pub claim_of : Claim → ℕ × Effect
 claim_of c = (c.number, effect_of c.action)
 
-abbrev pub claims : List Checked → List (ℕ × Effect)
-claims cs = map (λ (c : Checked). (c.number, c.effect)) cs
+abbrev pub claims : List CheckedStatement → List (ℕ × Effect)
+claims cs = map (λ (c : CheckedStatement). (c.number, c.effect)) cs
 
 abbrev pub before_one : {S : Type 0} → Option Check → Value S → List (Value S)
 before_one None v = []
@@ -29,7 +29,7 @@ module _ {S : Type 0} (dom : Operations S) (plan : Plan) (place : ℕ) (z : List
   befores Stop v = []
   befores (Simple n e r) v = before_one (check_of e) v ++ befores r (passed dom plan place z (Simple n e Stop) v).value
   befores (If n g t e r) v = (befores t (lift (dom.assume g true) v) ++ befores e (lift (dom.assume g false) v)) ++ befores r (passed dom plan place z (If n g t e Stop) v).value
-  befores (While n g b r) v = befores b (lift (dom.assume g true) (head_of dom plan.engine (marks_at plan place) z n g (passed dom plan place z b) v).value) ++ befores r (passed dom plan place z (While n g b Stop) v).value
+  befores (While n g b r) v = befores b (lift (dom.assume g true) (head_of dom plan.engine (thresholds_at plan place) z n g (passed dom plan place z b) v).value) ++ befores r (passed dom plan place z (While n g b Stop) v).value
   befores (Call n i q r) v = befores r (passed dom plan place z (Call n i q Stop) v).value
   befores (Break n r) v = befores r (passed dom plan place z (Break n Stop) v).value
 
@@ -37,6 +37,6 @@ module _ {S : Type 0} (dom : Operations S) (plan : Plan) (place : ℕ) (z : List
   abbrev pub in_front : SlotNode → Value S → List (Value S)
   in_front (node.Simple n a) v = before_one (check_of (effect_of a)) v
   in_front (node.If n g t e) v = befores t (lift (dom.assume g true) v) ++ befores e (lift (dom.assume g false) v)
-  in_front (node.While n g b) v = befores b (lift (dom.assume g true) (head_of dom plan.engine (marks_at plan place) z n g (passed dom plan place z b) v).value)
+  in_front (node.While n g b) v = befores b (lift (dom.assume g true) (head_of dom plan.engine (thresholds_at plan place) z n g (passed dom plan place z b) v).value)
   in_front (node.Call n i q) v = []
   in_front (node.Break n) v = []

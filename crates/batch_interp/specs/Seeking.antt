@@ -4,13 +4,13 @@ use Rattle.imp_slots.specs.Plain.{Invoke, Code, Stop, code_numbers}
 use Rattle.imp_slots.specs.BlockViews.{before_code}
 use Rattle.imp_slots.specs.declared.blocks.SlotNode.{SlotNode}
 use Rattle.imp_slots.specs.declared.blocks.SlotNode.TheVariants.{Simple, If, While, Call, Break}
-use Rattle.program_chains.specs.Chains.{has}
+use Rattle.imp_chains.specs.Chains.{has}
 use Rattle.domain_laws.specs.Operations.{Operations}
 use Rattle.batch_meaning.specs.Values.{Value, lift}
 use Rattle.batch_meaning.specs.Batch.{Fixed, head_of}
 use Rattle.batch_meaning.specs.Places.{Spot, spot, spots}
 use Rattle.batch_interp.specs.Answered.{value_of}
-use Rattle.batch_interp.specs.Frames.{Plan, marks_at, calls_in, passed}
+use Rattle.batch_interp.specs.Frames.{Plan, thresholds_at, calls_in, passed}
 use Rattle.batch_interp.specs.declared.spots.Seen.{Seen}
 
 -- whether a statement of this number stands inside a statement
@@ -32,13 +32,13 @@ call_at (Break n) = None
 module _ {S : Type 0} (dom : Operations S) (plan : Plan) (place : ℕ) (z : List ℕ) where
   -- the statements of a block in the procedure at a place, under the call sites z
   abbrev pub places : Code → Value S → List (ℕ × Spot S)
-  places = spots dom plan.engine (marks_at plan place) z (calls_in dom plan place z)
+  places = spots dom plan.engine (thresholds_at plan place) z (calls_in dom plan place z)
 
   -- what the iterates of a loop there come to
   abbrev pub head_at : SlotNode → Value S → Option (Fixed S)
   head_at (Simple n a) v = None
   head_at (If n c t e) v = None
-  head_at (While n c b) v = Some (head_of dom plan.engine (marks_at plan place) z n c (passed dom plan place z b) v)
+  head_at (While n c b) v = Some (head_of dom plan.engine (thresholds_at plan place) z n c (passed dom plan place z b) v)
   head_at (Call n i q) v = None
   head_at (Break n) v = None
 
@@ -53,6 +53,6 @@ module _ {S : Type 0} (dom : Operations S) (plan : Plan) (place : ℕ) (z : List
   abbrev pub inner_of : SlotNode → Value S → List (ℕ × Spot S)
   inner_of (Simple n a) v = []
   inner_of (If n c t e) v = places t (lift (dom.assume c true) v) ++ places e (lift (dom.assume c false) v)
-  inner_of (While n c b) v = places b (lift (dom.assume c true) (head_of dom plan.engine (marks_at plan place) z n c (passed dom plan place z b) v).value)
+  inner_of (While n c b) v = places b (lift (dom.assume c true) (head_of dom plan.engine (thresholds_at plan place) z n c (passed dom plan place z b) v).value)
   inner_of (Call n i q) v = []
   inner_of (Break n) v = []

@@ -8,13 +8,13 @@ ghost use Rattle.batch_interp.specs.Answered.{value_of, IsPlace, IsAnswer, IsRef
 use crate::frames::Plan;
 use crate::sums::sum_of;
 use crate::{Answer, QueryError};
-use batch_meaning::Refusal;
+use batch_meaning::QueryRefusal;
 use batch_sound::answers_are_sound;
+use call_chains::chains;
 use call_contexts::{Setting, place_of};
 use domain_laws::{Domain, Steps};
 use imp_syntax::{Location, ProcId};
-use program_table::Checked;
-use selected_chains::chains;
+use imp_table::Checked;
 use std::alloc::Global;
 use std::sync::ledger::Ledger;
 
@@ -41,10 +41,10 @@ fn procedure_of(prog: &Checked, at: &Location) -> Result<ProcId, QueryError>
 ///
 /// # Errors
 ///
-/// [`QueryError::Refused`], for the first of these causes: [`Refusal::LongString`] where the string has
-/// more than two calls, [`Refusal::NoProcedure`] and [`Refusal::NoStatement`] where the program has no
-/// such location, [`Refusal::WrongStatement`] where the head of a statement is asked for that is no
-/// loop, [`Refusal::NoChain`] where no chain ends in the string. [`QueryError::Memory`] for want of
+/// [`QueryError::Refused`], for the first of these causes: [`QueryRefusal::LongString`] where the string has
+/// more than two calls, [`QueryRefusal::NoProcedure`] and [`QueryRefusal::NoStatement`] where the program has no
+/// such location, [`QueryRefusal::WrongStatement`] where the head of a statement is asked for that is no
+/// loop, [`QueryRefusal::NoChain`] where no chain ends in the string. [`QueryError::Memory`] for want of
 /// memory.
 pub fn answer<D: Domain, L: Ledger>(
     alloc: Global,
@@ -67,7 +67,7 @@ pub fn answer<D: Domain, L: Ledger>(
 }
 
 /// The answer at a location of the procedure at a place.
-#[tactic(auto, using(plain_values::proofs::Lists::all_back))]
+#[tactic(auto, using(base_values::proofs::Lists::all_back))]
 fn answer_at<D: Domain, L: Ledger>(
     alloc: Global,
     dom: &D,
@@ -98,7 +98,7 @@ fn answer_exactly<D: Domain, L: Ledger>(
     ensures is { IsAnswer (answer (D.operations dom.now) setting.now.engine (routines_of prog.now) at.now string.now) result }
 {
     if string.len() > 2 {
-        return Err(QueryError::Refused(Refusal::LongString));
+        return Err(QueryError::Refused(QueryRefusal::LongString));
     }
     match procedure_of(prog, at) {
         Err(error) => Err(error),

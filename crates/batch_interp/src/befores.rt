@@ -16,9 +16,9 @@ use crate::claim::Claim;
 use crate::frames::Interpreter;
 use crate::spots::{assumed, behind_node, copy_of, head_from};
 use crate::walks::{Entered, enter};
+use base_values::{Items, Memory};
 use domain_laws::{Domain, Steps, check_of_action};
 use imp_slots::{SlotAction, SlotBlock, SlotCond, SlotNode};
-use plain_values::{Items, Memory};
 use std::alloc::Global;
 use std::sync::ledger::Ledger;
 

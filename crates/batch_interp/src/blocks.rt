@@ -4,17 +4,17 @@ ghost use Rattle.imp_slots.specs.Plain.{Does, DoBreak, Stop, If, While, Call};
 ghost use Rattle.imp_slots.specs.ActionViews.{effect_of};
 ghost use Rattle.imp_slots.specs.BlockViews.{before_code};
 ghost use Rattle.batch_meaning.specs.Values as plain;
-ghost use Rattle.batch_meaning.specs.Batch.{Engine, next_of, head_of, joined};
+ghost use Rattle.batch_meaning.specs.Batch.{LoopOptions, next_of, head_of, joined};
 ghost use Rattle.batch_interp.specs.Answered.{value_of};
-ghost use Rattle.batch_interp.specs.Frames.{marks_at, calls_in, passed};
+ghost use Rattle.batch_interp.specs.Frames.{thresholds_at, calls_in, passed};
 ghost use Rattle.batch_interp.specs.Passing.{states, Ends, IsFixed};
 
 use crate::Answer;
 use crate::frames::Interpreter;
+use base_values::{Items, Memory};
 use domain_laws::{Domain, Steps};
 use imp_slots::{SlotAction, SlotBlock, SlotCall, SlotCond, SlotNode, SlotStmt};
 use imp_syntax::{Chain, StmtId};
-use plain_values::{Items, Memory};
 use std::alloc::Global;
 use std::sync::ledger::Ledger;
 
@@ -64,14 +64,14 @@ fn next_iterate<D: Domain, L: Ledger>(
     end: &D::State,
     steps: &mut Steps<L>,
 ) -> Result<D::State, Memory>
-    ensures value { IfOk result (λ t. t ≡ next_of (D.operations interpreter.now.dom.now) interpreter.now.plan.now.engine (marks_at interpreter.now.plan.now interpreter.now.frame.now.place) k state.now end.now) }
+    ensures value { IfOk result (λ t. t ≡ next_of (D.operations interpreter.now.dom.now) interpreter.now.plan.now.engine (thresholds_at interpreter.now.plan.now interpreter.now.frame.now.place) k state.now end.now) }
 {
     if k < interpreter.plan.delay() {
         interpreter.dom.join(interpreter.alloc, state, end, steps)
     } else {
         interpreter.dom.widen(
             interpreter.alloc,
-            interpreter.plan.marks(interpreter.frame.place),
+            interpreter.plan.thresholds(interpreter.frame.place),
             state,
             end,
             steps,
@@ -87,7 +87,7 @@ pub fn joined_states<D: Domain, L: Ledger>(
     others: &[D::State],
     steps: &mut Steps<L>,
 ) -> Result<D::State, Memory>
-    ensures value { IfOk result (λ t. (e : Engine) → plain.State t ≡ joined (D.operations dom.now) e (plain.State first) (states others.now)) }
+    ensures value { IfOk result (λ t. (e : LoopOptions) → plain.State t ≡ joined (D.operations dom.now) e (plain.State first) (states others.now)) }
 {
     let mut all = first;
     for other in others {
@@ -238,7 +238,7 @@ pub(crate) fn loop_head<D: Domain, L: Ledger>(
     state: &D::State,
     steps: &mut Steps<L>,
 ) -> Result<Fixed<D::State>, Memory>
-    ensures is { IfOk result (IsFixed (D.operations interpreter.now.dom.now) (head_of (D.operations interpreter.now.dom.now) interpreter.now.plan.now.engine (marks_at interpreter.now.plan.now interpreter.now.frame.now.place) interpreter.now.frame.now.sites n cond.now (passed (D.operations interpreter.now.dom.now) interpreter.now.plan.now interpreter.now.frame.now.place interpreter.now.frame.now.sites body.now) (plain.State state.now)) cond.now (passed (D.operations interpreter.now.dom.now) interpreter.now.plan.now interpreter.now.frame.now.place interpreter.now.frame.now.sites body.now)) }
+    ensures is { IfOk result (IsFixed (D.operations interpreter.now.dom.now) (head_of (D.operations interpreter.now.dom.now) interpreter.now.plan.now.engine (thresholds_at interpreter.now.plan.now interpreter.now.frame.now.place) interpreter.now.frame.now.sites n cond.now (passed (D.operations interpreter.now.dom.now) interpreter.now.plan.now interpreter.now.frame.now.place interpreter.now.frame.now.sites body.now) (plain.State state.now)) cond.now (passed (D.operations interpreter.now.dom.now) interpreter.now.plan.now interpreter.now.frame.now.place interpreter.now.frame.now.sites body.now)) }
 {
     let mut now = interpreter.dom.copy(interpreter.alloc, state)?;
     for k in 0..interpreter.plan.budget() {

@@ -6,8 +6,8 @@ ghost use Rattle.batch_interp.specs.Totalling.{first_of, behind_first};
 use crate::frames::Plan;
 use crate::pieces::{append, last_first};
 use crate::walks::{Entered, enter_main};
+use base_values::{Items, Memory};
 use domain_laws::{Domain, Steps};
-use plain_values::{Items, Memory};
 use std::alloc::Global;
 use std::sync::ledger::Ledger;
 

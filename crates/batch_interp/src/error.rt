@@ -2,8 +2,8 @@
 ghost use Rattle.std.specs.Prelude.{◌≡◌};
 ghost use Rattle.batch_interp.specs.declared.error.QueryError.TheVariants.{Memory as of_memory};
 
-use batch_meaning::Refusal;
-use plain_values::Memory;
+use base_values::Memory;
+use batch_meaning::QueryRefusal;
 use thiserror::Error;
 
 /// Why a location has no answer under a call string.
@@ -11,7 +11,7 @@ use thiserror::Error;
 pub enum QueryError {
     /// The program has no such location, or no such chain.
     #[error("the query is refused")]
-    Refused(Refusal),
+    Refused(QueryRefusal),
     /// Want of memory.
     #[error("out of memory")]
     Memory,

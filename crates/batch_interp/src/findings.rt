@@ -1,7 +1,7 @@
 //! Findings from what is known in front of statements.
 ghost use Rattle.std.specs.Prelude.{◌≡◌, ◌++◌, map, Some, option_map, OnOk, IfOk};
 ghost use Rattle.std.specs.Option.{option_copied};
-ghost use Rattle.batch_meaning.specs.Batch.{Engine};
+ghost use Rattle.batch_meaning.specs.Batch.{LoopOptions};
 ghost use Rattle.batch_meaning.specs.Report.{checked_in};
 ghost use Rattle.batch_interp.specs.Answered.{value_of};
 ghost use Rattle.batch_interp.specs.Reporting.{claim_of, claims};
@@ -11,10 +11,10 @@ use crate::Answer;
 use crate::befores::add_claims;
 use crate::claim::Claim;
 use alarm_report::{Found, report};
+use base_values::{Items, Memory};
 use domain_laws::{Domain, Finding};
 use imp_slots::{SlotBlock, SlotStmt};
 use imp_syntax::StmtId;
-use plain_values::{Items, Memory};
 use std::alloc::Global;
 
 /// What is known, as a report asks it.
@@ -44,7 +44,7 @@ fn finding<D: Domain>(
     claim: &Claim,
     known: Option<&Answer<D::State>>,
 ) -> Result<Finding, Memory>
-    ensures is { IfOk result (λ f. (e : Engine) → f ≡ found_from (D.operations dom.now) e (claim_of claim.now) (option_map value_of (option_copied known.entry))) }
+    ensures is { IfOk result (λ f. (e : LoopOptions) → f ≡ found_from (D.operations dom.now) e (claim_of claim.now) (option_map value_of (option_copied known.entry))) }
 {
     let id = StmtId::new(claim.number);
     let stmt = SlotStmt::Simple(claim.action.clone()?);
@@ -59,7 +59,7 @@ fn add_findings<D: Domain>(
     totals: &Items<Answer<D::State>>,
     found: &mut Items<Finding>,
 ) -> Result<(), Memory>
-    ensures added { OnOk result ((e : Engine) → found.new ≡ found.old ++ all_found (D.operations dom.now) e (map claim_of claims.now) (map value_of totals.now)) }
+    ensures added { OnOk result ((e : LoopOptions) → found.new ≡ found.old ++ all_found (D.operations dom.now) e (map claim_of claims.now) (map value_of totals.now)) }
 {
     for (i, claim) in claims.iter().enumerate() {
         found.push(finding(alloc, dom, claim, totals.get(i))?)?;
@@ -75,7 +75,7 @@ pub(crate) fn findings_of<D: Domain>(
     body: &SlotBlock,
     known: &Items<Answer<D::State>>,
 ) -> Result<Items<Finding>, Memory>
-    ensures are { IfOk result (λ fs. (e : Engine) → fs ≡ all_found (D.operations dom.now) e (claims (checked_in body.now)) (map value_of known.now)) }
+    ensures are { IfOk result (λ fs. (e : LoopOptions) → fs ≡ all_found (D.operations dom.now) e (claims (checked_in body.now)) (map value_of known.now)) }
 {
     let mut claims = Items::new(alloc);
     add_claims(body, &mut claims)?;

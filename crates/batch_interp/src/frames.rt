@@ -3,13 +3,13 @@ ghost use Rattle.std.specs.Prelude.{◌≡◌, ◌-◌, ◌∷◌, [], ◌<◌, 
 ghost use Rattle.std.specs.Option.{option_copied};
 ghost use Rattle.imp_check.specs.Slots.{routines_of};
 ghost use Rattle.call_contexts.specs.Settings.{setting_of};
-ghost use Rattle.batch_interp.specs.Frames.{body_at, marks_at};
+ghost use Rattle.batch_interp.specs.Frames.{body_at, thresholds_at};
 
+use base_values::{Items, Memory};
 use call_contexts::Setting;
 use imp_slots::{Routine, SlotBlock};
 use imp_syntax::{Chain, StmtId};
-use plain_values::{Items, Memory};
-use program_table::{Checked, View};
+use imp_table::{Checked, View};
 use std::alloc::Global;
 use std::marker::Model;
 
@@ -23,7 +23,7 @@ pub(crate) struct Plan<'a> {
 impl<'a> Model for Plan<'a> {
     ghost use Rattle.std.specs.Prelude.{◌≡◌, map};
     ghost use Rattle.imp_check.specs.Slots.{routines_of};
-    ghost use Rattle.program_chains.specs.Marks as rising;
+    ghost use Rattle.imp_chains.specs.Thresholds as rising;
     ghost use Rattle.batch_interp.specs.Frames as plain;
 
     ghost Value = { plain.Plan };
@@ -34,12 +34,12 @@ impl<'a> Model for Plan<'a> {
 
     ghost view = { λ a. record { program = routines_of a.prog.now; engine = a.setting.now.engine } };
 
-    ghost invariant = { λ a. a.setting.now.marks ≡ map (rising.marks a.setting.now.engine.widening) (routines_of a.prog.now) };
+    ghost invariant = { λ a. a.setting.now.thresholds ≡ map (rising.thresholds a.setting.now.engine.widening) (routines_of a.prog.now) };
 }
 
 /// The procedure of a block, and the call statements from main to it, the last one first.
 #[derive(Debug, Drop)]
-pub struct Frame {
+pub struct CallFrame {
     /// How many procedures stand in front of it.
     pub place: usize,
     /// The call statements.
@@ -52,7 +52,7 @@ pub(crate) struct Interpreter<'a, D> {
     pub(crate) alloc: Global,
     pub(crate) dom: &'a D,
     pub(crate) plan: &'a Plan<'a>,
-    pub(crate) frame: &'a Frame,
+    pub(crate) frame: &'a CallFrame,
 }
 
 impl<'a> Plan<'a> {
@@ -101,12 +101,12 @@ impl<'a> Plan<'a> {
         self.routines()[place].body()
     }
 
-    /// The marks of a procedure.
-    #[tactic(auto, using(crate::proofs::Marking::marks_there))]
-    pub(crate) fn marks(&self, place: usize) -> &[i64]
-        ensures is { result.now ≡ marks_at self.now place }
+    /// The thresholds of a procedure.
+    #[tactic(auto, using(crate::proofs::ThresholdTables::thresholds_there))]
+    pub(crate) fn thresholds(&self, place: usize) -> &[i64]
+        ensures is { result.now ≡ thresholds_at self.now place }
     {
-        self.setting.marks(place)
+        self.setting.thresholds(place)
     }
 }
 
@@ -123,19 +123,19 @@ impl<'a> Plan<'a> {
     }
 }
 
-impl Frame {
+impl CallFrame {
     /// The frame of main, which stands last.
-    pub fn main(alloc: Global, routines: &[Routine]) -> Frame
+    pub fn main(alloc: Global, routines: &[Routine]) -> CallFrame
         ensures is { result ≡ record { place = length routines.now - 1; sites = [] } }
     {
-        Frame {
+        CallFrame {
             place: routines.len().saturating_sub(1),
             sites: Items::new(alloc),
         }
     }
 
     /// The frame of a procedure that this one calls. It fails for want of memory alone.
-    pub fn callee(&self, alloc: Global, site: u32, place: usize) -> Result<Frame, Memory>
+    pub fn callee(&self, alloc: Global, site: u32, place: usize) -> Result<CallFrame, Memory>
         ensures is { IfOk result (λ f. f ≡ record { place = place; sites = site ∷ self.now.sites }) }
     {
         let mut sites = Items::with_capacity(alloc, 8)?;
@@ -143,7 +143,7 @@ impl Frame {
         for earlier in self.sites.as_slice() {
             sites.push(*earlier)?;
         }
-        Ok(Frame { place, sites })
+        Ok(CallFrame { place, sites })
     }
 
     /// The calls from main, outermost first. It fails for want of memory alone.

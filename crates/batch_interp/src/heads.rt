@@ -3,7 +3,7 @@ ghost use Rattle.std.specs.Prelude.{◌≡◌, ◌<◌, ◌++◌, suc, length, m
 ghost use Rattle.imp_slots.specs.declared.blocks.SlotNode.TheVariants as node;
 ghost use Rattle.imp_check.specs.Slots.{routines_of};
 ghost use Rattle.imp_slots.specs.Fits.{IsChecked};
-ghost use Rattle.program_chains.specs.Chains.{chains};
+ghost use Rattle.imp_chains.specs.Chains.{chains};
 ghost use Rattle.call_contexts.specs.Settings.{setting_of};
 ghost use Rattle.batch_interp.specs.Answered.{value_of};
 ghost use Rattle.cert_meaning.specs.Written.{loops};
@@ -17,19 +17,19 @@ use crate::frames::{Interpreter, Plan};
 use crate::pieces::{append, in_one};
 use crate::spots::{assumed, behind_node, copy_of, head_from};
 use crate::walks::{Entered, enter};
+use base_values::{Items, Memory};
 use call_contexts::{Setting, few_routines};
 use domain_laws::{Domain, Steps};
+use imp_chains::chains_go_through_callers;
 use imp_slots::{SlotBlock, SlotCond, SlotNode};
 use imp_syntax::{Chain, StmtId};
-use plain_values::{Items, Memory};
-use program_chains::chains_go_through_callers;
-use program_table::Checked;
+use imp_table::Checked;
 use std::alloc::Global;
 use std::sync::ledger::Ledger;
 
 /// A loop, and what is known at its head.
 #[derive(Debug, Drop)]
-pub struct Head<S> {
+pub struct LoopHead<S> {
     /// The loop.
     pub stmt: StmtId,
     /// What is known where its condition is tested.
@@ -42,7 +42,7 @@ pub struct LoopsUnder<S> {
     /// The calls from main to the procedure, outermost first.
     pub chain: Chain,
     /// Its loops, in preorder.
-    pub heads: Items<Head<S>>,
+    pub heads: Items<LoopHead<S>>,
 }
 
 /// Adds the loops of a block, in preorder, with what is known at their heads, and the procedures that its
@@ -53,7 +53,7 @@ fn add_heads<D: Domain, L: Ledger>(
     interpreter: &Interpreter<D>,
     block: &SlotBlock,
     before: Answer<D::State>,
-    found: &mut Items<Head<D::State>>,
+    found: &mut Items<LoopHead<D::State>>,
     calls: &mut Items<Entered<D::State>>,
     steps: &mut Steps<L>,
 ) -> Result<(), Memory>
@@ -74,7 +74,7 @@ fn add_heads_in<D: Domain, L: Ledger>(
     interpreter: &Interpreter<D>,
     node: &SlotNode,
     before: &Answer<D::State>,
-    found: &mut Items<Head<D::State>>,
+    found: &mut Items<LoopHead<D::State>>,
     calls: &mut Items<Entered<D::State>>,
     steps: &mut Steps<L>,
 ) -> Result<(), Memory>
@@ -107,7 +107,7 @@ fn add_loop<D: Domain, L: Ledger>(
     cond: &SlotCond,
     body: &SlotBlock,
     before: &Answer<D::State>,
-    found: &mut Items<Head<D::State>>,
+    found: &mut Items<LoopHead<D::State>>,
     calls: &mut Items<Entered<D::State>>,
     steps: &mut Steps<L>,
 ) -> Result<(), Memory>
@@ -117,7 +117,7 @@ fn add_loop<D: Domain, L: Ledger>(
     let value = head_from(interpreter, n, cond, body, before, steps)?;
     let inside = assumed(interpreter, cond, true, &value, steps)?;
     let stmt = StmtId::new(n);
-    found.push(Head { stmt, value })?;
+    found.push(LoopHead { stmt, value })?;
     add_heads(interpreter, body, inside, found, calls, steps)
 }
 

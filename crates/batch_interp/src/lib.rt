@@ -4,7 +4,7 @@
 //! on each statement that has a check. Both are exactly the definitions of `batch_meaning`, and both
 //! describe every run: a state that is answered covers each configuration that stands there, and a
 //! finding of safe or dead holds of all runs. [`loop_heads`] gives what is known at the heads of all loops
-//! under all chains, with all frames. A [`Frame`] and the steps of simple statements, of breaks and of joins serve
+//! under all chains, with all frames. A [`CallFrame`] and the steps of simple statements, of breaks and of joins serve
 //! whatever else goes through blocks as batch interpretation does.
 //!
 //! An answer follows each selected chain from `main`: the statements in front of a call are
@@ -40,7 +40,7 @@ mod walks;
 pub use answering::answer;
 pub use blocks::{behind_action, behind_break, joined_states};
 pub use error::QueryError;
-pub use frames::Frame;
-pub use heads::{Head, LoopsUnder, loop_heads};
+pub use frames::CallFrame;
+pub use heads::{LoopHead, LoopsUnder, loop_heads};
 pub use reporting::batch_report;
 pub use value::Answer;

@@ -2,7 +2,7 @@
 ghost use Rattle.std.specs.Prelude.{◌≡◌, ◌++◌, reverse, OnOk, IfOk};
 ghost use Rattle.batch_interp.specs.Handing.{in_one};
 
-use plain_values::{Items, Memory};
+use base_values::{Items, Memory};
 use std::alloc::Global;
 
 /// The same list with its last item first.

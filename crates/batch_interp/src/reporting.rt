@@ -2,7 +2,7 @@
 ghost use Rattle.std.specs.Prelude.{◌≡◌, ◌<◌, suc, length, map, Contains, IfOk};
 ghost use Rattle.imp_slots.specs.Fits.{IsChecked};
 ghost use Rattle.imp_check.specs.Slots.{routines_of};
-ghost use Rattle.analysis_words.specs.declared.findings.Finding.{Finding};
+ghost use Rattle.imp_words.specs.declared.findings.Finding.{Finding};
 ghost use Rattle.batch_meaning.specs.Report.{report, finding, checked_in};
 ghost use Rattle.batch_sound.specs.Theorem.{IsFindingSound};
 ghost use Rattle.call_contexts.specs.Settings.{setting_of};
@@ -14,12 +14,12 @@ use crate::findings::findings_of;
 use crate::frames::Plan;
 use crate::pieces::{append, in_one};
 use crate::totals::{Summed, totals};
+use base_values::{Items, Memory};
 use batch_sound::reports_are_sound;
 use call_contexts::{Setting, few_routines};
 use domain_laws::{Domain, Finding, Findings, Steps};
-use plain_values::{Items, Memory};
-use program_chains::{chains_go_through_callers, places_are_found};
-use program_table::Checked;
+use imp_chains::{chains_go_through_callers, places_are_found};
+use imp_table::Checked;
 use std::alloc::Global;
 use std::sync::ledger::Ledger;
 

@@ -6,17 +6,17 @@ ghost use Rattle.batch_meaning.specs.Values.{State, lift};
 ghost use Rattle.batch_meaning.specs.Batch.{head_of};
 ghost use Rattle.batch_meaning.specs.Places.{find};
 ghost use Rattle.batch_interp.specs.Answered.{value_of};
-ghost use Rattle.batch_interp.specs.Frames.{marks_at, passed};
+ghost use Rattle.batch_interp.specs.Frames.{thresholds_at, passed};
 ghost use Rattle.batch_interp.specs.Seeking.{places, spot_of, inner_of, holds_inside};
 
 use crate::Answer;
 use crate::blocks::{Fixed, block_answer, loop_head, node_answer};
 use crate::frames::Interpreter;
+use base_values::{Items, Memory};
 use call_contexts::holds;
 use domain_laws::{Domain, Steps};
 use imp_slots::{SlotBlock, SlotCond, SlotNode};
 use imp_syntax::{Chain, StmtId};
-use plain_values::{Items, Memory};
 use std::alloc::Global;
 use std::sync::ledger::Ledger;
 
@@ -120,7 +120,7 @@ fn head_of_state<D: Domain, L: Ledger>(
     state: &D::State,
     steps: &mut Steps<L>,
 ) -> Result<Answer<D::State>, Memory>
-    ensures is { IfOk result (λ a. value_of a ≡ (head_of (D.operations interpreter.now.dom.now) interpreter.now.plan.now.engine (marks_at interpreter.now.plan.now interpreter.now.frame.now.place) interpreter.now.frame.now.sites n cond.now (passed (D.operations interpreter.now.dom.now) interpreter.now.plan.now interpreter.now.frame.now.place interpreter.now.frame.now.sites body.now) (State state.now)).value) }
+    ensures is { IfOk result (λ a. value_of a ≡ (head_of (D.operations interpreter.now.dom.now) interpreter.now.plan.now.engine (thresholds_at interpreter.now.plan.now interpreter.now.frame.now.place) interpreter.now.frame.now.sites n cond.now (passed (D.operations interpreter.now.dom.now) interpreter.now.plan.now interpreter.now.frame.now.place interpreter.now.frame.now.sites body.now) (State state.now)).value) }
 {
     match loop_head(interpreter, n, cond, body, state, steps)? {
         Fixed::At { head, leaving: _ } => Ok(Answer::State(head)),
@@ -137,7 +137,7 @@ pub(crate) fn head_answer<D: Domain, L: Ledger>(
     before: Answer<D::State>,
     steps: &mut Steps<L>,
 ) -> Result<Answer<D::State>, Memory>
-    ensures is { IfOk result (λ a. value_of a ≡ (head_of (D.operations interpreter.now.dom.now) interpreter.now.plan.now.engine (marks_at interpreter.now.plan.now interpreter.now.frame.now.place) interpreter.now.frame.now.sites n cond.now (passed (D.operations interpreter.now.dom.now) interpreter.now.plan.now interpreter.now.frame.now.place interpreter.now.frame.now.sites body.now) (value_of before)).value) }
+    ensures is { IfOk result (λ a. value_of a ≡ (head_of (D.operations interpreter.now.dom.now) interpreter.now.plan.now.engine (thresholds_at interpreter.now.plan.now interpreter.now.frame.now.place) interpreter.now.frame.now.sites n cond.now (passed (D.operations interpreter.now.dom.now) interpreter.now.plan.now interpreter.now.frame.now.place interpreter.now.frame.now.sites body.now) (value_of before)).value) }
 {
     match before {
         Answer::State(state) => head_of_state(interpreter, n, cond, body, &state, steps),
@@ -154,7 +154,7 @@ pub(crate) fn head_from<D: Domain, L: Ledger>(
     before: &Answer<D::State>,
     steps: &mut Steps<L>,
 ) -> Result<Answer<D::State>, Memory>
-    ensures is { IfOk result (λ a. value_of a ≡ (head_of (D.operations interpreter.now.dom.now) interpreter.now.plan.now.engine (marks_at interpreter.now.plan.now interpreter.now.frame.now.place) interpreter.now.frame.now.sites n cond.now (passed (D.operations interpreter.now.dom.now) interpreter.now.plan.now interpreter.now.frame.now.place interpreter.now.frame.now.sites body.now) (value_of before.now)).value) }
+    ensures is { IfOk result (λ a. value_of a ≡ (head_of (D.operations interpreter.now.dom.now) interpreter.now.plan.now.engine (thresholds_at interpreter.now.plan.now interpreter.now.frame.now.place) interpreter.now.frame.now.sites n cond.now (passed (D.operations interpreter.now.dom.now) interpreter.now.plan.now interpreter.now.frame.now.place interpreter.now.frame.now.sites body.now) (value_of before.now)).value) }
 {
     match before {
         Answer::State(state) => head_of_state(interpreter, n, cond, body, state, steps),

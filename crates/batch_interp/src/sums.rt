@@ -4,16 +4,16 @@ ghost use Rattle.batch_meaning.specs.Values as plain;
 ghost use Rattle.batch_meaning.specs.Places.{value_at};
 ghost use Rattle.batch_meaning.specs.Answers.{all_values, sum_of};
 ghost use Rattle.batch_interp.specs.Answered.{value_of, IsAnswer};
-ghost use Rattle.batch_interp.specs.Summing.{added};
+ghost use Rattle.batch_interp.specs.Summing.{sum_with};
 
 use crate::frames::Plan;
 use crate::values::value_at;
 use crate::{Answer, QueryError};
-use batch_meaning::Refusal;
+use base_values::Memory;
+use batch_meaning::QueryRefusal;
 use call_contexts::joined;
 use domain_laws::{Domain, Steps};
 use imp_syntax::{Chain, Location};
-use plain_values::Memory;
 use std::alloc::Global;
 use std::sync::ledger::Ledger;
 
@@ -24,7 +24,7 @@ fn first<D: Domain, L: Ledger>(
     next: Answer<D::State>,
     steps: &mut Steps<L>,
 ) -> Result<Answer<D::State>, Memory>
-    ensures is { IfOk result (λ a. value_of a ≡ added (D.operations dom.now) None (value_of next)) }
+    ensures is { IfOk result (λ a. value_of a ≡ sum_with (D.operations dom.now) None (value_of next)) }
 {
     match next {
         Answer::State(state) => Ok(Answer::State(joined(alloc, dom, None, &state, steps)?)),
@@ -40,7 +40,7 @@ fn behind_state<D: Domain, L: Ledger>(
     next: Answer<D::State>,
     steps: &mut Steps<L>,
 ) -> Result<Answer<D::State>, Memory>
-    ensures is { IfOk result (λ a. value_of a ≡ added (D.operations dom.now) (Some (plain.State before)) (value_of next)) }
+    ensures is { IfOk result (λ a. value_of a ≡ sum_with (D.operations dom.now) (Some (plain.State before)) (value_of next)) }
 {
     match next {
         Answer::State(state) => {
@@ -59,7 +59,7 @@ fn behind<D: Domain, L: Ledger>(
     next: Answer<D::State>,
     steps: &mut Steps<L>,
 ) -> Result<Answer<D::State>, Memory>
-    ensures is { IfOk result (λ a. value_of a ≡ added (D.operations dom.now) (Some (value_of before)) (value_of next)) }
+    ensures is { IfOk result (λ a. value_of a ≡ sum_with (D.operations dom.now) (Some (value_of before)) (value_of next)) }
 {
     match before {
         Answer::State(state) => behind_state(alloc, dom, state, next, steps),
@@ -76,7 +76,7 @@ pub(crate) fn added<D: Domain, L: Ledger>(
     next: Answer<D::State>,
     steps: &mut Steps<L>,
 ) -> Result<Answer<D::State>, Memory>
-    ensures is { IfOk result (λ a. value_of a ≡ added (D.operations dom.now) (option_map value_of so_far) (value_of next)) }
+    ensures is { IfOk result (λ a. value_of a ≡ sum_with (D.operations dom.now) (option_map value_of so_far) (value_of next)) }
 {
     match so_far {
         None => first(alloc, dom, next, steps),
@@ -99,12 +99,12 @@ pub(crate) fn sum_of<D: Domain, L: Ledger>(
     let mut all = None;
     for chain in chains {
         match value_at(alloc, dom, plan, at, chain.sites(), steps)? {
-            None => return Err(QueryError::Refused(Refusal::NoStatement)),
+            None => return Err(QueryError::Refused(QueryRefusal::NoStatement)),
             Some(value) => all = Some(added(alloc, dom, all, value, steps)?),
         }
     }
     match all {
-        None => Err(QueryError::Refused(Refusal::NoChain)),
+        None => Err(QueryError::Refused(QueryRefusal::NoChain)),
         Some(answer) => Ok(answer),
     }
 }

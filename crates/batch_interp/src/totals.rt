@@ -1,13 +1,13 @@
 //! What is known in front of each statement of a procedure that has a check, under all its chains.
 ghost use Rattle.std.specs.Prelude.{◌≡◌, ◌<◌, ◌++◌, ◌∷◌, [], length, map, reverse, IfOk, OnOk};
 ghost use Rattle.imp_slots.specs.Fits.{IsChecked};
-ghost use Rattle.program_chains.specs.Chains.{chains};
+ghost use Rattle.imp_chains.specs.Chains.{chains};
 ghost use Rattle.batch_meaning.specs.Report.{checked_in};
 ghost use Rattle.batch_interp.specs.Answered.{value_of};
 ghost use Rattle.batch_interp.specs.Frames.{body_at};
 ghost use Rattle.batch_interp.specs.Handing.{told_of, calls_from, AreEntered, AreHandedBy};
 ghost use Rattle.batch_interp.specs.Reporting.{befores, claims};
-ghost use Rattle.batch_interp.specs.Summing.{added};
+ghost use Rattle.batch_interp.specs.Summing.{sum_with};
 ghost use Rattle.batch_interp.specs.Totalling.{first_of, behind_first, all_added, AreTotals};
 
 use crate::Answer;
@@ -18,9 +18,9 @@ use crate::pieces::last_first;
 use crate::spots::copy_of;
 use crate::sums::added;
 use crate::walks::Entered;
+use base_values::{Items, Memory};
 use domain_laws::{Domain, Steps};
 use imp_slots::SlotBlock;
-use plain_values::{Items, Memory};
 use std::alloc::Global;
 use std::sync::ledger::Ledger;
 
@@ -69,7 +69,7 @@ fn add_total<D: Domain, L: Ledger>(
     steps: &mut Steps<L>,
 ) -> Result<(), Memory>
     ensures rest { OnOk result (behind_first (map value_of (reverse so_far.old)) ≡ map value_of (reverse so_far.new)) }
-    ensures added { OnOk result (map value_of all.new ≡ map value_of all.old ++ added (D.operations dom.now) (first_of (map value_of (reverse so_far.old))) (value_of next) ∷ []) }
+    ensures added { OnOk result (map value_of all.new ≡ map value_of all.old ++ sum_with (D.operations dom.now) (first_of (map value_of (reverse so_far.old))) (value_of next) ∷ []) }
 {
     let total = added(alloc, dom, so_far.pop(), next, steps)?;
     all.push(total)

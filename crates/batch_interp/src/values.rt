@@ -10,10 +10,10 @@ use crate::Answer;
 use crate::frames::{Interpreter, Plan};
 use crate::spots::{Seen, behind_block, behind_node, head_answer, seek};
 use crate::walks::{Entered, enter_chain};
+use base_values::{Memory, Text};
 use domain_laws::{Domain, Steps};
 use imp_slots::{Routine, SlotBlock, SlotNode};
 use imp_syntax::{Location, StmtId};
-use plain_values::{Memory, Text};
 use std::alloc::Global;
 use std::sync::ledger::Ledger;
 

@@ -8,19 +8,19 @@ ghost use Rattle.batch_interp.specs.Handing.{told_of};
 ghost use Rattle.batch_interp.specs.Walking.{entered_of, IsEntered, called_from};
 
 use crate::Answer;
-use crate::frames::{Frame, Interpreter, Plan};
+use crate::frames::{CallFrame, Interpreter, Plan};
 use crate::spots::{Seen, copy_of_chain, seek};
+use base_values::Memory;
 use domain_laws::{Domain, Steps};
 use imp_slots::{SlotCall, SlotNode};
 use imp_syntax::StmtId;
-use plain_values::Memory;
 use std::alloc::Global;
 use std::sync::ledger::Ledger;
 
 /// A procedure that is entered, and what is known in front of its body.
 #[derive(Drop)]
 pub(crate) struct Entered<S> {
-    pub(crate) frame: Frame,
+    pub(crate) frame: CallFrame,
     pub(crate) before: Answer<S>,
 }
 
@@ -37,7 +37,7 @@ pub(crate) fn enter_main<D: Domain, L: Ledger>(
     ensures main { IfOk result (λ e. e.frame ≡ record { place = length plan.now.program - 1; sites = [] }) }
 {
     let routines = plan.routines();
-    let frame = Frame::main(alloc, routines);
+    let frame = CallFrame::main(alloc, routines);
     let state = dom.init(alloc, routines[frame.place].layout(), steps)?;
     Ok(Entered {
         frame,

@@ -1,14 +1,14 @@
 -- The statements of a block and what is known at them.
 use Rattle.std.specs.Prelude.{◌≡◌, ◌≢◌, ℕ, ℤ, List, [], ◌∷◌, slice_get, Some, if◌then◌else◌, ◌++◌, Option, None, true}
 use Rattle.std.proofs.Common.{refl, sym, ap, subst}
-use Rattle.plain_values.proofs.Cases.{by_test}
-use Rattle.plain_values.proofs.Members.{Member, here, there, in_left, in_right, Each, none_there, each_more, each_both, each_as, keys, keys_both}
+use Rattle.base_values.proofs.Cases.{by_test}
+use Rattle.base_values.proofs.Members.{Member, here, there, in_left, in_right, Each, none_there, each_more, each_both, each_as, keys, keys_both}
 use Rattle.imp_slots.specs.Plain.{Layout, Invoke, Code, Stop, Simple, If, While, Call, Break, Routine, code_numbers}
 use Rattle.imp_slots.specs.Fits.{FitsCall, FitsCode, Absent, Distinct}
-use Rattle.program_chains.specs.Chains.{calls_to, has}
+use Rattle.imp_chains.specs.Chains.{calls_to, has}
 use Rattle.domain_laws.specs.Operations.{Operations}
 use Rattle.batch_meaning.specs.Values.{Value}
-use Rattle.batch_meaning.specs.Batch.{Engine}
+use Rattle.batch_meaning.specs.Batch.{LoopOptions}
 use Rattle.batch_meaning.specs.Places.{Spot, spots, find}
 use Rattle.std.proofs.lemmas.Option.{same_Some}
 
@@ -31,9 +31,9 @@ found_member {A} n x (y ∷ xs) e =
     (λ k e. let i : y.1 ≡ x = cc in subst (λ (v : A). Member (n, v) (y ∷ xs)) i (subst (λ (j : ℕ). Member (j, y.1) (y ∷ xs)) (sym k) here))
     (λ k e. there (found_member n x xs e))) e
 
-module _ {S : Type 0} (dom : Operations S) (engine : Engine) (marks : List ℤ) (z : List ℕ) (calls : ℕ → ℕ → Value S → Value S) where
+module _ {S : Type 0} (dom : Operations S) (engine : LoopOptions) (thresholds : List ℤ) (z : List ℕ) (calls : ℕ → ℕ → Value S → Value S) where
   abbrev all : Code → Value S → List (ℕ × Spot S)
-  all = spots dom engine marks z calls
+  all = spots dom engine thresholds z calls
 
   pub keys_numbers : (c : Code) (a : Value S) → keys (all c a) ≡ code_numbers c
   keys_numbers Stop a = refl

@@ -2,14 +2,14 @@
 use Rattle.std.specs.Prelude.{◌≡◌, ℕ, ◌<◌, ◌≤◌, ◌==◌, List, [], ◌∷◌, ◌++◌, length, reverse, slice_get, Option, Some, None, if◌then◌else◌}
 use Rattle.std.proofs.Common.{refl, sym, ap, ◌∙◌, arith, subst, append-nil, append_assoc}
 use Rattle.std.proofs.lemmas.List.{reverse-append, reverse-reverse, length-reverse}
-use Rattle.plain_values.proofs.Cases.{by_test}
-use Rattle.plain_values.proofs.Lists.{get_last, get_other}
+use Rattle.base_values.proofs.Cases.{by_test}
+use Rattle.base_values.proofs.Lists.{get_last, get_other}
 use Rattle.imp_slots.specs.Plain.{Routine}
 use Rattle.imp_slots.specs.Fits.{FitsCode, FitInTurn, IsChecked}
-use Rattle.program_chains.specs.Marks.{marks}
+use Rattle.imp_chains.specs.Thresholds.{thresholds}
 use Rattle.domain_laws.specs.Operations.{Operations}
 use Rattle.batch_meaning.specs.Values.{Value}
-use Rattle.batch_meaning.specs.Batch.{Engine, batch, procedure, calls_of}
+use Rattle.batch_meaning.specs.Batch.{LoopOptions, batch, procedure, calls_of}
 use Rattle.batch_meaning.specs.Places.{from}
 use Rattle.std.proofs.lemmas.Option.{same_Some}
 
@@ -92,18 +92,18 @@ turned before (r ∷ rs) f b =
 pub fit_back : (program : List Routine) → IsChecked program → FitBack (reverse program)
 fit_back program c = turned [] program c.fit tt
 
-module _ {S : Type 0} (dom : Operations S) (engine : Engine) where
+module _ {S : Type 0} (dom : Operations S) (engine : LoopOptions) where
   value_of : List Routine → List ℕ → Value S → Value S
   value_of [] z a = a
-  value_of (r ∷ earlier) z a = (batch dom engine (marks engine.widening r) z (calls_of dom engine earlier z) r.code a).value
+  value_of (r ∷ earlier) z a = (batch dom engine (thresholds engine.widening r) z (calls_of dom engine earlier z) r.code a).value
 
-  same_procedure : (z : List ℕ) (a : Value S) (b r : Routine) (ps earlier : List Routine) → b ∷ ps ≡ r ∷ earlier → (batch dom engine (marks engine.widening b) z (calls_of dom engine ps z) b.code a).value ≡ (batch dom engine (marks engine.widening r) z (calls_of dom engine earlier z) r.code a).value
+  same_procedure : (z : List ℕ) (a : Value S) (b r : Routine) (ps earlier : List Routine) → b ∷ ps ≡ r ∷ earlier → (batch dom engine (thresholds engine.widening b) z (calls_of dom engine ps z) b.code a).value ≡ (batch dom engine (thresholds engine.widening r) z (calls_of dom engine earlier z) r.code a).value
   unfolding value_of
   same_procedure z a b r ps earlier e = ap (λ x. value_of x z a) e
 
-  pub procedure_from : (ps : List Routine) (z : List ℕ) (q : ℕ) (a : Value S) (r : Routine) (earlier : List Routine) → from ps q ≡ r ∷ earlier → procedure dom engine ps z q a ≡ (batch dom engine (marks engine.widening r) z (calls_of dom engine earlier z) r.code a).value
+  pub procedure_from : (ps : List Routine) (z : List ℕ) (q : ℕ) (a : Value S) (r : Routine) (earlier : List Routine) → from ps q ≡ r ∷ earlier → procedure dom engine ps z q a ≡ (batch dom engine (thresholds engine.widening r) z (calls_of dom engine earlier z) r.code a).value
   procedure_from [] z q a r earlier e = absurd cc
   procedure_from (b ∷ ps) z q a r earlier e =
-      (by_test q (length ps) (λ c. (if c then b ∷ ps else from ps q) ≡ r ∷ earlier → (if c then (batch dom engine (marks engine.widening b) z (calls_of dom engine ps z) b.code a).value else procedure dom engine ps z q a) ≡ (batch dom engine (marks engine.widening r) z (calls_of dom engine earlier z) r.code a).value)
+      (by_test q (length ps) (λ c. (if c then b ∷ ps else from ps q) ≡ r ∷ earlier → (if c then (batch dom engine (thresholds engine.widening b) z (calls_of dom engine ps z) b.code a).value else procedure dom engine ps z q a) ≡ (batch dom engine (thresholds engine.widening r) z (calls_of dom engine earlier z) r.code a).value)
       (λ k e. same_procedure z a b r ps earlier e)
       (λ k e. procedure_from ps z q a r earlier e)) e

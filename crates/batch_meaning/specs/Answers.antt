@@ -3,24 +3,24 @@ use Rattle.std.specs.Prelude.{ℕ, nat_lt, List, [], ◌∷◌, length, map, Opt
 use Rattle.imp_syntax.specs.declared.edit.Location.{Location}
 use Rattle.imp_syntax.specs.declared.edit.Location.TheVariants.{Before, After, Head, End}
 use Rattle.imp_slots.specs.Plain.{Routine}
-use Rattle.program_chains.specs.Chains.{selected, holder, named, is_while}
+use Rattle.imp_chains.specs.Chains.{selected, holder, named, is_while}
 use Rattle.domain_laws.specs.Operations.{Operations}
 use Rattle.batch_meaning.specs.Values.{Value, lift}
-use Rattle.batch_meaning.specs.Batch.{Engine, joined}
+use Rattle.batch_meaning.specs.Batch.{LoopOptions, joined}
 use Rattle.batch_meaning.specs.Places.{if_some, value_at}
-use Rattle.analysis_words.specs.declared.refusal.Refusal.{Refusal}
-use Rattle.analysis_words.specs.declared.refusal.Refusal.TheVariants.{LongString, NoProcedure, NoStatement, WrongStatement, NoChain}
+use Rattle.imp_words.specs.declared.refusal.QueryRefusal.{QueryRefusal}
+use Rattle.imp_words.specs.declared.refusal.QueryRefusal.TheVariants.{LongString, NoProcedure, NoStatement, WrongStatement, NoChain}
 
 pub data Answer (S : Type 0) : Type 0 where
-  Refuses : Refusal → Answer S
+  Refuses : QueryRefusal → Answer S
   Answers : Value S → Answer S
 
 -- The procedure of a location, or why the program has no such location.
 pub data Found : Type 0 where
   In : (p : ℕ) → Found
-  Misses : Refusal → Found
+  Misses : QueryRefusal → Found
 
-abbrev pub found_or : Refusal → Option ℕ → Found
+abbrev pub found_or : QueryRefusal → Option ℕ → Found
 found_or r None = Misses r
 found_or r (Some p) = In p
 
@@ -35,7 +35,7 @@ procedure_of program (After n) = found_or NoStatement (holder n program)
 procedure_of program (Head n) = found_loop (is_while n program) (found_or NoStatement (holder n program))
 procedure_of program (End x) = found_or NoProcedure (named x program)
 
-module _ {S : Type 0} (dom : Operations S) (engine : Engine) where
+module _ {S : Type 0} (dom : Operations S) (engine : LoopOptions) where
   -- the values of these chains, where each has one
   abbrev pub all_values : (List ℕ → Option (Value S)) → List (List ℕ) → Option (List (Value S))
   all_values f [] = Some []

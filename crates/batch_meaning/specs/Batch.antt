@@ -1,13 +1,13 @@
 -- Batch interpretation: the value behind a block from the value in front of it, by recursion on the syntax.
 use Rattle.std.specs.Prelude.{ℕ, zero, suc, nat_lt, ◌==◌, ℤ, List, [], ◌∷◌, ◌++◌, length, true, false, if◌then◌else◌}
 use Rattle.imp_slots.specs.Plain.{Guard, DoBreak, Does, Code, Stop, Simple, If, While, Call, Break, Routine}
-use Rattle.program_chains.specs.declared.widening.Widening.{Widening}
-use Rattle.program_chains.specs.Marks.{marks}
+use Rattle.imp_chains.specs.declared.widening.Widening.{Widening}
+use Rattle.imp_chains.specs.Thresholds.{thresholds}
 use Rattle.domain_laws.specs.Operations.{Operations}
 use Rattle.batch_meaning.specs.Values.{Value, State, Over, lift, lift2}
 
 -- How many rounds a loop may take, and how its iterates are made.
-pub record Engine : Type 0 where
+pub record LoopOptions : Type 0 where
   pub budget : ℕ
   pub widening : Widening
 
@@ -22,13 +22,13 @@ pub record Fixed (S : Type 0) : Type 0 where
   pub index : ℕ
 
 -- these values leave before the others
-abbrev pub after : {S : Type 0} → List (Value S) → Passed S → Passed S
-after xs r = record { value = r.value; leaving = xs ++ r.leaving }
+abbrev pub with_leaving : {S : Type 0} → List (Value S) → Passed S → Passed S
+with_leaving xs r = record { value = r.value; leaving = xs ++ r.leaving }
 
-module _ {S : Type 0} (dom : Operations S) (engine : Engine) where
+module _ {S : Type 0} (dom : Operations S) (engine : LoopOptions) where
   -- the next iterate behind the k-th: joined below the delay, else widened
   abbrev pub next_of : List ℤ → (k : ℕ) → S → S → S
-  next_of marks k s t = if nat_lt k engine.widening.delay then dom.join s t else dom.widen marks s t
+  next_of thresholds k s t = if nat_lt k engine.widening.delay then dom.join s t else dom.widen thresholds s t
 
   -- the state s is the k-th iterate and the value behind it the next: Over, equal, or to be gone on with
   abbrev pub settle : (k : ℕ) → S → Value S → (S → Fixed S) → Fixed S
@@ -38,12 +38,12 @@ module _ {S : Type 0} (dom : Operations S) (engine : Engine) where
   -- The iterates from the k-th on, which is the state s, with so many rounds left; `body` is what a round makes of the
   -- value at the head, `over` the loop's Over.
   abbrev pub iterate : List ℤ → (body : Value S → Value S) → (over : Value S) → (left k : ℕ) → S → Fixed S
-  iterate marks body over zero k s = record { value = over; index = 0 }
-  iterate marks body over (suc left) k s = settle k s (lift (next_of marks k s) (body (State s))) (iterate marks body over left (suc k))
+  iterate thresholds body over zero k s = record { value = over; index = 0 }
+  iterate thresholds body over (suc left) k s = settle k s (lift (next_of thresholds k s) (body (State s))) (iterate thresholds body over left (suc k))
 
   abbrev pub fix : List ℤ → (body : Value S → Value S) → (over : Value S) → Value S → Fixed S
-  fix marks body over (State s) = iterate marks body over engine.budget 0 s
-  fix marks body over (Over n z) = record { value = Over n z; index = 0 }
+  fix thresholds body over (State s) = iterate thresholds body over engine.budget 0 s
+  fix thresholds body over (Over n z) = record { value = Over n z; index = 0 }
 
   abbrev pub joined : Value S → List (Value S) → Value S
   joined v [] = v
@@ -51,32 +51,32 @@ module _ {S : Type 0} (dom : Operations S) (engine : Engine) where
 
   -- what the iterates of loop n come to under the call sites z, from the value in front of it
   abbrev pub head_of : List ℤ → (z : List ℕ) → (n : ℕ) → Guard → (Value S → Passed S) → Value S → Fixed S
-  head_of marks z n g body a = fix marks (λ x. (body (lift (dom.assume g true) x)).value) (Over n z) a
+  head_of thresholds z n g body a = fix thresholds (λ x. (body (lift (dom.assume g true) x)).value) (Over n z) a
 
   -- the value behind a loop, from that at its head: where the guard is false, and where breaks leave it
   abbrev pub behind : Guard → (Value S → Passed S) → Value S → Value S
   behind g body v = joined (lift (dom.assume g false) v) (body (lift (dom.assume g true) v)).leaving
 
-  -- A block of a procedure with these marks under the call sites z, from the value in front of it; `calls` gives what is
+  -- A block of a procedure with these thresholds under the call sites z, from the value in front of it; `calls` gives what is
   -- behind the body of the procedure that a statement calls.
-  module _ (marks : List ℤ) (z : List ℕ) (calls : (n q : ℕ) → Value S → Value S) where
+  module _ (thresholds : List ℤ) (z : List ℕ) (calls : (n q : ℕ) → Value S → Value S) where
     abbrev pub batch : Code → Value S → Passed S
     batch Stop a = record { value = a; leaving = [] }
     batch (Simple n e r) a = batch r (lift (dom.post (Does e)) a)
     batch (If n g t e r) a =
         let x = batch t (lift (dom.assume g true) a) in
         let y = batch e (lift (dom.assume g false) a) in
-        after (x.leaving ++ y.leaving) (batch r (lift2 dom.join x.value y.value))
-    batch (While n g b r) a = batch r (behind g (batch b) (head_of marks z n g (batch b) a).value)
+        with_leaving (x.leaving ++ y.leaving) (batch r (lift2 dom.join x.value y.value))
+    batch (While n g b r) a = batch r (behind g (batch b) (head_of thresholds z n g (batch b) a).value)
     batch (Call n i q r) a = batch r (lift2 (dom.leave i.returning) a (calls n q (lift (dom.enter i.entering) a)))
-    batch (Break n r) a = after (a ∷ []) (batch r (lift (dom.post DoBreak) a))
+    batch (Break n r) a = with_leaving (a ∷ []) (batch r (lift (dom.post DoBreak) a))
 
   -- The value behind procedure q's body, from the value in front of it. The procedures have the last one first, so those
   -- that one calls stand behind it.
   abbrev pub procedure : List Routine → (z : List ℕ) → (q : ℕ) → Value S → Value S
   procedure [] z q a = a
   procedure (r ∷ earlier) z q a =
-      if q == length earlier then (batch (marks engine.widening r) z (λ n. procedure earlier (n ∷ z)) r.code a).value else procedure earlier z q a
+      if q == length earlier then (batch (thresholds engine.widening r) z (λ n. procedure earlier (n ∷ z)) r.code a).value else procedure earlier z q a
 
   -- the calls of a procedure that these stand before
   abbrev pub calls_of : List Routine → (z : List ℕ) → (n q : ℕ) → Value S → Value S

@@ -4,10 +4,10 @@ use Rattle.std.specs.Str.{bytes_eq}
 use Rattle.imp_syntax.specs.declared.edit.Location.{Location}
 use Rattle.imp_syntax.specs.declared.edit.Location.TheVariants.{Before, After, Head, End}
 use Rattle.imp_slots.specs.Plain.{Layout, DoBreak, Does, Invoke, Code, Stop, Simple, If, While, Call, Break, Routine}
-use Rattle.program_chains.specs.Marks.{marks}
+use Rattle.imp_chains.specs.Thresholds.{thresholds}
 use Rattle.domain_laws.specs.Operations.{Operations}
 use Rattle.batch_meaning.specs.Values.{Value, State, lift, lift2}
-use Rattle.batch_meaning.specs.Batch.{Engine, Fixed, head_of, behind, batch, calls_of}
+use Rattle.batch_meaning.specs.Batch.{LoopOptions, Fixed, head_of, behind, batch, calls_of}
 
 -- What is known at a statement: the value in front of it, at its head where it is a loop, behind it; and its call.
 pub record Spot (S : Type 0) : Type 0 where
@@ -45,8 +45,8 @@ abbrev pub main_layout : List Routine → Layout
 main_layout [] = record { numbers = []; links = [] }
 main_layout (r ∷ earlier) = r.layout
 
-module _ {S : Type 0} (dom : Operations S) (engine : Engine) where
-  module _ (marks : List ℤ) (z : List ℕ) (calls : (n q : ℕ) → Value S → Value S) where
+module _ {S : Type 0} (dom : Operations S) (engine : LoopOptions) where
+  module _ (thresholds : List ℤ) (z : List ℕ) (calls : (n q : ℕ) → Value S → Value S) where
     -- The statements of a block, by their numbers, with what is known at them. A loop's body is taken from the value at
     -- its head.
     abbrev pub spots : Code → Value S → List (ℕ × Spot S)
@@ -55,11 +55,11 @@ module _ {S : Type 0} (dom : Operations S) (engine : Engine) where
     spots (If n g t e r) a =
         let at = lift (dom.assume g true) a in
         let ae = lift (dom.assume g false) a in
-        let x = lift2 dom.join (batch dom engine marks z calls t at).value (batch dom engine marks z calls e ae).value in
+        let x = lift2 dom.join (batch dom engine thresholds z calls t at).value (batch dom engine thresholds z calls e ae).value in
         (n, spot a None x None) ∷ (spots t at ++ (spots e ae ++ spots r x))
     spots (While n g b r) a =
-        let head = head_of dom engine marks z n g (batch dom engine marks z calls b) a in
-        let x = behind dom engine g (batch dom engine marks z calls b) head.value in
+        let head = head_of dom engine thresholds z n g (batch dom engine thresholds z calls b) a in
+        let x = behind dom engine g (batch dom engine thresholds z calls b) head.value in
         (n, spot a (Some head) x None) ∷ (spots b (lift (dom.assume g true) head.value) ++ spots r x)
     spots (Call n i q r) a =
         let x = lift2 (dom.leave i.returning) a (calls n q (lift (dom.enter i.entering) a)) in
@@ -69,12 +69,12 @@ module _ {S : Type 0} (dom : Operations S) (engine : Engine) where
   -- Of these procedures, the last one first, what is known in the last, from the value in front of its body.
   abbrev pub spots_in : List Routine → (z : List ℕ) → Value S → List (ℕ × Spot S)
   spots_in [] z a = []
-  spots_in (r ∷ earlier) z a = spots (marks engine.widening r) z (calls_of dom engine earlier z) r.code a
+  spots_in (r ∷ earlier) z a = spots (thresholds engine.widening r) z (calls_of dom engine earlier z) r.code a
 
   -- behind the last one's body, if that is its name
   abbrev pub end_of : List Routine → (z : List ℕ) → Value S → (name : List ℕ) → Option (Value S)
   end_of [] z a name = None
-  end_of (r ∷ earlier) z a name = if bytes_eq name r.name then Some (batch dom engine (marks engine.widening r) z (calls_of dom engine earlier z) r.code a).value else None
+  end_of (r ∷ earlier) z a name = if bytes_eq name r.name then Some (batch dom engine (thresholds engine.widening r) z (calls_of dom engine earlier z) r.code a).value else None
 
   -- the value at a location there
   abbrev pub value_in : List Routine → (z : List ℕ) → Value S → Location → Option (Value S)

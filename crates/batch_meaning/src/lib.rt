@@ -3,7 +3,7 @@
 //! The value behind a block comes from the value in front of it by recursion on the syntax: `batch` of
 //! `specs/Batch.antt` gives it with the values in front of the breaks that leave the loop around it. A
 //! *value* is a state, or the loop that used up its budget. A loop's head is what its *iterates* come
-//! to: joined below the delay, then widened with the procedure's marks, until two are equal; with it
+//! to: joined below the delay, then widened with the procedure's thresholds, until two are equal; with it
 //! comes the index of that iterate. `spots` of `specs/Places.antt` gives the values at all statements of
 //! a procedure in one pass, `value_at` the value at a location under a chain. The *answer* at a location
 //! under a call string joins those of the selected chains, each shed (`specs/Answers.antt`), and the
@@ -13,4 +13,4 @@
 //! them.
 #![tactic(auto)]
 
-pub use analysis_words::Refusal;
+pub use imp_words::QueryRefusal;

@@ -11,20 +11,20 @@ use Rattle.concrete_sem.specs.Values.{Variables, Heap}
 use Rattle.concrete_sem.specs.Steps.{Work, Do, Frame, In}
 use Rattle.concrete_sem.specs.Reach.{location_of, sites}
 use Rattle.concrete_sem.specs.Proper.{IsProper}
-use Rattle.program_chains.specs.Chains.{chains, ends_in, selected, holder, named, is_while}
-use Rattle.program_chains.specs.Marks.{marks}
-use Rattle.program_chains.specs.Claims.{PlacesAreFound}
+use Rattle.imp_chains.specs.Chains.{chains, ends_in, selected, holder, named, is_while}
+use Rattle.imp_chains.specs.Thresholds.{thresholds}
+use Rattle.imp_chains.specs.Claims.{PlacesAreFound}
 use Rattle.domain_laws.specs.Operations.{Operations}
 use Rattle.domain_laws.specs.Laws.{Laws}
-use Rattle.analysis_words.specs.declared.refusal.Refusal.{Refusal}
-use Rattle.analysis_words.specs.declared.refusal.Refusal.TheVariants.{LongString, NoProcedure, NoStatement, NoChain}
+use Rattle.imp_words.specs.declared.refusal.QueryRefusal.{QueryRefusal}
+use Rattle.imp_words.specs.declared.refusal.QueryRefusal.TheVariants.{LongString, NoProcedure, NoStatement, NoChain}
 use Rattle.batch_meaning.specs.Values.{Value, State, lift}
-use Rattle.batch_meaning.specs.Batch.{Engine, calls_of}
+use Rattle.batch_meaning.specs.Batch.{LoopOptions, calls_of}
 use Rattle.batch_meaning.specs.Places.{Spot, spots, find, from, main_layout, if_some, head_value, value_in, entered, entry, value_at}
 use Rattle.batch_meaning.specs.Answers.{Refuses, Answers, Found, In as Belongs, Misses, found_or, found_loop, procedure_of, all_values, summed, sum_of, answer_in, answer}
 use Rattle.batch_sound.proofs.Values.{Says, Fit, fit_enter, fit_shed, says_shed, EachFit, Below, EachBelow, fit_joined, joined_first, joined_each}
 use Rattle.batch_meaning.proofs.Procedures.{look_get, fit_back}
-use Rattle.plain_values.proofs.Members.{Member, here, there, Each, each_more, none_there}
+use Rattle.base_values.proofs.Members.{Member, here, there, Each, each_more, none_there}
 use Rattle.batch_meaning.proofs.Places.{found_member}
 use Rattle.batch_sound.proofs.Chains.{in_selected}
 use Rattle.batch_sound.proofs.Fitting.{SpotFit, spots_fit, block_fit, procedure_fit, entered_fit}
@@ -42,7 +42,7 @@ pub then_inv : {A B : Type 0} (o : Option A) (f : A → Option B) (b : B) → if
 then_inv None f b e = absurd cc
 then_inv (Some a) f b e = record { value = a; was = refl; gives = e }
 
-module _ {S : Type 0} (dom : Operations S) (engine : Engine) (covers : S → Heap → List Variables → Type 0) (laws : Laws dom covers) (keeps : Kept) (program : List Routine) (checked : IsChecked program) (places : PlacesAreFound) where
+module _ {S : Type 0} (dom : Operations S) (engine : LoopOptions) (covers : S → Heap → List Variables → Type 0) (laws : Laws dom covers) (keeps : Kept) (program : List Routine) (checked : IsChecked program) (places : PlacesAreFound) where
   abbrev Yes : Value S → Heap → List Variables → Type 0
   Yes = Says dom engine covers laws
 
@@ -70,19 +70,19 @@ module _ {S : Type 0} (dom : Operations S) (engine : Engine) (covers : S → Hea
 
   abbrev SpotFine : (z : List ℕ) (r : Routine) (earlier : List Routine) (v : Value S) (x : Entry (r ∷ earlier) v) → ℕ × Spot S → Type 0
   SpotFine z r earlier v x =
-      SpotFit dom engine covers laws (marks engine.widening r) (keeps.rises engine.widening (reverse earlier) r x.seen.checked.0) z (calls_of dom engine earlier z) (reverse earlier) r.layout x.below
+      SpotFit dom engine covers laws (thresholds engine.widening r) (keeps.rises engine.widening (reverse earlier) r x.seen.checked.0) z (calls_of dom engine earlier z) (reverse earlier) r.layout x.below
       (λ n q c v g f. procedure_fit dom engine covers laws keeps.rises earlier (n ∷ z) q c (r.layout ∷ x.below) v (look_get earlier q ∙ g) x.seen.checked.1 f)
 
-  spot_fine : (z : List ℕ) (r : Routine) (earlier : List Routine) (v : Value S) (x : Entry (r ∷ earlier) v) (n : ℕ) (s : Spot S) → find n (spots dom engine (marks engine.widening r) z (calls_of dom engine earlier z) r.code v) ≡ Some s → SpotFine z r earlier v x (n, s)
+  spot_fine : (z : List ℕ) (r : Routine) (earlier : List Routine) (v : Value S) (x : Entry (r ∷ earlier) v) (n : ℕ) (s : Spot S) → find n (spots dom engine (thresholds engine.widening r) z (calls_of dom engine earlier z) r.code v) ≡ Some s → SpotFine z r earlier v x (n, s)
   spot_fine z r earlier v x n s e =
-      (spots_fit dom engine covers laws (marks engine.widening r) (keeps.rises engine.widening (reverse earlier) r x.seen.checked.0) z (calls_of dom engine earlier z) (reverse earlier) r.layout x.below
+      (spots_fit dom engine covers laws (thresholds engine.widening r) (keeps.rises engine.widening (reverse earlier) r x.seen.checked.0) z (calls_of dom engine earlier z) (reverse earlier) r.layout x.below
       (λ n q c v g f. procedure_fit dom engine covers laws keeps.rises earlier (n ∷ z) q c (r.layout ∷ x.below) v (look_get earlier q ∙ g) x.seen.checked.1 f)
       r.code v x.seen.checked.0 (x.fine r earlier refl)).at (n, s) (found_member n s _ e)
 
   entered_entry : (n : ℕ) (z : List ℕ) (list : List Routine) (v : Value S) → Entry list v → (t : List Routine × Value S) → entered dom engine n z (list, v) ≡ Some t → Entry t.0 t.1
   entered_entry n z [] v x t g = absurd cc
   entered_entry n z (r ∷ earlier) v x t g =
-      let s = then_inv (find n (spots dom engine (marks engine.widening r) z (calls_of dom engine earlier z) r.code v)) (λ s. if_some s.call (λ k. Some (from earlier k.1, lift (dom.enter k.0.entering) s.before))) t g in
+      let s = then_inv (find n (spots dom engine (thresholds engine.widening r) z (calls_of dom engine earlier z) r.code v)) (λ s. if_some s.call (λ k. Some (from earlier k.1, lift (dom.enter k.0.entering) s.before))) t g in
       let u = then_inv s.value.call (λ k. Some (from earlier k.1, lift (dom.enter k.0.entering) s.value.before)) t s.gives in
       let f = spot_fine z r earlier v x n s.value s.was in
       go s.value u.value u.was f t u.gives
@@ -118,7 +118,7 @@ module _ {S : Type 0} (dom : Operations S) (engine : Engine) (covers : S → Hea
     get_here = place_get dom engine covers laws keeps program checked places here_place x.seen
 
     abbrev List_here : List (ℕ × Spot S)
-    List_here = spots dom engine (marks engine.widening r) z (calls_of dom engine earlier z) r.code v
+    List_here = spots dom engine (thresholds engine.widening r) z (calls_of dom engine earlier z) r.code v
 
     holds_here : (n : ℕ) (s : Spot S) → find n List_here ≡ Some s → holder n program ≡ Some (length earlier)
     unfolding here_place
@@ -142,11 +142,11 @@ module _ {S : Type 0} (dom : Operations S) (engine : Engine) (covers : S → Hea
         let k : named name program ≡ Some (length earlier) = ap (λ y. named y program) (d refl) ∙ (places program checked (length earlier) r get_here).name in
         at_own p u (same_Some _ _ (sym h ∙ k)) (subst (λ y. Fine y (r.layout ∷ x.below)) (same_Some w u g) f)
 
-    holder_of : (o : Option ℕ) (e : Refusal) (p : ℕ) → found_or e o ≡ Belongs p → o ≡ Some p
+    holder_of : (o : Option ℕ) (e : QueryRefusal) (p : ℕ) → found_or e o ≡ Belongs p → o ≡ Some p
     holder_of None e p g = absurd cc
     holder_of (Some q) e p g = cc
 
-    loop_of : (b : Bool) (o : Option ℕ) (e : Refusal) (p : ℕ) → found_loop b (found_or e o) ≡ Belongs p → o ≡ Some p
+    loop_of : (b : Bool) (o : Option ℕ) (e : QueryRefusal) (p : ℕ) → found_loop b (found_or e o) ≡ Belongs p → o ≡ Some p
     loop_of b None e p g = absurd cc
     loop_of true (Some q) e p g = cc
     loop_of false (Some q) e p g = absurd cc
@@ -157,7 +157,7 @@ module _ {S : Type 0} (dom : Operations S) (engine : Engine) (covers : S → Hea
     value_fit (Head n) p h u g = by_number n p head_value u (λ s e f. f.head_fit u e) (loop_of (is_while n program) _ NoStatement p h) g
     value_fit (End y) p h u g =
         end_if (bytes_eq y r.name) y p u _ (bytes_eq-Decides y r.name).0 (holder_of _ NoProcedure p h)
-        (block_fit dom engine covers laws (marks engine.widening r) (keeps.rises engine.widening (reverse earlier) r x.seen.checked.0) z (calls_of dom engine earlier z) (reverse earlier) r.layout x.below
+        (block_fit dom engine covers laws (thresholds engine.widening r) (keeps.rises engine.widening (reverse earlier) r x.seen.checked.0) z (calls_of dom engine earlier z) (reverse earlier) r.layout x.below
         (λ n q c v g f. procedure_fit dom engine covers laws keeps.rises earlier (n ∷ z) q c (r.layout ∷ x.below) v (look_get earlier q ∙ g) x.seen.checked.1 f)
         r.code v x.seen.checked.0 (x.fine r earlier refl)).value g
 

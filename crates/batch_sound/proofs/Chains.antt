@@ -4,9 +4,9 @@ use Rattle.std.proofs.Common.{refl, sym, subst, arith, ap}
 use Rattle.imp_slots.proofs.Distinct.{left_once, right_once}
 use Rattle.imp_slots.specs.Plain.{Routine, code_numbers}
 use Rattle.imp_slots.specs.Fits.{Distinct, routine_numbers}
-use Rattle.program_chains.specs.Chains.{calls_to, extended, through, ends_in, ending_in, has}
-use Rattle.plain_values.proofs.Cases.{by_test}
-use Rattle.plain_values.proofs.Members.{Member, here, there, in_left, in_right, in_map}
+use Rattle.imp_chains.specs.Chains.{calls_to, extended, through, ends_in, ending_in, has}
+use Rattle.base_values.proofs.Cases.{by_test}
+use Rattle.base_values.proofs.Members.{Member, here, there, in_left, in_right, in_map}
 
 pub in_extended : (n : ℕ) (z : List ℕ) (zs : List (List ℕ)) (ns : List ℕ) → Member z zs → Member n ns → Member (n ∷ z) (extended zs ns)
 in_extended n z zs [] m k = elim k [ ]

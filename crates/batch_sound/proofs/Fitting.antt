@@ -4,17 +4,17 @@ use Rattle.std.proofs.Common.{refl, sym, ◌∙◌, subst, ap}
 use Rattle.imp_slots.specs.Plain.{Layout, DoBreak, Does, Invoke, Code, Stop, Simple, If, While, Call, Break, Routine}
 use Rattle.imp_slots.specs.Fits.{fits_invoke, FitsCall, FitsCode}
 use Rattle.concrete_sem.specs.Values.{Variables, Heap}
-use Rattle.program_chains.specs.Marks.{marks, IsRising}
-use Rattle.program_chains.specs.Claims.{MarksRise}
+use Rattle.imp_chains.specs.Thresholds.{thresholds, IsRising}
+use Rattle.imp_chains.specs.Claims.{ThresholdsRise}
 use Rattle.domain_laws.specs.Operations.{Operations}
 use Rattle.domain_laws.specs.Laws.{Laws}
 use Rattle.batch_meaning.specs.Values.{Value, lift, lift2}
-use Rattle.batch_meaning.specs.Batch.{Engine, Passed, head_of, batch, procedure, calls_of}
+use Rattle.batch_meaning.specs.Batch.{LoopOptions, Passed, head_of, batch, procedure, calls_of}
 use Rattle.batch_meaning.specs.Places.{Spot, spot, spots, head_value, from}
 use Rattle.batch_sound.proofs.Values.{Fit, fit_post, fit_assume, fit_join, fit_enter, fit_leave, fix_is_head, EachFit, fit_both, fit_joined}
-use Rattle.plain_values.proofs.Cases.{by_test}
+use Rattle.base_values.proofs.Cases.{by_test}
 use Rattle.batch_meaning.proofs.Procedures.{look, look_get, FitBack, look_from}
-use Rattle.plain_values.proofs.Members.{Each, each_more, each_both, none_there}
+use Rattle.base_values.proofs.Members.{Each, each_more, each_both, none_there}
 use Rattle.std.proofs.lemmas.Option.{same_Some}
 
 -- The callee of a call that fits.
@@ -31,7 +31,7 @@ callee_in before l i q (Some r) e f = record { routine = r; at = e; layout = f.0
 pub callee : (before : List Routine) (l : Layout) (i : Invoke) (q : ℕ) → FitsCall l i (slice_get before q) → Callee before l i q
 callee before l i q f = callee_in before l i q (slice_get before q) refl f
 
-module _ {S : Type 0} (dom : Operations S) (engine : Engine) (covers : S → Heap → List Variables → Type 0) (laws : Laws dom covers) where
+module _ {S : Type 0} (dom : Operations S) (engine : LoopOptions) (covers : S → Heap → List Variables → Type 0) (laws : Laws dom covers) where
   abbrev Good : Value S → List Layout → Type 0
   Good = Fit dom engine covers laws
 
@@ -47,7 +47,7 @@ module _ {S : Type 0} (dom : Operations S) (engine : Engine) (covers : S → Hea
       let same : c.routine ≡ r = same_Some _ _ (sym c.at ∙ sym (look_get earlier q) ∙ look_from earlier q r rest e) in
       subst (λ k. Good (lift (dom.enter i.entering) a) (k ∷ l ∷ ls)) (sym c.layout ∙ ap (λ (r : Routine). r.layout) same) (fit_enter dom engine covers laws i l ls a c.fits f)
 
-  module _ (marks : List ℤ) (rising : IsRising marks) (z : List ℕ) (calls : ℕ → ℕ → Value S → Value S) (before : List Routine) (l : Layout) (ls : List Layout)
+  module _ (thresholds : List ℤ) (rising : IsRising thresholds) (z : List ℕ) (calls : ℕ → ℕ → Value S → Value S) (before : List Routine) (l : Layout) (ls : List Layout)
       (keep : (n q : ℕ) (c : Routine) (v : Value S) → slice_get before q ≡ Some c → Fit dom engine covers laws v (c.layout ∷ l ∷ ls) → Fit dom engine covers laws (calls n q v) (c.layout ∷ l ∷ ls)) where
     pub call_fit : (n : ℕ) (i : Invoke) (q : ℕ) (a : Value S) → FitsCall l i (slice_get before q) → Fit dom engine covers laws a (l ∷ ls) → Fit dom engine covers laws (calls n q (lift (dom.enter i.entering) a)) (i.entering.layout ∷ l ∷ ls)
     call_fit n i q a s f =
@@ -59,7 +59,7 @@ module _ {S : Type 0} (dom : Operations S) (engine : Engine) (covers : S → Hea
     pub behind_call : (n : ℕ) (i : Invoke) (q : ℕ) (a : Value S) → FitsCall l i (slice_get before q) → Fit dom engine covers laws a (l ∷ ls) → Fit dom engine covers laws (lift2 (dom.leave i.returning) a (calls n q (lift (dom.enter i.entering) a))) (l ∷ ls)
     behind_call n i q a s f = fit_leave dom engine covers laws i l ls a _ (callee before l i q s).fits f (call_fit n i q a s f)
 
-    pub block_fit : (c : Code) (a : Value S) → FitsCode before l c → Fit dom engine covers laws a (l ∷ ls) → FitPassed (l ∷ ls) (batch dom engine marks z calls c a)
+    pub block_fit : (c : Code) (a : Value S) → FitsCode before l c → Fit dom engine covers laws a (l ∷ ls) → FitPassed (l ∷ ls) (batch dom engine thresholds z calls c a)
     block_fit Stop a s f = record { value = f; leaving = tt }
     block_fit (Simple n e r) a s f = block_fit r _ s.1 (fit_post dom engine covers laws (Does e) l ls a s.0 f)
     block_fit (If n g t e r) a s f =
@@ -69,9 +69,9 @@ module _ {S : Type 0} (dom : Operations S) (engine : Engine) (covers : S → Hea
         record { value = w.value; leaving = fit_both dom engine covers laws (l ∷ ls) _ _ (fit_both dom engine covers laws (l ∷ ls) _ _ x.leaving y.leaving) w.leaving }
     block_fit (While n g b r) a s f =
         let inner = λ (v : Value S) (k : Fit dom engine covers laws v (l ∷ ls)). block_fit b (lift (dom.assume g true) v) s.1 (fit_assume dom engine covers laws g true l ls v s.0 k) in
-        let h = fix_is_head dom engine covers laws (l ∷ ls) marks rising (λ v. (batch dom engine marks z calls b (lift (dom.assume g true) v)).value) n z a (λ v k. (inner v k).value) f in
-        let top = (head_of dom engine marks z n g (batch dom engine marks z calls b) a).value in
-        block_fit r _ s.2 (fit_joined dom engine covers laws (l ∷ ls) _ (batch dom engine marks z calls b (lift (dom.assume g true) top)).leaving (fit_assume dom engine covers laws g false l ls top s.0 h.fit) (inner _ h.fit).leaving)
+        let h = fix_is_head dom engine covers laws (l ∷ ls) thresholds rising (λ v. (batch dom engine thresholds z calls b (lift (dom.assume g true) v)).value) n z a (λ v k. (inner v k).value) f in
+        let top = (head_of dom engine thresholds z n g (batch dom engine thresholds z calls b) a).value in
+        block_fit r _ s.2 (fit_joined dom engine covers laws (l ∷ ls) _ (batch dom engine thresholds z calls b (lift (dom.assume g true) top)).leaving (fit_assume dom engine covers laws g false l ls top s.0 h.fit) (inner _ h.fit).leaving)
     block_fit (Call n i q r) a s f = block_fit r _ s.1 (behind_call n i q a s.0 f)
     block_fit (Break n r) a s f =
         let w = block_fit r _ s (fit_post dom engine covers laws DoBreak l ls a refl f) in record { value = w.value; leaving = (f, w.leaving) }
@@ -86,7 +86,7 @@ module _ {S : Type 0} (dom : Operations S) (engine : Engine) (covers : S → Hea
     plain : (n : ℕ) (v w : Value S) → Good v (l ∷ ls) → Good w (l ∷ ls) → SpotFit (n, spot v None w None)
     plain n v w f g = record { before_fit = f; head_fit = λ x e. absurd cc; after_fit = g; call = λ q e. absurd cc }
 
-    pub spots_fit : (c : Code) (a : Value S) → FitsCode before l c → Fit dom engine covers laws a (l ∷ ls) → Each SpotFit (spots dom engine marks z calls c a)
+    pub spots_fit : (c : Code) (a : Value S) → FitsCode before l c → Fit dom engine covers laws a (l ∷ ls) → Each SpotFit (spots dom engine thresholds z calls c a)
     spots_fit Stop a s f = none_there SpotFit
     spots_fit (Simple n e r) a s f =
         let k = fit_post dom engine covers laws (Does e) l ls a s.0 f in each_more SpotFit _ _ (plain n a _ f k) (spots_fit r _ s.1 k)
@@ -97,10 +97,10 @@ module _ {S : Type 0} (dom : Operations S) (engine : Engine) (covers : S → Hea
         each_more SpotFit _ _ (plain n a _ f k) (each_both SpotFit _ _ (spots_fit t _ s.1 ft) (each_both SpotFit _ _ (spots_fit e _ s.2 fe) (spots_fit r _ s.3 k)))
     spots_fit (While n g b r) a s f =
         let inner = λ (v : Value S) (k : Fit dom engine covers laws v (l ∷ ls)). block_fit b (lift (dom.assume g true) v) s.1 (fit_assume dom engine covers laws g true l ls v s.0 k) in
-        let h = fix_is_head dom engine covers laws (l ∷ ls) marks rising (λ v. (batch dom engine marks z calls b (lift (dom.assume g true) v)).value) n z a (λ v k. (inner v k).value) f in
-        let top = (head_of dom engine marks z n g (batch dom engine marks z calls b) a).value in
+        let h = fix_is_head dom engine covers laws (l ∷ ls) thresholds rising (λ v. (batch dom engine thresholds z calls b (lift (dom.assume g true) v)).value) n z a (λ v k. (inner v k).value) f in
+        let top = (head_of dom engine thresholds z n g (batch dom engine thresholds z calls b) a).value in
         let fi = fit_assume dom engine covers laws g true l ls top s.0 h.fit in
-        let k = fit_joined dom engine covers laws (l ∷ ls) _ (batch dom engine marks z calls b (lift (dom.assume g true) top)).leaving (fit_assume dom engine covers laws g false l ls top s.0 h.fit) (inner top h.fit).leaving in
+        let k = fit_joined dom engine covers laws (l ∷ ls) _ (batch dom engine thresholds z calls b (lift (dom.assume g true) top)).leaving (fit_assume dom engine covers laws g false l ls top s.0 h.fit) (inner top h.fit).leaving in
         each_more SpotFit _ _ (record { before_fit = f; head_fit = λ v e. subst (λ v. Good v (l ∷ ls)) (same_Some _ _ e) h.fit; after_fit = k; call = λ q e. absurd cc })
         (each_both SpotFit _ _ (spots_fit b _ s.1 fi) (spots_fit r _ s.2 k))
     spots_fit (Call n i q r) a s f =
@@ -109,15 +109,15 @@ module _ {S : Type 0} (dom : Operations S) (engine : Engine) (covers : S → Hea
     spots_fit (Break n r) a s f =
         let k = fit_post dom engine covers laws DoBreak l ls a refl f in each_more SpotFit _ _ (plain n a _ f k) (spots_fit r _ s k)
 
-  module _ (rises : MarksRise) where
+  module _ (rises : ThresholdsRise) where
     pub procedure_fit : (procs : List Routine) (z : List ℕ) (q : ℕ) (c : Routine) (ls : List Layout) (a : Value S) → look procs q ≡ Some c → FitBack procs → Fit dom engine covers laws a (c.layout ∷ ls) → Fit dom engine covers laws (procedure dom engine procs z q a) (c.layout ∷ ls)
     procedure_fit [] z q c ls a e k f = f
     procedure_fit (r ∷ earlier) z q c ls a e k f =
-        (by_test q (length earlier) (λ t. (if t then Some r else look earlier q) ≡ Some c → Good (if t then (batch dom engine (marks engine.widening r) z (calls_of dom engine earlier z) r.code a).value else procedure dom engine earlier z q a) (c.layout ∷ ls))
+        (by_test q (length earlier) (λ t. (if t then Some r else look earlier q) ≡ Some c → Good (if t then (batch dom engine (thresholds engine.widening r) z (calls_of dom engine earlier z) r.code a).value else procedure dom engine earlier z q a) (c.layout ∷ ls))
         (λ i e.
         let same : r ≡ c = same_Some r c e in
-        subst (λ (c : Routine). Good (batch dom engine (marks engine.widening r) z (calls_of dom engine earlier z) r.code a).value (c.layout ∷ ls)) same
-        (block_fit (marks engine.widening r) (rises engine.widening (reverse earlier) r k.0) z (calls_of dom engine earlier z) (reverse earlier) r.layout ls
+        subst (λ (c : Routine). Good (batch dom engine (thresholds engine.widening r) z (calls_of dom engine earlier z) r.code a).value (c.layout ∷ ls)) same
+        (block_fit (thresholds engine.widening r) (rises engine.widening (reverse earlier) r k.0) z (calls_of dom engine earlier z) (reverse earlier) r.layout ls
         (λ n q c v g h. procedure_fit earlier (n ∷ z) q c (r.layout ∷ ls) v (look_get earlier q ∙ g) k.1 h) r.code a k.0
         (subst (λ (c : Routine). Good a (c.layout ∷ ls)) (sym same) f)).value)
         (λ i e. procedure_fit earlier z q c ls a e k.1 f)) e

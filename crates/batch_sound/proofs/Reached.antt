@@ -12,21 +12,21 @@ use Rattle.concrete_sem.specs.Passing.{first_variables}
 use Rattle.concrete_sem.specs.Steps.{Work, Ret, Do, Done, Test, Frame, Config, main, started, start}
 use Rattle.concrete_sem.specs.Reach.{location_of, sites, after_steps}
 use Rattle.concrete_sem.specs.WellFormed.{variables_of}
-use Rattle.program_chains.specs.Chains.{calls_to, extended, through, chains_within, holder, is_while}
-use Rattle.program_chains.specs.Marks.{marks}
-use Rattle.program_chains.specs.Claims.{PlacesAreFound}
+use Rattle.imp_chains.specs.Chains.{calls_to, extended, through, chains_within, holder, is_while}
+use Rattle.imp_chains.specs.Thresholds.{thresholds}
+use Rattle.imp_chains.specs.Claims.{PlacesAreFound}
 use Rattle.domain_laws.specs.Operations.{Operations}
 use Rattle.domain_laws.specs.Laws.{Laws}
 use Rattle.batch_meaning.specs.Values.{Value, State, Over, lift}
-use Rattle.batch_meaning.specs.Batch.{Engine, batch, calls_of}
+use Rattle.batch_meaning.specs.Batch.{LoopOptions, batch, calls_of}
 use Rattle.batch_meaning.specs.Places.{Spot, spots, find, from, main_layout, if_some, head_value, value_in, entered, entry}
-use Rattle.analysis_words.specs.declared.refusal.Refusal.{Refusal}
-use Rattle.analysis_words.specs.declared.refusal.Refusal.TheVariants.{NoProcedure, NoStatement}
+use Rattle.imp_words.specs.declared.refusal.QueryRefusal.{QueryRefusal}
+use Rattle.imp_words.specs.declared.refusal.QueryRefusal.TheVariants.{NoProcedure, NoStatement}
 use Rattle.batch_meaning.specs.Answers.{In as Belongs, found_or, found_loop, procedure_of}
 use Rattle.batch_sound.proofs.Values.{Says, Fit, Below, each_over}
-use Rattle.plain_values.proofs.Cases.{by_test}
+use Rattle.base_values.proofs.Cases.{by_test}
 use Rattle.batch_meaning.proofs.Procedures.{look, look_get, look_from, from_self, from_place, length_from, FitBack, fit_back}
-use Rattle.plain_values.proofs.Members.{Member, here, key_member}
+use Rattle.base_values.proofs.Members.{Member, here, key_member}
 use Rattle.batch_meaning.proofs.Places.{found, keys_numbers, are_calls}
 use Rattle.batch_sound.proofs.Chains.{in_extended, in_through, has_member, once_in}
 use Rattle.batch_sound.proofs.Steps.{Kept, Place, Seen, Fits, fits_ret, fits_done, fits_do, fits_test, ahead_push, place_of, Stack, bottom, above, Good, good, run_good, self}
@@ -35,7 +35,7 @@ use Rattle.std.proofs.lemmas.Option.{same_Some}
 pub same_in_turn : (program : List Routine) (q : ℕ) → slice_get program q ≡ look (reverse program) q
 same_in_turn program q = sym (look_get (reverse program) q ∙ ap (λ ps. slice_get ps q) (reverse-reverse program))
 
-module _ {S : Type 0} (dom : Operations S) (engine : Engine) (covers : S → Heap → List Variables → Type 0) (laws : Laws dom covers) (keeps : Kept) (program : List Routine) (checked : IsChecked program) (places : PlacesAreFound) where
+module _ {S : Type 0} (dom : Operations S) (engine : LoopOptions) (covers : S → Heap → List Variables → Type 0) (laws : Laws dom covers) (keeps : Kept) (program : List Routine) (checked : IsChecked program) (places : PlacesAreFound) where
   abbrev Yes : Value S → Heap → List Variables → Type 0
   Yes = Says dom engine covers laws
 
@@ -70,7 +70,7 @@ module _ {S : Type 0} (dom : Operations S) (engine : Engine) (covers : S → Hea
   IsGood = Good dom engine covers laws keeps program (reverse program) (same_in_turn program)
 
   abbrev Spots : Frame_place → Code → Value S → List (ℕ × Spot S)
-  Spots a = spots dom engine (marks engine.widening a.routine) a.z (calls_of dom engine a.earlier a.z)
+  Spots a = spots dom engine (thresholds engine.widening a.routine) a.z (calls_of dom engine a.earlier a.z)
 
   abbrev At : Frame_place → ℕ → Spot S → Type 0
   At a n x = Member (n, x) (Spots a a.routine.code a.first)
@@ -112,12 +112,12 @@ module _ {S : Type 0} (dom : Operations S) (engine : Engine) (covers : S → Hea
     place_get = place_of dom engine covers laws keeps program (reverse program) (same_in_turn program) a known
 
     numbers_of : (n : ℕ) (x : Spot S) → At a n x → Member n (code_numbers a.routine.code)
-    numbers_of n x at = subst (Member n) (keys_numbers dom engine (marks engine.widening a.routine) a.z (calls_of dom engine a.earlier a.z) a.routine.code a.first) (key_member (n, x) _ at)
+    numbers_of n x at = subst (Member n) (keys_numbers dom engine (thresholds engine.widening a.routine) a.z (calls_of dom engine a.earlier a.z) a.routine.code a.first) (key_member (n, x) _ at)
 
     at_number : (n : ℕ) (x : Spot S) → At a n x → find n (Spots a a.routine.code a.first) ≡ Some x
     at_number n x at =
         found (n, x) _
-        (subst Distinct (sym (keys_numbers dom engine (marks engine.widening a.routine) a.z (calls_of dom engine a.earlier a.z) a.routine.code a.first))
+        (subst Distinct (sym (keys_numbers dom engine (thresholds engine.widening a.routine) a.z (calls_of dom engine a.earlier a.z) a.routine.code a.first))
         (once_in program (length a.earlier) a.routine checked.numbers_once place_get)) at
 
     pub holder_at : (n : ℕ) (x : Spot S) → At a n x → holder n program ≡ Some (length a.earlier)
@@ -139,7 +139,7 @@ module _ {S : Type 0} (dom : Operations S) (engine : Engine) (covers : S → Hea
 
     pub top_under : (w : Work) (v e u : Value S) → Fits dom engine covers laws keeps program (reverse program) (same_in_turn program) a w v e → (l : Location) → location_of program w ≡ Some l → value_in dom engine (a.routine ∷ a.earlier) a.z a.first l ≡ Some u → Below dom engine covers laws (a.routine.layout ∷ a.below) v u
     top_under (Ret p) v e u (fits_ret i b) l t g =
-        let x = (batch dom engine (marks engine.widening a.routine) a.z (calls_of dom engine a.earlier a.z) a.routine.code a.first).value in
+        let x = (batch dom engine (thresholds engine.widening a.routine) a.z (calls_of dom engine a.earlier a.z) a.routine.code a.first).value in
         let k = subst (λ c. (if c then Some x else None) ≡ Some u) ((bytes_eq-Decides a.routine.name a.routine.name).1 refl) (at_location l (End a.routine.name) u (sym (name_at p i) ∙ t) g) in
         subst (Under (layouts a) v) (same_Some x u k) b
     top_under (Done n o w) v e u (fits_done {x = x} at i b f) l t g = found_value n x (λ s. Some s.after) u v at (at_location l (After n) u t g) (ap Some i)
@@ -158,7 +158,7 @@ module _ {S : Type 0} (dom : Operations S) (engine : Engine) (covers : S → Hea
     pub top_procedure : (w : Work) (v e : Value S) → Fits dom engine covers laws keeps program (reverse program) (same_in_turn program) a w v e → (l : Location) → location_of program w ≡ Some l → (p : ℕ) → procedure_of program l ≡ Belongs p → p ≡ length a.earlier
     top_procedure w v e f l t p g = by w v e f t
       where
-        same : (o : Option ℕ) (r : Refusal) → o ≡ Some (length a.earlier) → found_or r o ≡ Belongs p → p ≡ length a.earlier
+        same : (o : Option ℕ) (r : QueryRefusal) → o ≡ Some (length a.earlier) → found_or r o ≡ Belongs p → p ≡ length a.earlier
         same None r i g = absurd cc
         same (Some q) r i g = cc
 
@@ -218,4 +218,4 @@ module _ {S : Type 0} (dom : Operations S) (engine : Engine) (covers : S → Hea
       (λ j. in_through (chains_within k program) 0 program (length earlier) (length a.earlier) a.routine (n ∷ a.z) (place_get a known)
       (subst (λ m. Member (n ∷ a.z) (extended (chains_within k program m) (calls_to (length earlier) a.routine.code))) zero_at
       (in_extended n a.z _ _ (stack_chain k _ _ _ _ _ _ stack a.routine a.earlier refl (omega arith))
-      (subst (λ p. Member n (calls_to p a.routine.code)) (from_place a.earlier q t earlier (fr ∙ e)) ((are_calls dom engine (marks engine.widening a.routine) a.z (calls_of dom engine a.earlier a.z) a.routine.code a.first).at (n, x) at (i, q) ic)))))
+      (subst (λ p. Member n (calls_to p a.routine.code)) (from_place a.earlier q t earlier (fr ∙ e)) ((are_calls dom engine (thresholds engine.widening a.routine) a.z (calls_of dom engine a.earlier a.z) a.routine.code a.first).at (n, x) at (i, q) ic)))))

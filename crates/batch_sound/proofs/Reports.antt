@@ -5,7 +5,7 @@ use Rattle.concrete_sem.proofs.Programs.{from_match}
 use Rattle.imp_syntax.specs.declared.edit.Location.TheVariants.{Before, End}
 use Rattle.imp_slots.specs.Plain.{Effect, Does, Code, Stop, Simple, If, While, Call, Break, Routine}
 use Rattle.imp_slots.specs.Fits.{IsChecked}
-use Rattle.analysis_words.specs.declared.fault.FaultKind.{FaultKind}
+use Rattle.imp_words.specs.declared.fault.FaultKind.{FaultKind}
 use Rattle.concrete_sem.specs.Values.{Variables, Heap, Attempt, Gives, Faults, LacksInput, IsWord}
 use Rattle.concrete_sem.specs.Evaluation.{truth_of}
 use Rattle.concrete_sem.specs.Effects.{effect_of}
@@ -14,19 +14,19 @@ use Rattle.concrete_sem.specs.Steps.{Work, Ret, Do, Done, Test, Frame, In, Confi
 use Rattle.concrete_sem.specs.Reach.{first_number, location_of, standing, after_steps}
 use Rattle.concrete_sem.specs.WellFormed.{IsWork, IsWellFormed, DoTheirWork}
 use Rattle.concrete_sem.specs.Claims.{StepsKeepForm, StartIsWellFormed}
-use Rattle.program_chains.specs.Claims.{PlacesAreFound}
-use Rattle.analysis_words.specs.declared.verdict.Verdict.TheVariants.{Dead, Safe}
-use Rattle.analysis_words.specs.declared.findings.Finding.{Finding}
+use Rattle.imp_chains.specs.Claims.{PlacesAreFound}
+use Rattle.imp_words.specs.declared.verdict.Verdict.TheVariants.{Dead, Safe}
+use Rattle.imp_words.specs.declared.findings.Finding.{Finding}
 use Rattle.domain_laws.specs.Checks.{Check, Within, IsCell, Claims, fault_of, kind_of}
 use Rattle.domain_laws.specs.Operations.{Operations}
 use Rattle.domain_laws.specs.Laws.{Laws}
-use Rattle.analysis_words.specs.declared.refusal.Refusal.TheVariants.{LongString, NoProcedure, NoStatement, WrongStatement, NoChain}
+use Rattle.imp_words.specs.declared.refusal.QueryRefusal.TheVariants.{LongString, NoProcedure, NoStatement, WrongStatement, NoChain}
 use Rattle.batch_meaning.specs.Values.{State, Over}
-use Rattle.batch_meaning.specs.Batch.{Engine}
+use Rattle.batch_meaning.specs.Batch.{LoopOptions}
 use Rattle.batch_meaning.specs.Answers.{Answer, Refuses, Answers, answer}
-use Rattle.batch_meaning.specs.Report.{Checked, checked_statements, verdict_on, finding}
+use Rattle.batch_meaning.specs.Report.{CheckedStatement, checked_statements, verdict_on, finding}
 use Rattle.batch_sound.specs.Theorem.{failing, AreReportsSound}
-use Rattle.plain_values.proofs.Members.{Member}
+use Rattle.base_values.proofs.Members.{Member}
 use Rattle.batch_sound.proofs.Steps.{Kept, Good, stepped}
 use Rattle.batch_sound.proofs.Reached.{same_in_turn, reached_good}
 use Rattle.batch_sound.proofs.Answered.{good_described, good_chain}
@@ -80,7 +80,7 @@ fault_at program p below h v (Do (Call m i q d) w) n k e =
     at_do (ap Some t.0) (λ a r i. absurd cc)
 fault_at program p below h v (Do (Break m d) w) n k e = absurd (some_not (leave_loop w) (λ u. goes_on p below h v u) n k e)
 
-module _ {S : Type 0} (dom : Operations S) (engine : Engine) (covers : S → Heap → List Variables → Type 0) (laws : Laws dom covers) (keeps : Kept) (places : PlacesAreFound) (form : StepsKeepForm) (starts : StartIsWellFormed) (program : List Routine) (checked : IsChecked program) where
+module _ {S : Type 0} (dom : Operations S) (engine : LoopOptions) (covers : S → Heap → List Variables → Type 0) (laws : Laws dom covers) (keeps : Kept) (places : PlacesAreFound) (form : StepsKeepForm) (starts : StartIsWellFormed) (program : List Routine) (checked : IsChecked program) where
   run_formed : (k : ℕ) (c d : Config) → IsWellFormed program c → after_steps program k c ≡ Some d → IsWellFormed program d
   run_formed zero c d i g = subst (IsWellFormed program) (same_Some c d g) i
   run_formed (suc k) c d i g =
@@ -93,7 +93,7 @@ module _ {S : Type 0} (dom : Operations S) (engine : Engine) (covers : S → Hea
   IsGood = Good dom engine covers laws keeps program (reverse program) (same_in_turn program)
 
   -- A configuration in front of a checked statement has just that statement on top.
-  module _ (c : Checked) (member : Member c (checked_statements program)) where
+  module _ (c : CheckedStatement) (member : Member c (checked_statements program)) where
     on_top : (p : ℕ) (d : Code) (w : Work) → MatchOption (slice_get program p) ⊥ (λ r. IsWork p r.code (Do d w)) → first_number d ≡ Some c.number → Begins c d
     on_top p d w m f =
         let r = from_match (slice_get program p) (λ r. IsWork p r.code (Do d w)) m in

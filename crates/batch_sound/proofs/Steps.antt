@@ -11,28 +11,28 @@ use Rattle.concrete_sem.specs.Steps.{Work, Ret, Do, Done, Test, Frame, In, Confi
 use Rattle.concrete_sem.specs.Reach.{after_step, after_steps}
 use Rattle.concrete_sem.specs.Proper.{IsProper}
 use Rattle.concrete_sem.specs.Keeping.{EffectsKeep, PassingKeeps, ReturnsKeep, LastAloneKeeps, StartKeeps}
-use Rattle.program_chains.specs.Marks.{marks}
-use Rattle.program_chains.specs.Claims.{MarksRise}
+use Rattle.imp_chains.specs.Thresholds.{thresholds}
+use Rattle.imp_chains.specs.Claims.{ThresholdsRise}
 use Rattle.domain_laws.specs.Operations.{Operations}
 use Rattle.domain_laws.specs.Laws.{Laws}
 use Rattle.batch_meaning.specs.Values.{Value, State, Over, lift, lift2}
-use Rattle.batch_meaning.specs.Batch.{Engine, Passed, head_of, batch, procedure, calls_of}
+use Rattle.batch_meaning.specs.Batch.{LoopOptions, Passed, head_of, batch, procedure, calls_of}
 use Rattle.batch_meaning.specs.Places.{Spot, spots, from, main_layout, head_value}
 use Rattle.batch_sound.proofs.Values.{Says, Fit, fit_post, fit_assume, fit_join, fit_enter, fit_leave, says_post, says_assume, says_enter, says_leave, Below, below_self, below_left, below_right, fix_is_head, EachBelow, each_left, each_right, each_over, fit_joined, joined_first, joined_each}
 use Rattle.batch_meaning.proofs.Procedures.{look, look_get, look_from, from_look, look_below, length_from, from_behind, from_from, from_place, from_self, FitBack, fit_back_from, procedure_from}
-use Rattle.plain_values.proofs.Members.{Member, here, there, in_left, in_right}
+use Rattle.base_values.proofs.Members.{Member, here, there, in_left, in_right}
 use Rattle.batch_sound.proofs.Fitting.{callee, FitPassed, block_fit, procedure_fit}
 use Rattle.std.proofs.lemmas.Option.{same_Some}
 use Rattle.concrete_sem.proofs.Forms.{AtNext, at_next, next_of}
 
--- What steps keep, and that marks rise.
+-- What steps keep, and that thresholds rise.
 pub record Kept : Type 0 where
   pub effects : EffectsKeep
   pub calls : PassingKeeps
   pub returns : ReturnsKeep
   pub last_alone : LastAloneKeeps
   pub starts : StartKeeps
-  pub rises : MarksRise
+  pub rises : ThresholdsRise
 
 -- A step that is taken.
 record AtSome {A : Type 0} (o : Option A) (f : A → Step) (d : Config) : Type 0 where
@@ -54,7 +54,7 @@ stepped (InputsUsedUp n) f d e = absurd cc
 stepped Ended f d e = absurd cc
 
 -- A program, the procedures of which stand in `back` with the last one first.
-module _ {S : Type 0} (dom : Operations S) (engine : Engine) (covers : S → Heap → List Variables → Type 0) (laws : Laws dom covers) (keeps : Kept) (program back_list : List Routine) (same_list : (q : ℕ) → slice_get program q ≡ look back_list q) where
+module _ {S : Type 0} (dom : Operations S) (engine : LoopOptions) (covers : S → Heap → List Variables → Type 0) (laws : Laws dom covers) (keeps : Kept) (program back_list : List Routine) (same_list : (q : ℕ) → slice_get program q ≡ look back_list q) where
   abbrev pub Yes : Value S → Heap → List Variables → Type 0
   Yes = Says dom engine covers laws
 
@@ -89,10 +89,10 @@ module _ {S : Type 0} (dom : Operations S) (engine : Engine) (covers : S → Hea
   layouts a = a.routine.layout ∷ a.below
 
   abbrev pub B : Place → Code → Value S → Passed S
-  B a = batch dom engine (marks engine.widening a.routine) a.z (calls_of dom engine a.earlier a.z)
+  B a = batch dom engine (thresholds engine.widening a.routine) a.z (calls_of dom engine a.earlier a.z)
 
   abbrev pub Spots : Place → Code → Value S → List (ℕ × Spot S)
-  Spots a = spots dom engine (marks engine.widening a.routine) a.z (calls_of dom engine a.earlier a.z)
+  Spots a = spots dom engine (thresholds engine.widening a.routine) a.z (calls_of dom engine a.earlier a.z)
 
   -- The statement n of the procedure has these values.
   abbrev pub At : Place → ℕ → Spot S → Type 0
@@ -231,7 +231,7 @@ module _ {S : Type 0} (dom : Operations S) (engine : Engine) (covers : S → Hea
 
     fit_block : (c : Code) (v : Value S) → FitsCode (reverse a.earlier) a.routine.layout c → Fine v (layouts a) → FitPassed dom engine covers laws (layouts a) (B a c v)
     fit_block =
-        block_fit dom engine covers laws (marks engine.widening a.routine) (keeps.rises engine.widening (reverse a.earlier) a.routine known.checked.0) a.z (calls_of dom engine a.earlier a.z) (reverse a.earlier) a.routine.layout a.below
+        block_fit dom engine covers laws (thresholds engine.widening a.routine) (keeps.rises engine.widening (reverse a.earlier) a.routine known.checked.0) a.z (calls_of dom engine a.earlier a.z) (reverse a.earlier) a.routine.layout a.below
         (λ n q c v g f. procedure_fit dom engine covers laws keeps.rises a.earlier (n ∷ a.z) q c (layouts a) v (look_get a.earlier q ∙ g) known.checked.1 f)
 
     step_simple : (n : ℕ) (x : Effect) (c : Code) (w : Work) (v u e : Value S) → Block a (Simple n x c) v e u → Fits a w u e → Yes v h (m ∷ ms) → (t : Heap × Variables) → effect_of x h m ≡ Gives t → IsGood (goes_on p below t.0 t.1 (Done n None (push c w)))
@@ -290,9 +290,9 @@ module _ {S : Type 0} (dom : Operations S) (engine : Engine) (covers : S → Hea
 
     step_while : (n : ℕ) (g : Guard) (c z : Code) (w : Work) (v u e : Value S) → Block a (While n g c z) v e u → Fits a w u e → Yes v h (m ∷ ms) → IsGood (goes_on p below h m (Test n g c (push z w)))
     step_while n g c z w v u e b f y =
-        let top = (head_of dom engine (marks engine.widening a.routine) a.z n g (B a c) v).value in
+        let top = (head_of dom engine (thresholds engine.widening a.routine) a.z n g (B a c) v).value in
         let fit_in = λ (v : Value S) (k : Fine v (layouts a)). fit_block c (lift (dom.assume g true) v) b.suits.1 (fit_assume dom engine covers laws g true a.routine.layout a.below v b.suits.0 k) in
-        let hd = fix_is_head dom engine covers laws (layouts a) (marks engine.widening a.routine) (keeps.rises engine.widening (reverse a.earlier) a.routine known.checked.0) (λ v. (B a c (lift (dom.assume g true) v)).value) n a.z v (λ v k. (fit_in v k).value) b.fine in
+        let hd = fix_is_head dom engine covers laws (layouts a) (thresholds engine.widening a.routine) (keeps.rises engine.widening (reverse a.earlier) a.routine known.checked.0) (λ v. (B a c (lift (dom.assume g true) v)).value) n a.z v (λ v k. (fit_in v k).value) b.fine in
         let inner = lift (dom.assume g true) top in
         let out = lift (dom.assume g false) top in
         let fi = fit_in top hd.fit in
@@ -342,7 +342,7 @@ module _ {S : Type 0} (dom : Operations S) (engine : Engine) (covers : S → Hea
         (in_body.below.says h (m1 ∷ m ∷ ms) r1
         (says_enter dom engine covers laws i a.routine.layout a.below v h m m1 ms o.fits b.fine r k y)))
 
-  step_ret : (below : List Frame) (z : List ℕ) (ps : List Layout) (list : List Routine) (first : Value S) (ms : List Variables) → Stack below z ps list first ms → (earlier : List Routine) (t : Routine) → list ≡ t ∷ earlier → (h : Heap) (m : Variables) (v : Value S) → IsProper h (m ∷ ms) (t.layout ∷ ps) → Under (t.layout ∷ ps) v (batch dom engine (marks engine.widening t) z (calls_of dom engine earlier z) t.code first).value → Yes v h (m ∷ ms) → (c : Config) → returns_to h m below ≡ Next c → IsGood c
+  step_ret : (below : List Frame) (z : List ℕ) (ps : List Layout) (list : List Routine) (first : Value S) (ms : List Variables) → Stack below z ps list first ms → (earlier : List Routine) (t : Routine) → list ≡ t ∷ earlier → (h : Heap) (m : Variables) (v : Value S) → IsProper h (m ∷ ms) (t.layout ∷ ps) → Under (t.layout ∷ ps) v (batch dom engine (thresholds engine.widening t) z (calls_of dom engine earlier z) t.code first).value → Yes v h (m ∷ ms) → (c : Config) → returns_to h m below ≡ Next c → IsGood c
   step_ret below z ps list first ms bottom earlier t ep h m v r b y c g = absurd cc
   step_ret below z ps list first ms (above {c = o} {ps = os} {u = u} {n = n} {q = q} {i = i} {m = m0} {ms = ms0} {h = h0} a known stack x at ic fr ea lay suits fine f bu k r0 y0) earlier t ep h m v r b y c g =
       let same : o ≡ t = cc in

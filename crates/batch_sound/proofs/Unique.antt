@@ -5,11 +5,11 @@ use Rattle.imp_slots.specs.Plain.{Effect, Code, Stop, Simple, If, While, Call, B
 use Rattle.imp_slots.specs.Fits.{Distinct, IsChecked}
 use Rattle.concrete_sem.specs.Reach.{first_number}
 use Rattle.concrete_sem.specs.WellFormed.{StandsIn, whole, behind_simple, then_block, else_block, behind_if, loop_body, behind_loop, behind_call, behind_break}
-use Rattle.program_chains.specs.Chains.{holder}
-use Rattle.program_chains.specs.Claims.{PlacesAreFound}
+use Rattle.imp_chains.specs.Chains.{holder}
+use Rattle.imp_chains.specs.Claims.{PlacesAreFound}
 use Rattle.domain_laws.specs.Checks.{Check, check_of}
-use Rattle.batch_meaning.specs.Report.{Checked, checked_one, checked_in, checked_statements}
-use Rattle.plain_values.proofs.Members.{Member, here, there, in_left, in_right, keys, keys_both, key_member, either}
+use Rattle.batch_meaning.specs.Report.{CheckedStatement, checked_one, checked_in, checked_statements}
+use Rattle.base_values.proofs.Members.{Member, here, there, in_left, in_right, keys, keys_both, key_member, either}
 use Rattle.batch_meaning.proofs.Places.{found}
 use Rattle.batch_sound.proofs.Chains.{has_member, once_in}
 use Rattle.std.proofs.lemmas.Option.{same_Some}
@@ -52,23 +52,23 @@ first_of (Call m i q r) n e = subst (λ k. Member (k, Call m i q r) (statements 
 first_of (Break m r) n e = subst (λ k. Member (k, Break m r) (statements (Break m r))) (same_Some m n e) here
 
 -- A checked statement is a simple statement of the program with that check.
-record IsCheckedIn (body : Code) (c : Checked) : Type 0 where
+record IsCheckedIn (body : Code) (c : CheckedStatement) : Type 0 where
   rest : Code
   stands : Member (c.number, Simple c.number c.effect rest) (statements body)
   check : check_of c.effect ≡ Some c.check
 
-checked_more : (body other : Code) (c : Checked) → ((x : ℕ × Code) → Member x (statements body) → Member x (statements other)) → IsCheckedIn body c → IsCheckedIn other c
+checked_more : (body other : Code) (c : CheckedStatement) → ((x : ℕ × Code) → Member x (statements body) → Member x (statements other)) → IsCheckedIn body c → IsCheckedIn other c
 checked_more body other c f k = record { rest = k.rest; stands = f _ k.stands; check = k.check }
 
-one_is : (n : ℕ) (e : Effect) (r : Code) (o : Option Check) → check_of e ≡ o → (c : Checked) → Member c (checked_one n e o) → IsCheckedIn (Simple n e r) c
+one_is : (n : ℕ) (e : Effect) (r : Code) (o : Option Check) → check_of e ≡ o → (c : CheckedStatement) → Member c (checked_one n e o) → IsCheckedIn (Simple n e r) c
 one_is n e r None k c m = elim m [ ]
 one_is n e r (Some x) k c m = one c m
   where
-    one : (c : Checked) → Member c (record { number = n; effect = e; check = x } ∷ []) → IsCheckedIn (Simple n e r) c
+    one : (c : CheckedStatement) → Member c (record { number = n; effect = e; check = x } ∷ []) → IsCheckedIn (Simple n e r) c
     one c here = record { rest = r; stands = here; check = k }
     one c (there m) = elim m [ ]
 
-is_checked : (body : Code) (c : Checked) → Member c (checked_in body) → IsCheckedIn body c
+is_checked : (body : Code) (c : CheckedStatement) → Member c (checked_in body) → IsCheckedIn body c
 is_checked Stop c m = elim m [ ]
 is_checked (Simple n e r) c m = by (either c (checked_one n e (check_of e)) (checked_in r) m) (λ k. is_checked r c k)
   where
@@ -92,13 +92,13 @@ is_checked (While n g b r) c m = by (either c (checked_in b) (checked_in r) m) (
 is_checked (Call n i q r) c m = checked_more r (Call n i q r) c (λ x. there) (is_checked r c m)
 is_checked (Break n r) c m = checked_more r (Break n r) c (λ x. there) (is_checked r c m)
 
-record IsCheckedOf (program : List Routine) (c : Checked) : Type 0 where
+record IsCheckedOf (program : List Routine) (c : CheckedStatement) : Type 0 where
   place : ℕ
   routine : Routine
   at : slice_get program place ≡ Some routine
   is : IsCheckedIn routine.code c
 
-checked_of : (program : List Routine) (c : Checked) → Member c (checked_statements program) → IsCheckedOf program c
+checked_of : (program : List Routine) (c : CheckedStatement) → Member c (checked_statements program) → IsCheckedOf program c
 checked_of [] c m = elim m [ ]
 checked_of (r ∷ rs) c m = by (either c (checked_in r.code) (checked_statements rs) m) (λ k. checked_of rs c k)
   where
@@ -107,11 +107,11 @@ checked_of (r ∷ rs) c m = by (either c (checked_in r.code) (checked_statements
     by (inr k) f = let x = f k in record { place = suc x.place; routine = x.routine; at = x.at; is = x.is }
 
 -- A block that stands in a procedure and begins with a checked statement's number begins with that statement.
-pub record Begins (c : Checked) (d : Code) : Type 0 where
+pub record Begins (c : CheckedStatement) (d : Code) : Type 0 where
   pub rest : Code
   pub is : d ≡ Simple c.number c.effect rest
 
-pub begins : (program : List Routine) → IsChecked program → PlacesAreFound → (c : Checked) → Member c (checked_statements program) → (p : ℕ) (r : Routine) → slice_get program p ≡ Some r → (d : Code) → StandsIn r.code d → first_number d ≡ Some c.number → Begins c d
+pub begins : (program : List Routine) → IsChecked program → PlacesAreFound → (c : CheckedStatement) → Member c (checked_statements program) → (p : ℕ) (r : Routine) → slice_get program p ≡ Some r → (d : Code) → StandsIn r.code d → first_number d ≡ Some c.number → Begins c d
 begins program checked places c m p r at d s f =
     let x = checked_of program c m in
     let mine : Member (c.number, d) (statements r.code) = within r.code d s (c.number, d) (first_of d c.number f) in
@@ -126,7 +126,7 @@ begins program checked places c m p r at d s f =
     let f2 = found (c.number, Simple c.number c.effect x.is.rest) (statements r.code) once (subst (λ (r : Routine). Member (c.number, Simple c.number c.effect x.is.rest) (statements r.code)) same x.is.stands) in
     record { rest = x.is.rest; is = same_Some _ _ (sym f1 ∙ f2) }
 
-pub has_check : (program : List Routine) (c : Checked) → Member c (checked_statements program) → check_of c.effect ≡ Some c.check
+pub has_check : (program : List Routine) (c : CheckedStatement) → Member c (checked_statements program) → check_of c.effect ≡ Some c.check
 has_check program c m = (checked_of program c m).is.check
 
 -- what a list made by a function contains

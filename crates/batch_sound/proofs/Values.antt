@@ -8,13 +8,13 @@ use Rattle.concrete_sem.specs.Evaluation.{truth_of}
 use Rattle.concrete_sem.specs.Effects.{effect_of}
 use Rattle.concrete_sem.specs.Passing.{pass, back}
 use Rattle.concrete_sem.specs.Proper.{IsProper}
-use Rattle.program_chains.specs.Marks.{IsRising}
+use Rattle.imp_chains.specs.Thresholds.{IsRising}
 use Rattle.domain_laws.specs.Operations.{Operations}
 use Rattle.domain_laws.specs.Laws.{Laws, fits_act}
 use Rattle.batch_meaning.specs.Values.{Value, State, Over, lift, lift2}
-use Rattle.batch_meaning.specs.Batch.{Engine, Fixed, next_of, settle, iterate, fix, joined}
+use Rattle.batch_meaning.specs.Batch.{LoopOptions, Fixed, next_of, settle, iterate, fix, joined}
 
-module _ {S : Type 0} (dom : Operations S) (engine : Engine) (covers : S → Heap → List Variables → Type 0) (laws : Laws dom covers) where
+module _ {S : Type 0} (dom : Operations S) (engine : LoopOptions) (covers : S → Heap → List Variables → Type 0) (laws : Laws dom covers) where
   abbrev pub Says : Value S → Heap → List Variables → Type 0
   Says (State s) h ms = covers s h ms
   Says (Over n z) h ms = Unit {0}
@@ -102,13 +102,13 @@ module _ {S : Type 0} (dom : Operations S) (engine : Engine) (covers : S → Hea
       left : Below (State s) v
       right : Below w v
 
-    next_is : (marks : List ℤ) → IsRising marks → (k : ℕ) (s : S) (w : Value S) → dom.fits s ps ≡ true → Fit w ps → IsNext s w (lift (next_of dom engine marks k s) w)
-    next_is marks rising k s (Over n z) f g = record { fit = tt; left = below_over _ n z; right = below_over _ n z }
-    next_is marks rising k s (State t) f g = go (nat_lt k engine.widening.delay)
+    next_is : (thresholds : List ℤ) → IsRising thresholds → (k : ℕ) (s : S) (w : Value S) → dom.fits s ps ≡ true → Fit w ps → IsNext s w (lift (next_of dom engine thresholds k s) w)
+    next_is thresholds rising k s (Over n z) f g = record { fit = tt; left = below_over _ n z; right = below_over _ n z }
+    next_is thresholds rising k s (State t) f g = go (nat_lt k engine.widening.delay)
       where
-        go : (b : Bool) → IsNext s (State t) (State (if b then dom.join s t else dom.widen marks s t))
+        go : (b : Bool) → IsNext s (State t) (State (if b then dom.join s t else dom.widen thresholds s t))
         go true = record { fit = laws.fitting.join ps s t f g; left = record { says = λ h ms r c. laws.join_left ps s t h ms f g r c }; right = record { says = λ h ms r c. laws.join_right ps s t h ms f g r c } }
-        go false = record { fit = laws.fitting.widen marks ps s t rising f g; left = record { says = λ h ms r c. laws.widen_left marks ps s t h ms rising f g r c }; right = record { says = λ h ms r c. laws.widen_right marks ps s t h ms rising f g r c } }
+        go false = record { fit = laws.fitting.widen thresholds ps s t rising f g; left = record { says = λ h ms r c. laws.widen_left thresholds ps s t h ms rising f g r c }; right = record { says = λ h ms r c. laws.widen_right thresholds ps s t h ms rising f g r c } }
 
     -- A loop's head: it fits, and is above the value in front of the loop and above what the body makes of it.
     pub record IsHead (body : Value S → Value S) (a v : Value S) : Type 0 where
@@ -124,14 +124,14 @@ module _ {S : Type 0} (dom : Operations S) (engine : Engine) (covers : S → Hea
         by true e = record { fit = fs; first = below_self _; again = subst (λ x. Below (body (State s)) (State x)) ((laws.same t s).0 e) x.right }
         by false e = let y = f t x.fit in record { fit = y.fit; first = below_trans _ _ _ x.left y.first; again = y.again }
 
-    iterated : (marks : List ℤ) → IsRising marks → (body : Value S → Value S) (n : ℕ) (z : List ℕ) → ((v : Value S) → Fit v ps → Fit (body v) ps) → (left k : ℕ) (s : S) → dom.fits s ps ≡ true → IsHead body (State s) (iterate dom engine marks body (Over n z) left k s).value
-    iterated marks rising body n z keep zero k s fs = record { fit = tt; first = below_over _ n z; again = below_over _ n z }
-    iterated marks rising body n z keep (suc left) k s fs =
-        settled body k s (lift (next_of dom engine marks k s) (body (State s))) (iterate dom engine marks body (Over n z) left (suc k)) fs (next_is marks rising k s (body (State s)) fs (keep (State s) fs)) (λ t ft. iterated marks rising body n z keep left (suc k) t ft)
+    iterated : (thresholds : List ℤ) → IsRising thresholds → (body : Value S → Value S) (n : ℕ) (z : List ℕ) → ((v : Value S) → Fit v ps → Fit (body v) ps) → (left k : ℕ) (s : S) → dom.fits s ps ≡ true → IsHead body (State s) (iterate dom engine thresholds body (Over n z) left k s).value
+    iterated thresholds rising body n z keep zero k s fs = record { fit = tt; first = below_over _ n z; again = below_over _ n z }
+    iterated thresholds rising body n z keep (suc left) k s fs =
+        settled body k s (lift (next_of dom engine thresholds k s) (body (State s))) (iterate dom engine thresholds body (Over n z) left (suc k)) fs (next_is thresholds rising k s (body (State s)) fs (keep (State s) fs)) (λ t ft. iterated thresholds rising body n z keep left (suc k) t ft)
 
-    pub fix_is_head : (marks : List ℤ) → IsRising marks → (body : Value S → Value S) (n : ℕ) (z : List ℕ) (a : Value S) → ((v : Value S) → Fit v ps → Fit (body v) ps) → Fit a ps → IsHead body a (fix dom engine marks body (Over n z) a).value
-    fix_is_head marks rising body n z (State s) keep f = iterated marks rising body n z keep engine.budget 0 s f
-    fix_is_head marks rising body n z (Over k y) keep f = record { fit = tt; first = below_over _ k y; again = below_over _ k y }
+    pub fix_is_head : (thresholds : List ℤ) → IsRising thresholds → (body : Value S → Value S) (n : ℕ) (z : List ℕ) (a : Value S) → ((v : Value S) → Fit v ps → Fit (body v) ps) → Fit a ps → IsHead body a (fix dom engine thresholds body (Over n z) a).value
+    fix_is_head thresholds rising body n z (State s) keep f = iterated thresholds rising body n z keep engine.budget 0 s f
+    fix_is_head thresholds rising body n z (Over k y) keep f = record { fit = tt; first = below_over _ k y; again = below_over _ k y }
 
     -- Each value of a list fits; each is below this one.
     abbrev pub EachFit : List (Value S) → Type 0

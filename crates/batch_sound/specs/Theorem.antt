@@ -4,26 +4,26 @@ use Rattle.imp_syntax.specs.declared.edit.Location.{Location}
 use Rattle.imp_syntax.specs.declared.edit.Location.TheVariants.{Before}
 use Rattle.imp_slots.specs.Plain.{Routine}
 use Rattle.imp_slots.specs.Fits.{IsChecked}
-use Rattle.analysis_words.specs.declared.fault.FaultKind.{FaultKind}
-use Rattle.analysis_words.specs.declared.fault.FaultKind.TheVariants.{Index, Null as NullFault, Assert as Failed}
+use Rattle.imp_words.specs.declared.fault.FaultKind.{FaultKind}
+use Rattle.imp_words.specs.declared.fault.FaultKind.TheVariants.{Index, Null as NullFault, Assert as Failed}
 use Rattle.concrete_sem.specs.Values.{Variables, Heap, IsWord}
 use Rattle.concrete_sem.specs.Steps.{Config, Faulted, step, start}
 use Rattle.concrete_sem.specs.Reach.{top, after_steps, Reach}
 use Rattle.concrete_sem.specs.WellFormed.{variables_of}
-use Rattle.analysis_words.specs.declared.verdict.Verdict.TheVariants.{Dead, Safe}
-use Rattle.analysis_words.specs.declared.findings.Check.{Check}
-use Rattle.analysis_words.specs.declared.findings.Check.TheVariants.{Bounds, Null, Assert}
-use Rattle.analysis_words.specs.declared.findings.Finding.{Finding}
+use Rattle.imp_words.specs.declared.verdict.Verdict.TheVariants.{Dead, Safe}
+use Rattle.imp_words.specs.declared.findings.Check.{Check}
+use Rattle.imp_words.specs.declared.findings.Check.TheVariants.{Bounds, Null, Assert}
+use Rattle.imp_words.specs.declared.findings.Finding.{Finding}
 use Rattle.domain_laws.specs.Operations.{Operations}
 use Rattle.batch_meaning.specs.Values.{State}
-use Rattle.batch_meaning.specs.Batch.{Engine}
+use Rattle.batch_meaning.specs.Batch.{LoopOptions}
 use Rattle.batch_meaning.specs.Answers.{Answers, answer}
 use Rattle.batch_meaning.specs.Report.{report}
 
 -- Where the answer is a state, it describes the last frame of each configuration that a run reaches there.
 abbrev pub AreAnswersSound : {S : Type 0} → Operations S → (S → Heap → List Variables → Type 0) → Type 0
 AreAnswersSound {S} dom covers =
-    (engine : Engine) (program : List Routine) (l : Location) (string : List ℕ) (s : S) (c : Config) →
+    (engine : LoopOptions) (program : List Routine) (l : Location) (string : List ℕ) (s : S) (c : Config) →
     IsChecked program → answer dom engine program l string ≡ Answers (State s) → Reach program l string c →
     covers s (top c).heap (variables_of (top c).frames)
 
@@ -49,4 +49,4 @@ pub record IsFindingSound (program : List Routine) (f : Finding) : Type 0 where
 
 abbrev pub AreReportsSound : {S : Type 0} → Operations S → Type 0
 AreReportsSound {S} dom =
-    (engine : Engine) (program : List Routine) (f : Finding) → IsChecked program → Contains (report dom engine program) f → IsFindingSound program f
+    (engine : LoopOptions) (program : List Routine) (f : Finding) → IsChecked program → Contains (report dom engine program) f → IsFindingSound program f

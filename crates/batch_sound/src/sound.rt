@@ -4,7 +4,7 @@ ghost use Rattle.batch_sound.specs.Theorem.{AreAnswersSound, AreReportsSound};
 
 use concrete_sem::{steps_are_determined, steps_keep_data};
 use domain_laws::Domain;
-use program_chains::{marks_rise, places_are_found};
+use imp_chains::{places_are_found, thresholds_rise};
 
 /// Where the answer of a checked program at a location under a call string is a state, the state
 /// describes each configuration of a run that stands there, with call sites of which the string is a
@@ -13,7 +13,7 @@ pub fn answers_are_sound<D: Domain>()
     ensures sound { (d : D) → AreAnswersSound (D.operations d) (D.covers d) }
 {
     steps_keep_data();
-    marks_rise();
+    thresholds_rise();
     places_are_found();
 }
 
@@ -24,6 +24,6 @@ pub fn reports_are_sound<D: Domain>()
 {
     steps_are_determined();
     steps_keep_data();
-    marks_rise();
+    thresholds_rise();
     places_are_found();
 }

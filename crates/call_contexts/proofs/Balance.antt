@@ -3,7 +3,7 @@ use Rattle.std.proofs.lemmas.Bool.{cases_lt}
 use Rattle.std.proofs.lemmas.Option.{same_Some}
 use Rattle.std.proofs.Common.{◌≡◌, ◌≢◌, ℕ, zero, suc, ◌+◌, ◌<◌, ◌≤◌, ◌==◌, ◌⊎◌, inl, inr, cond, Bool, true, false, List, [], ◌∷◌, ◌++◌, length, take, slice_get, Option, Some, None, refl, sym, ap, ◌∙◌, subst, arith, append_assoc, append-nil, length-append}
 use Rattle.std.specs.Prelude.{if◌then◌else◌}
-use Rattle.program_table.proofs.ChangeLemmas.{no_entry}
+use Rattle.imp_table.proofs.ChangeLemmas.{no_entry}
 use Rattle.imp_syntax.specs.Plain.{Statements, Ends, Starts, Procedure}
 use Rattle.imp_syntax.specs.Plain as tree
 use Rattle.imp_slots.specs.Fits.{Distinct}
@@ -11,22 +11,22 @@ use Rattle.imp_check.specs.Slots.{Resolver, code_in, routine_of, effect_in, guar
 use Rattle.imp_check.specs.Parts.{first_or}
 use Rattle.imp_check.specs.Programs.{block_count, program_count}
 use Rattle.imp_check.specs.Entries.{inside, inside_loop, entry_at, block_entries, procedure_entries, entries_from, entries_of, entry_of, resolver_at, context_at}
-use Rattle.program_table.specs.Changes.{overlay}
-use Rattle.program_table.specs.declared.change.Put.{Put}
+use Rattle.imp_table.specs.Changes.{overlay}
+use Rattle.imp_table.specs.declared.change.Put.{Put}
 use Rattle.imp_check.specs.declared.entry.Context.{Context}
 use Rattle.imp_check.specs.declared.entry.Entry.{Entry}
 use Rattle.imp_check.specs.declared.entry.Which.TheVariants as which
-use Rattle.program_table.proofs.OverlayLemmas.{put_numbers, overlay_other}
+use Rattle.imp_table.proofs.OverlayLemmas.{put_numbers, overlay_other}
 use Rattle.imp_check.proofs.PutLemmas.{other, same}
 use Rattle.imp_check.proofs.RebuildLemmas.{entry_numbers}
-use Rattle.program_chains.specs.Chains.{has}
-use Rattle.program_chains.specs.Marks.{effect_literals, guard_literals}
+use Rattle.imp_chains.specs.Chains.{has}
+use Rattle.imp_chains.specs.Thresholds.{effect_literals, guard_literals}
 use Rattle.call_contexts.specs.Literals.{form_literals}
 use Rattle.call_contexts.specs.Tallies.{literal_lists, one_if, times}
 use Rattle.call_contexts.specs.Differences.{lists_in, lost, gained}
 use Rattle.call_contexts.proofs.LiteralLemmas.{effect_again}
 use Rattle.call_contexts.proofs.TallyLemmas.{times_both}
-use Rattle.plain_values.proofs.Lists.{one_more}
+use Rattle.base_values.proofs.Lists.{one_more}
 
 -- A sum over the numbers below a bound.
 abbrev sum_to : (ℕ → ℕ) → ℕ → ℕ

@@ -10,14 +10,14 @@ use Rattle.std.specs.List.Sorted.{IsStrictlySortedBy}
 use Rattle.std.specs.Map.{keys_of, lookup}
 use Rattle.std.specs.BTreeMap.{is_at}
 use Rattle.std.specs.BTreeSet.{insert_key}
-use Rattle.program_chains.specs.Chains.{has}
+use Rattle.imp_chains.specs.Chains.{has}
 use Rattle.imp_check.specs.declared.entry.Entry.{Entry}
 use Rattle.call_contexts.specs.Literals.{literals_in}
 use Rattle.call_contexts.specs.Differences.{lists_by}
 use Rattle.call_contexts.specs.Tallies.{one_if, times, occurs, rising, or_none, Tells, capped}
 use Rattle.call_contexts.proofs.TallyLemmas.{same_test, times_both, rising_sorted, rising_has}
-use Rattle.plain_values.proofs.Lists.{drop_item, take_item}
-use Rattle.plain_values.proofs.Cases.{by_test}
+use Rattle.base_values.proofs.Lists.{drop_item, take_item}
+use Rattle.base_values.proofs.Cases.{by_test}
 
 -- a number alone
 pub rising_one : (ns : List ℕ) (n : ℕ) → length ns ≡ 1 → n ≡ get_or ns 0 n → rising ns ≡ n ∷ []

@@ -3,16 +3,16 @@ use Rattle.std.proofs.lemmas.List.{take_all}
 use Rattle.std.proofs.Common.{◌≡◌, ℕ, zero, suc, ◌+◌, ◌<◌, ◌≤◌, ◌==◌, ◌++◌, Bool, true, false, List, [], ◌∷◌, length, take, get_or, slice_get, Option, Some, None, refl, sym, ap, subst, ◌∙◌, arith}
 use Rattle.std.proofs.lemmas.Option.{slice_get-get_or, same_Some}
 use Rattle.std.specs.Prelude.{if◌then◌else◌}
-use Rattle.program_table.specs.declared.change.Put.{Put}
+use Rattle.imp_table.specs.declared.change.Put.{Put}
 use Rattle.imp_check.specs.declared.entry.Entry.{Entry}
-use Rattle.program_chains.specs.Chains.{has}
+use Rattle.imp_chains.specs.Chains.{has}
 use Rattle.call_contexts.specs.Literals.{form_literals}
 use Rattle.call_contexts.specs.Differences.{lists_in, numbers_in, lost, gained, AreDifferent, AreMore}
 use Rattle.call_contexts.specs.Tallies.{one_if, times}
 use Rattle.call_contexts.proofs.Looped.{take_none}
 use Rattle.call_contexts.proofs.TallyLemmas.{times_both}
-use Rattle.plain_values.proofs.Lists.{take_item}
-use Rattle.plain_values.proofs.Cases.{by_test}
+use Rattle.base_values.proofs.Lists.{take_item}
+use Rattle.base_values.proofs.Cases.{by_test}
 
 module _ (k n : ℕ) where
   in_times : (o : Option Entry) → times n (lists_in k o) ≡ one_if (has n (numbers_in k o))

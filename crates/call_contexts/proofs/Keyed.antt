@@ -1,4 +1,4 @@
--- The marks of a procedure are those of the numbers that are counted in it.
+-- The thresholds of a procedure are those of the numbers that are counted in it.
 use Rattle.std.proofs.lemmas.List.Elements.{All-nil, All-cons}
 use Rattle.std.proofs.lemmas.Map.Lookups.{exact_signed}
 use Rattle.std.proofs.Common.{◌≡◌, ℕ, ℤ, zero, suc, ◌<◌, ◌≤◌, ◌||◌, ◌^◌, Bool, true, false, List, [], ◌∷◌, ◌++◌, take, slice_get, Some, refl, sym, ap, ◌∙◌, subst, arith}
@@ -8,26 +8,26 @@ use Rattle.std.specs.List.{All, list_any}
 use Rattle.std.specs.Map.{keys_of}
 use Rattle.std.specs.Ordering.{is_eq, int_cmp}
 use Rattle.std.specs.BTreeMap.{is_at}
-use Rattle.plain_values.specs.Numbers.{greatest}
+use Rattle.base_values.specs.Numbers.{greatest}
 use Rattle.imp_syntax.specs.Plain.{Procedure}
 use Rattle.imp_slots.specs.Plain.{Routine}
 use Rattle.imp_slots.specs.Fits.{FitsCode, FitInTurn, IsChecked}
 use Rattle.imp_check.specs.Slots.{routine_of, routines_of}
-use Rattle.program_chains.specs.declared.widening.Widening.{Widening}
-use Rattle.program_chains.specs.Chains.{has}
-use Rattle.program_chains.specs.Claims.{MarksRise}
-use Rattle.program_chains.specs.Marks.{literals, marks_of, IsRising}
-use Rattle.call_contexts.specs.Settings.{all_marks}
+use Rattle.imp_chains.specs.declared.widening.Widening.{Widening}
+use Rattle.imp_chains.specs.Chains.{has}
+use Rattle.imp_chains.specs.Claims.{ThresholdsRise}
+use Rattle.imp_chains.specs.Thresholds.{literals, thresholds_of, IsRising}
+use Rattle.call_contexts.specs.Settings.{all_thresholds}
 use Rattle.call_contexts.specs.Tallies.{rising, all_tallies}
-use Rattle.call_contexts.proofs.LiteralLemmas.{routine_there, mark_there}
-use Rattle.call_contexts.proofs.MarkSets.{marks_by_set, mark_of}
+use Rattle.call_contexts.proofs.LiteralLemmas.{routine_there, threshold_there}
+use Rattle.call_contexts.proofs.ThresholdSets.{thresholds_by_set, threshold_of}
 use Rattle.call_contexts.proofs.Parted.{had, by_thresholds}
 use Rattle.call_contexts.proofs.TallyLemmas.{rising_has, tally_keys}
-use Rattle.plain_values.proofs.Cases.{by_test, is_equal}
+use Rattle.base_values.proofs.Cases.{by_test, is_equal}
 use Rattle.std.proofs.lemmas.Option.{same_Some}
-use Rattle.program_chains.proofs.Rising.{rest_rises}
+use Rattle.imp_chains.proofs.Rising.{rest_rises}
 
--- Marks that rise are integers of 64 bits.
+-- Thresholds that rise are integers of 64 bits.
 first_word : (x : ℤ) (xs : List ℤ) → IsRising (x ∷ xs) → FitsSigned w64 x
 first_word x [] r = r
 first_word x (y ∷ ys) r = r.0
@@ -57,7 +57,7 @@ fits_at before [] k r f h = absurd cc
 fits_at before (s ∷ rs) zero r f h = let q : s ≡ r = same_Some s r h in (before, subst (λ (z : Routine). FitsCode before z.layout z.code) q f.0.code)
 fits_at before (s ∷ rs) (suc k) r f h = fits_at (before ++ s ∷ []) rs k r f.1 h
 
--- Where numbers are marks, a procedure has a tally.
+-- Where numbers are thresholds, a procedure has a tally.
 module _ (w : Widening) (ps : List Procedure) (k : ℕ) (u : List (ℕ × ℕ)) (e : w.thresholds ≡ true) (h : slice_get (all_tallies w (routines_of ps)) k ≡ Some u) where
   abbrev own : Routine
   own = routine_of (take k ps) (had w ps k u h).0
@@ -68,15 +68,15 @@ module _ (w : Widening) (ps : List Procedure) (k : ℕ) (u : List (ℕ × ℕ)) 
   own_has : (n : ℕ) → has n (literals own.code) ≡ has n (keys_of u)
   own_has n = sym (rising_has n (literals own.code)) ∙ ap (has n) (sym own_keys)
 
-  pub keys_small : MarksRise → IsChecked (routines_of ps) → All (λ (n : ℕ). n ≤ greatest) (keys_of u)
+  pub keys_small : ThresholdsRise → IsChecked (routines_of ps) → All (λ (n : ℕ). n ≤ greatest) (keys_of u)
   keys_small rises checked =
       let fit = fits_at [] (routines_of ps) k own checked.fit (routine_there ps k (had w ps k u h).0 (had w ps k u h).1) in
-      let rise : IsRising (marks_of (literals own.code)) = subst (λ (b : Bool). IsRising (if b then marks_of (literals own.code) else [])) e (rises w fit.0 own fit.1) in
-      all_in (λ (n : ℕ). n ≤ greatest) (keys_of u) (λ n i. number_word n (words (marks_of (literals own.code)) rise (pos n) (mark_of n (literals own.code) (own_has n ∙ i))))
+      let rise : IsRising (thresholds_of (literals own.code)) = subst (λ (b : Bool). IsRising (if b then thresholds_of (literals own.code) else [])) e (rises w fit.0 own fit.1) in
+      all_in (λ (n : ℕ). n ≤ greatest) (keys_of u) (λ n i. number_word n (words (thresholds_of (literals own.code)) rise (pos n) (threshold_of n (literals own.code) (own_has n ∙ i))))
 
-  pub marks_by_keys : (ms : List ℤ) → ms ≡ marks_of (keys_of u) → slice_get (all_marks w (routines_of ps)) k ≡ Some ms
-  marks_by_keys ms m =
-      mark_there w ps k (had w ps k u h).0 (had w ps k u h).1
-      ∙ ap (λ (b : Bool). Some (if b then marks_of (literals own.code) else [])) e
-      ∙ ap Some (marks_by_set (literals own.code) (keys_of u) own_has)
+  pub thresholds_by_keys : (ms : List ℤ) → ms ≡ thresholds_of (keys_of u) → slice_get (all_thresholds w (routines_of ps)) k ≡ Some ms
+  thresholds_by_keys ms m =
+      threshold_there w ps k (had w ps k u h).0 (had w ps k u h).1
+      ∙ ap (λ (b : Bool). Some (if b then thresholds_of (literals own.code) else [])) e
+      ∙ ap Some (thresholds_by_set (literals own.code) (keys_of u) own_has)
       ∙ ap Some (sym m)

@@ -1,8 +1,8 @@
 pub mod Numbered
 pub mod Few
 pub mod Sorted
-pub mod MarkSets
-pub mod Marked
+pub mod ThresholdSets
+pub mod ThresholdLemmas
 pub mod SameEntries
 pub mod TallyLemmas
 pub mod Counted

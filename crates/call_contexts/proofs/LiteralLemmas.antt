@@ -18,11 +18,11 @@ use Rattle.imp_check.specs.declared.entry.Entry.{Entry}
 use Rattle.imp_check.specs.declared.entry.Which.TheVariants as which
 use Rattle.imp_check.proofs.RebuildLemmas.{in_left, in_right, Known, known_left, known_right}
 use Rattle.imp_check.proofs.WalkLemmas.{own, all_known}
-use Rattle.program_chains.specs.declared.widening.Widening.{Widening}
-use Rattle.program_chains.specs.Marks.{effect_literals, guard_literals, literals, marks, marks_of}
+use Rattle.imp_chains.specs.declared.widening.Widening.{Widening}
+use Rattle.imp_chains.specs.Thresholds.{effect_literals, guard_literals, literals, thresholds, thresholds_of}
 use Rattle.call_contexts.specs.Literals.{form_literals, literals_in, literals_by}
-use Rattle.call_contexts.specs.Settings.{all_marks}
-use Rattle.plain_values.proofs.Lists.{get_some}
+use Rattle.call_contexts.specs.Settings.{all_thresholds}
+use Rattle.base_values.proofs.Lists.{get_some}
 
 pub effect_again : (e : Effect) → effect_of (action_of e) ≡ e
 effect_again plain.Skip = refl
@@ -93,26 +93,26 @@ routine_from es (q ∷ ps) (suc k) p h = routine_from (es ++ q ∷ []) ps k p h 
 pub routine_there : (ps : List Procedure) (k : ℕ) (p : Procedure) → slice_get ps k ≡ Some p → slice_get (routines_of ps) k ≡ Some (routine_of (take k ps) p)
 routine_there ps k p h = routine_from [] ps k p h
 
-pub mark_there : (w : Widening) (ps : List Procedure) (k : ℕ) (p : Procedure) → slice_get ps k ≡ Some p → slice_get (all_marks w (routines_of ps)) k ≡ Some (marks w (routine_of (take k ps) p))
-mark_there w ps k p h = slice_get-map (marks w) (routines_of ps) k ∙ ap (option_map (marks w)) (routine_there ps k p h)
+pub threshold_there : (w : Widening) (ps : List Procedure) (k : ℕ) (p : Procedure) → slice_get ps k ≡ Some p → slice_get (all_thresholds w (routines_of ps)) k ≡ Some (thresholds w (routine_of (take k ps) p))
+threshold_there w ps k p h = slice_get-map (thresholds w) (routines_of ps) k ∙ ap (option_map (thresholds w)) (routine_there ps k p h)
 
 -- the numbers of a procedure, where its entries are known
 pub own_literals : (at : ℕ → Option Entry) (ps : List Procedure) (k : ℕ) (p : Procedure) → Known at (procedure_entries (take k ps) p) → literals_by at (numbers p.body) ≡ literals (routine_of (take k ps) p).code
 own_literals at ps k p known = literals_are at (resolver_at (take k ps) p) p.body (context_at (length (take k ps))) None None known
 
--- Without thresholds there are no marks.
-pub no_marks : (w : Widening) (ps : List Procedure) (k : ℕ) → k < length ps → w.thresholds ≡ false → slice_get (all_marks w (routines_of ps)) k ≡ Some []
-no_marks w ps k l h =
+-- Where widening stops at none a procedure has no thresholds.
+pub no_thresholds : (w : Widening) (ps : List Procedure) (k : ℕ) → k < length ps → w.thresholds ≡ false → slice_get (all_thresholds w (routines_of ps)) k ≡ Some []
+no_thresholds w ps k l h =
     let p = get_some ps k l in
-    mark_there w ps k p.0 p.1 ∙ ap (λ (b : Bool). Some (if b then marks_of (literals (routine_of (take k ps) p.0).code) else [])) h
+    threshold_there w ps k p.0 p.1 ∙ ap (λ (b : Bool). Some (if b then thresholds_of (literals (routine_of (take k ps) p.0).code) else [])) h
 
--- With them the marks are those of the numbers of the procedure's statements.
-pub marks_by : (w : Widening) (ps : List Procedure) (k : ℕ) (ms : List ℤ) → k < length ps → AreNumbered ps → w.thresholds ≡ true → ms ≡ marks_of (literals_by (entry_of (entries_of ps)) (numbers_at ps k)) → slice_get (all_marks w (routines_of ps)) k ≡ Some ms
-marks_by w ps k ms l n h e =
+-- With them the thresholds are those of the numbers of the procedure's statements.
+pub thresholds_by : (w : Widening) (ps : List Procedure) (k : ℕ) (ms : List ℤ) → k < length ps → AreNumbered ps → w.thresholds ≡ true → ms ≡ thresholds_of (literals_by (entry_of (entries_of ps)) (numbers_at ps k)) → slice_get (all_thresholds w (routines_of ps)) k ≡ Some ms
+thresholds_by w ps k ms l n h e =
     let p = get_some ps k l in
     let at = entry_of (entries_of ps) in
     let lits : literals_by at (numbers_at ps k) ≡ literals (routine_of (take k ps) p.0).code = ap (λ (o : Option Procedure). literals_by at (body_numbers o)) p.1 ∙ own_literals at ps k p.0 (λ x i. all_known ps n x (own ps k p.0 p.1 x i)) in
-    mark_there w ps k p.0 p.1
-    ∙ ap (λ (b : Bool). Some (if b then marks_of (literals (routine_of (take k ps) p.0).code) else [])) h
-    ∙ ap (λ ns. Some (marks_of ns)) (sym lits)
+    threshold_there w ps k p.0 p.1
+    ∙ ap (λ (b : Bool). Some (if b then thresholds_of (literals (routine_of (take k ps) p.0).code) else [])) h
+    ∙ ap (λ ns. Some (thresholds_of ns)) (sym lits)
     ∙ ap Some (sym e)

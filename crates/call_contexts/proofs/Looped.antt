@@ -14,17 +14,17 @@ use Rattle.imp_syntax.specs.Plain.{Procedure}
 use Rattle.imp_slots.specs.Plain.{Code, Stop, Simple, If, While, Call, Break}
 use Rattle.imp_check.specs.Slots.{routine_of, routines_of}
 use Rattle.imp_check.specs.Programs.{AreNumbered}
-use Rattle.program_table.specs.Changes.{overlay}
+use Rattle.imp_table.specs.Changes.{overlay}
 use Rattle.imp_check.specs.Entries.{procedure_entries, entries_of, entry_of, resolver_at, context_at}
 use Rattle.imp_check.specs.Walks.{numbers_at}
-use Rattle.program_table.specs.declared.change.Put.{Put}
+use Rattle.imp_table.specs.declared.change.Put.{Put}
 use Rattle.imp_check.specs.declared.entry.Entry.{Entry}
-use Rattle.program_table.proofs.OverlayLemmas.{overlay_other}
+use Rattle.imp_table.proofs.OverlayLemmas.{overlay_other}
 use Rattle.imp_check.proofs.PutLemmas.{same}
 use Rattle.imp_check.proofs.RebuildLemmas.{In}
 use Rattle.imp_check.proofs.StandLemmas.{entry_found, stands, number_there, procedure_is}
 use Rattle.imp_check.proofs.WalkLemmas.{own, all_known}
-use Rattle.program_chains.specs.Chains.{has, has_while}
+use Rattle.imp_chains.specs.Chains.{has, has_while}
 use Rattle.call_contexts.specs.Loops.{whiles, loops, all_loops, loop_in, put_numbers}
 use Rattle.call_contexts.specs.Places.{is_loop}
 use Rattle.call_contexts.specs.Settings.{or_no_loops}
@@ -35,9 +35,9 @@ use Rattle.call_contexts.proofs.Numbered.{has_both}
 use Rattle.call_contexts.proofs.Placed.{any_loop, any_block, or_last}
 use Rattle.call_contexts.proofs.Rising.{has_there, there_has}
 use Rattle.call_contexts.proofs.TallyLemmas.{any_is, rising_sorted, rising_has}
-use Rattle.plain_values.proofs.Lists.{get_some, take_item}
-use Rattle.plain_values.proofs.Cases.{by_test}
-use Rattle.program_chains.proofs.Found.{lacks}
+use Rattle.base_values.proofs.Lists.{get_some, take_item}
+use Rattle.base_values.proofs.Cases.{by_test}
+use Rattle.imp_chains.proofs.Found.{lacks}
 
 -- Among the loops of a block is each while of it.
 or_else : (a b c : Bool) → (a || (b || c)) ≡ (if a then true else if b then true else c)

@@ -6,8 +6,8 @@ use Rattle.imp_slots.specs.Plain.{Code, Stop, code_numbers}
 use Rattle.imp_slots.specs.BlockViews.{before_code, code_of}
 use Rattle.imp_slots.specs.declared.blocks.SlotNode.{SlotNode}
 use Rattle.imp_slots.specs.declared.blocks.SlotNode.TheVariants as node
-use Rattle.program_chains.specs.Chains.{has}
-use Rattle.plain_values.proofs.Lists.{drop_item}
+use Rattle.imp_chains.specs.Chains.{has}
+use Rattle.base_values.proofs.Lists.{drop_item}
 
 pub has_both : (n : ℕ) (xs ys : List ℕ) → has n (xs ++ ys) ≡ (has n xs || has n ys)
 has_both n [] ys = refl

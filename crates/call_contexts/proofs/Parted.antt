@@ -1,4 +1,4 @@
--- The marks and the tally of each procedure of a program, and what a change makes of them.
+-- The thresholds and the tally of each procedure of a program, and what a change makes of them.
 use Rattle.std.proofs.lemmas.Option.{slice_get-map, slice_get_within, same_Some}
 use Rattle.std.proofs.lemmas.List.{length-map, length-take-le, take_all}
 use Rattle.std.proofs.Common.{◌≡◌, ℕ, ℤ, ◌+◌, ◌-◌, ◌<◌, ◌≤◌, ◌==◌, ◌||◌, ◌&&◌, ◌^◌, Bool, true, false, List, [], ◌∷◌, ◌++◌, length, take, slice_get, get_or, add-one, Option, Some, None, option_map, inl, inr, refl, sym, ap, ◌∙◌, subst, arith}
@@ -14,30 +14,30 @@ use Rattle.imp_check.specs.Slots.{routine_of, routines_of}
 use Rattle.imp_check.specs.Programs.{AreNumbered, check_fault}
 use Rattle.imp_check.specs.Entries.{procedure_entries, entries_of, entry_of, resolver_at, context_at}
 use Rattle.imp_check.specs.Walks.{body_numbers, numbers_at}
-use Rattle.program_table.specs.declared.change.Put.{Put}
+use Rattle.imp_table.specs.declared.change.Put.{Put}
 use Rattle.imp_check.specs.declared.entry.Entry.{Entry}
-use Rattle.program_table.proofs.FallingLemmas.{falling_once}
+use Rattle.imp_table.proofs.FallingLemmas.{falling_once}
 use Rattle.imp_check.proofs.FewLemmas.{few_statements}
 use Rattle.imp_check.proofs.PutLemmas.{same}
 use Rattle.imp_check.proofs.RebuildLemmas.{In, Known, entry_numbers, block_numbers, all_numbers}
 use Rattle.imp_check.proofs.StandLemmas.{procedure_is}
 use Rattle.imp_check.proofs.WalkLemmas.{own, all_known}
-use Rattle.program_chains.specs.declared.widening.Widening.{Widening}
-use Rattle.program_chains.specs.Chains.{has}
-use Rattle.program_chains.specs.Marks.{literals, marks, marks_of}
+use Rattle.imp_chains.specs.declared.widening.Widening.{Widening}
+use Rattle.imp_chains.specs.Chains.{has}
+use Rattle.imp_chains.specs.Thresholds.{literals, thresholds, thresholds_of}
 use Rattle.call_contexts.specs.Literals.{form_literals, literals_in}
-use Rattle.batch_meaning.specs.Batch.{Engine}
+use Rattle.batch_meaning.specs.Batch.{LoopOptions}
 use Rattle.call_contexts.specs.Loops.{loops, all_loops}
-use Rattle.call_contexts.specs.Settings.{Setting, all_marks, setting_of, IsPart}
+use Rattle.call_contexts.specs.Settings.{Setting, all_thresholds, setting_of, IsPart}
 use Rattle.call_contexts.specs.Tallies.{literal_lists, one_if, times, tally, tally_by, all_tallies, Tells, capped}
 use Rattle.call_contexts.specs.Differences.{lists_in, lost, gained, lists_by, AreDifferent}
 use Rattle.call_contexts.specs.Touches.{stands_in, touches, Brings}
 use Rattle.call_contexts.proofs.Balance.{counted, counted_block, own_counted, balance, times_below}
 use Rattle.call_contexts.proofs.Few.{as_many}
-use Rattle.call_contexts.proofs.LiteralLemmas.{routine_there, mark_there}
-use Rattle.call_contexts.proofs.TallyLemmas.{tally_tells, told_once, same_marks}
-use Rattle.plain_values.proofs.Lists.{get_some, take_item, take_next}
-use Rattle.plain_values.proofs.Cases.{or_first, or_second}
+use Rattle.call_contexts.proofs.LiteralLemmas.{routine_there, threshold_there}
+use Rattle.call_contexts.proofs.TallyLemmas.{tally_tells, told_once, same_thresholds}
+use Rattle.base_values.proofs.Lists.{get_some, take_item, take_next}
+use Rattle.base_values.proofs.Cases.{or_first, or_second}
 
 -- the statements of the procedure at a place, by the numbers of each
 abbrev lists_at : List Procedure → ℕ → Procedure → List (List ℕ)
@@ -93,27 +93,27 @@ tally_changed w old new puts k t u ls gs b e l h d m =
     tally_there w new k q.0 q.1 ∙ ap Some (by_thresholds w Q e ∙ same)
 
 -- a procedure with the same numbers
-pub marks_kept : (w : Widening) (old new : List Procedure) (k : ℕ) (ms : List ℤ) (t u : List (ℕ × ℕ)) → w.thresholds ≡ true
-    → slice_get (all_marks w (routines_of old)) k ≡ Some ms
+pub thresholds_kept : (w : Widening) (old new : List Procedure) (k : ℕ) (ms : List ℤ) (t u : List (ℕ × ℕ)) → w.thresholds ≡ true
+    → slice_get (all_thresholds w (routines_of old)) k ≡ Some ms
     → slice_get (all_tallies w (routines_of old)) k ≡ Some t
     → slice_get (all_tallies w (routines_of new)) k ≡ Some u
-    → keys_of u ≡ keys_of t → slice_get (all_marks w (routines_of new)) k ≡ Some ms
-marks_kept w old new k ms t u e m h i keys =
+    → keys_of u ≡ keys_of t → slice_get (all_thresholds w (routines_of new)) k ≡ Some ms
+thresholds_kept w old new k ms t u e m h i keys =
     let p = had w old k t h in
     let q = had w new k u i in
     let P = routine_of (take k old) p.0 in
     let Q = routine_of (take k new) q.0 in
-    let same : marks_of (literals Q.code) ≡ marks_of (literals P.code) =
-    same_marks Q.code P.code (ap keys_of (sym (by_thresholds w Q e) ∙ q.2) ∙ keys ∙ ap keys_of (sym p.2 ∙ by_thresholds w P e)) in
-    mark_there w new k q.0 q.1 ∙ ap (λ (z : List ℤ). Some (if w.thresholds then z else [])) same ∙ sym (mark_there w old k p.0 p.1) ∙ m
+    let same : thresholds_of (literals Q.code) ≡ thresholds_of (literals P.code) =
+    same_thresholds Q.code P.code (ap keys_of (sym (by_thresholds w Q e) ∙ q.2) ∙ keys ∙ ap keys_of (sym p.2 ∙ by_thresholds w P e)) in
+    threshold_there w new k q.0 q.1 ∙ ap (λ (z : List ℤ). Some (if w.thresholds then z else [])) same ∙ sym (threshold_there w old k p.0 p.1) ∙ m
 
-pub marks_kept_if : (same : Bool) (w : Widening) (old new : List Procedure) (k : ℕ) (ms : List ℤ) (t u : List (ℕ × ℕ)) → w.thresholds ≡ true
-    → slice_get (all_marks w (routines_of old)) k ≡ Some ms
+pub thresholds_kept_if : (same : Bool) (w : Widening) (old new : List Procedure) (k : ℕ) (ms : List ℤ) (t u : List (ℕ × ℕ)) → w.thresholds ≡ true
+    → slice_get (all_thresholds w (routines_of old)) k ≡ Some ms
     → slice_get (all_tallies w (routines_of old)) k ≡ Some t
     → slice_get (all_tallies w (routines_of new)) k ≡ Some u
-    → OnTrue same (keys_of u ≡ keys_of t) → OnTrue same (slice_get (all_marks w (routines_of new)) k ≡ Some ms)
-marks_kept_if true w old new k ms t u e m h i keys = marks_kept w old new k ms t u e m h i keys
-marks_kept_if false w old new k ms t u e m h i keys = tt
+    → OnTrue same (keys_of u ≡ keys_of t) → OnTrue same (slice_get (all_thresholds w (routines_of new)) k ≡ Some ms)
+thresholds_kept_if true w old new k ms t u e m h i keys = thresholds_kept w old new k ms t u e m h i keys
+thresholds_kept_if false w old new k ms t u e m h i keys = tt
 
 pub made_of : (t s u : List (ℕ × ℕ)) (ls ms gs hs : List (List ℕ)) → s ≡ t → ms ≡ ls → hs ≡ gs → Makes s u ms hs → Makes t u ls gs
 made_of t s u ls ms gs hs a b c m =
@@ -148,31 +148,31 @@ untouched_tally w old new puts k t b e f l h = let none = none_lost (entry_of (e
 
 -- a procedure of which as many statements with each number go as come
 pub part_same : (w : Widening) (old new : List Procedure) (puts : List Put) (k : ℕ) (ms : List ℤ) (t : List (ℕ × ℕ)) (os : List ℕ) (ls gs : List (List ℕ)) → Brings old new puts → w.thresholds ≡ true → k < length new
-    → slice_get (all_marks w (routines_of old)) k ≡ Some ms → slice_get (all_tallies w (routines_of old)) k ≡ Some t → slice_get (all_loops (routines_of new)) k ≡ Some os
+    → slice_get (all_thresholds w (routines_of old)) k ≡ Some ms → slice_get (all_tallies w (routines_of old)) k ≡ Some t → slice_get (all_loops (routines_of new)) k ≡ Some os
     → AreDifferent (lost k (entry_of (entries_of old)) puts) (gained k puts) ls gs → ls ≡ gs → IsPart w (routines_of new) k ms t os
 part_same w old new puts k ms t os ls gs b e l m h i d s =
     let u = tally_kept w old new puts k t b e (λ n. omega (arith, d.balanced n, ap (times n) s)) l h in
-    record { marks_are = marks_kept w old new k ms t t e m h u refl; tally_is = u; loops_are = i }
+    record { thresholds_are = thresholds_kept w old new k ms t t e m h u refl; tally_is = u; loops_are = i }
 
 -- a procedure without thresholds, or one that is not touched
 pub part_kept : (w : Widening) (old new : List Procedure) (puts : List Put) (k : ℕ) (c : Bool) (ms : List ℤ) (t : List (ℕ × ℕ)) (ls : List ℕ) → Brings old new puts → c ≡ touches (entry_of (entries_of old)) puts k → k < length new
-    → slice_get (all_marks w (routines_of old)) k ≡ Some ms → slice_get (all_tallies w (routines_of old)) k ≡ Some t → slice_get (all_loops (routines_of new)) k ≡ Some ls
+    → slice_get (all_thresholds w (routines_of old)) k ≡ Some ms → slice_get (all_tallies w (routines_of old)) k ≡ Some t → slice_get (all_loops (routines_of new)) k ≡ Some ls
     → (w.thresholds && c) ≡ false → IsPart w (routines_of new) k ms t ls
 part_kept w old new puts k c ms t ls b e l m h i f = go w.thresholds refl f
   where
     go : (d : Bool) → w.thresholds ≡ d → (d && c) ≡ false → IsPart w (routines_of new) k ms t ls
     go true d f =
         let u = untouched_tally w old new puts k t b d (sym e ∙ f) l h in
-        record { marks_are = marks_kept w old new k ms t t d m h u refl; tally_is = u; loops_are = i }
+        record { thresholds_are = thresholds_kept w old new k ms t t d m h u refl; tally_is = u; loops_are = i }
     go false d f =
         let p = had w old k t h in
         let q = get_some new k l in
         let P = routine_of (take k old) p.0 in
         let Q = routine_of (take k new) q.0 in
         let no_tally : (r : Routine) → tally_by w r ≡ [] = λ r. ap (λ (b : Bool). if b then tally r.code else []) d in
-        let no_marks : (r : Routine) → marks w r ≡ [] = λ r. ap (λ (b : Bool). if b then marks_of (literals r.code) else []) d in
+        let no_thresholds : (r : Routine) → thresholds w r ≡ [] = λ r. ap (λ (b : Bool). if b then thresholds_of (literals r.code) else []) d in
         record {
-          marks_are = mark_there w new k q.0 q.1 ∙ ap Some (no_marks Q ∙ sym (no_marks P)) ∙ sym (mark_there w old k p.0 p.1) ∙ m;
+          thresholds_are = threshold_there w new k q.0 q.1 ∙ ap Some (no_thresholds Q ∙ sym (no_thresholds P)) ∙ sym (threshold_there w old k p.0 p.1) ∙ m;
           tally_is = tally_there w new k q.0 q.1 ∙ ap Some (no_tally Q ∙ sym (no_tally P) ∙ p.2);
           loops_are = i;
         }
@@ -222,29 +222,29 @@ part_more : {A : Type 0} (whole all more : List A) (i : ℕ) (x : A) → all ≡
 part_more whole all more i x e h p = p ∙ ap (λ zs. zs ++ x ∷ []) e ∙ sym (rw add-one (take_next whole i x h))
 
 -- The parts of the first procedures.
-pub record SoFar (e : Engine) (program : List Routine) (place : ℕ) (s : Setting) : Type 0 where
+pub record SoFar (e : LoopOptions) (program : List Routine) (place : ℕ) (s : Setting) : Type 0 where
   pub engine : s.engine ≡ e
-  pub marks : s.marks ≡ take place (all_marks e.widening program)
+  pub thresholds : s.thresholds ≡ take place (all_thresholds e.widening program)
   pub tallies : s.tallies ≡ take place (all_tallies e.widening program)
   pub loops : s.loops ≡ take place (all_loops program)
 
-pub so_far_more : (e : Engine) (program : List Routine) (i k : ℕ) (s t : Setting) (ms : List ℤ) (ts : List (ℕ × ℕ)) (ls : List ℕ) → SoFar e program i s → k ≡ i → IsPart e.widening program k ms ts ls
-    → t.engine ≡ s.engine → t.marks ≡ s.marks ++ ms ∷ [] → t.tallies ≡ s.tallies ++ ts ∷ [] → t.loops ≡ s.loops ++ ls ∷ [] → SoFar e program (i + 1) t
+pub so_far_more : (e : LoopOptions) (program : List Routine) (i k : ℕ) (s t : Setting) (ms : List ℤ) (ts : List (ℕ × ℕ)) (ls : List ℕ) → SoFar e program i s → k ≡ i → IsPart e.widening program k ms ts ls
+    → t.engine ≡ s.engine → t.thresholds ≡ s.thresholds ++ ms ∷ [] → t.tallies ≡ s.tallies ++ ts ∷ [] → t.loops ≡ s.loops ++ ls ∷ [] → SoFar e program (i + 1) t
 so_far_more e program i k s t ms ts ls so_far at part same more others rest =
     let p = subst (λ j. IsPart e.widening program j ms ts ls) at part in
     record {
       engine = same ∙ so_far.engine;
-      marks = part_more (all_marks e.widening program) s.marks t.marks i ms so_far.marks p.marks_are more;
+      thresholds = part_more (all_thresholds e.widening program) s.thresholds t.thresholds i ms so_far.thresholds p.thresholds_are more;
       tallies = part_more (all_tallies e.widening program) s.tallies t.tallies i ts so_far.tallies p.tally_is others;
       loops = part_more (all_loops program) s.loops t.loops i ls so_far.loops p.loops_are rest;
     }
 
-pub so_far_whole : (e : Engine) (ps : List Procedure) (i : ℕ) (s : Setting) → SoFar e (routines_of ps) i s → length ps ≤ i → s ≡ setting_of e (routines_of ps)
+pub so_far_whole : (e : LoopOptions) (ps : List Procedure) (i : ℕ) (s : Setting) → SoFar e (routines_of ps) i s → length ps ≤ i → s ≡ setting_of e (routines_of ps)
 so_far_whole e ps i s so_far h =
-    let ms = so_far.marks ∙ take_all i (all_marks e.widening (routines_of ps)) (omega (arith, h, length-map (routines_of ps) (marks e.widening), as_many [] ps)) in
+    let ms = so_far.thresholds ∙ take_all i (all_thresholds e.widening (routines_of ps)) (omega (arith, h, length-map (routines_of ps) (thresholds e.widening), as_many [] ps)) in
     let ts = so_far.tallies ∙ take_all i (all_tallies e.widening (routines_of ps)) (omega (arith, h, length-map (routines_of ps) (tally_by e.widening), as_many [] ps)) in
     let ls = so_far.loops ∙ take_all i (all_loops (routines_of ps)) (omega (arith, h, length-map (routines_of ps) loops, as_many [] ps)) in
-    λ j. record { engine = so_far.engine j; marks = ms j; tallies = ts j; loops = ls j }
+    λ j. record { engine = so_far.engine j; thresholds = ms j; tallies = ts j; loops = ls j }
 
 -- Procedures that are touched, one change after the other.
 touches_last : (at : ℕ → Option Entry) (ps : List Put) (p : Put) (k : ℕ) → touches at (ps ++ p ∷ []) k ≡ (stands_in (at p.number) k || (stands_in p.entry k || touches at ps k))
@@ -281,7 +281,7 @@ touched_whole at ps i k has e h = e ∙ ap (λ qs. touches at qs k) (take_all i 
 
 -- a part that is as it was
 part_of : (w : Widening) (program : List Routine) (k : ℕ) (ms ns : List ℤ) (t u : List (ℕ × ℕ)) (ls os : List ℕ) → ns ≡ ms → u ≡ t → os ≡ ls → IsPart w program k ms t ls → IsPart w program k ns u os
-part_of w program k ms ns t u ls os a b c p = record { marks_are = p.marks_are ∙ ap Some (sym a); tally_is = p.tally_is ∙ ap Some (sym b); loops_are = p.loops_are ∙ ap Some (sym c) }
+part_of w program k ms ns t u ls os a b c p = record { thresholds_are = p.thresholds_are ∙ ap Some (sym a); tally_is = p.tally_is ∙ ap Some (sym b); loops_are = p.loops_are ∙ ap Some (sym c) }
 
 pub shared_part : {T E : Type 0} (r : Result T E) (f : T → List ℤ) (g : T → List (ℕ × ℕ)) (h : T → List ℕ) (w : Widening) (program : List Routine) (k : ℕ) (ms : List ℤ) (t : List (ℕ × ℕ)) (ls : List ℕ)
     → IfOk r (λ p. f p ≡ ms) → IfOk r (λ p. g p ≡ t) → IfOk r (λ p. h p ≡ ls) → IsPart w program k ms t ls → IfOk r (λ p. IsPart w program k (f p) (g p) (h p))

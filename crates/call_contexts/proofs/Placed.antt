@@ -19,13 +19,13 @@ use Rattle.imp_check.specs.declared.entry.Context.{Context}
 use Rattle.imp_check.specs.declared.entry.Entry.{Entry}
 use Rattle.imp_check.specs.declared.entry.Which.TheVariants as which
 use Rattle.imp_check.proofs.RebuildLemmas.{entry_numbers, all_numbers}
-use Rattle.program_chains.specs.Chains.{has, has_while, holder_from, holder, named_from, named, is_while}
-use Rattle.analysis_words.specs.declared.refusal.Refusal.TheVariants.{NoStatement}
+use Rattle.imp_chains.specs.Chains.{has, has_while, holder_from, holder, named_from, named, is_while}
+use Rattle.imp_words.specs.declared.refusal.QueryRefusal.TheVariants.{NoStatement}
 use Rattle.batch_meaning.specs.Answers.{found_or, found_loop}
 use Rattle.call_contexts.specs.Places.{is_loop}
 use Rattle.call_contexts.proofs.Numbered.{has_both}
-use Rattle.plain_values.proofs.Cases.{by_test}
-use Rattle.plain_values.proofs.Lists.{one_more}
+use Rattle.base_values.proofs.Cases.{by_test}
+use Rattle.base_values.proofs.Lists.{one_more}
 
 pub swapped : (m n : ℕ) → (m == n) ≡ (n == m)
 swapped m n = grind (arith, nat_tests)

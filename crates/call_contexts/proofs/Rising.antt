@@ -13,11 +13,11 @@ use Rattle.std.specs.List.{AllByRecursion, filter, insert, remove}
 use Rattle.std.specs.List.Sorted.{IsBinarySearchResult, IsStrictlySortedBy}
 use Rattle.std.specs.Ordering.{match_ordering, nat_cmp}
 use Rattle.std.specs.declared.cmp.Ordering.TheVariants.{Less, Greater}
-use Rattle.program_chains.specs.Chains.{has}
+use Rattle.imp_chains.specs.Chains.{has}
 use Rattle.call_contexts.specs.Loops.{IsGap}
 use Rattle.call_contexts.proofs.Sorted.{inserted_sorted, inserted_has}
 use Rattle.call_contexts.proofs.TallyLemmas.{any_is, same_test}
-use Rattle.plain_values.proofs.Cases.{by_test}
+use Rattle.base_values.proofs.Cases.{by_test}
 use Rattle.std.proofs.lemmas.Option.{slice_get_within, same_Some}
 use Rattle.std.proofs.Math.Bool.{and-false, and-true}
 

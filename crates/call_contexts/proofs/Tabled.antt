@@ -6,9 +6,9 @@ use Rattle.imp_syntax.specs.Plain.{Statements, Ends, Starts, Procedure}
 use Rattle.imp_syntax.specs.Plain as tree
 use Rattle.imp_slots.specs.Plain.{Simple, If, While, Call, Break, Routine}
 use Rattle.imp_slots.specs.Fits.{FitInTurn, IsChecked}
-use Rattle.program_chains.specs.Chains.{calls_to, extended, through, chains_within, chains}
-use Rattle.program_chains.proofs.Found.{called_earlier}
-use Rattle.program_chains.specs.Claims.{ChainsAreThroughCallers}
+use Rattle.imp_chains.specs.Chains.{calls_to, extended, through, chains_within, chains}
+use Rattle.imp_chains.proofs.Found.{called_earlier}
+use Rattle.imp_chains.specs.Claims.{ChainsAreThroughCallers}
 use Rattle.imp_check.specs.Programs.{AreNumbered}
 use Rattle.imp_check.specs.Slots.{Resolver, callee_in, code_in, routines_from, routines_of}
 use Rattle.imp_check.specs.Entries.{inside, inside_loop, calls_here, sites_in, block_entries, procedure_entries, entries_from, entries_of, entry_of, resolver_at, context_at}
@@ -19,8 +19,8 @@ use Rattle.imp_check.proofs.RebuildLemmas.{Known, all_numbers, found}
 use Rattle.imp_slots.specs.Fits.{Distinct}
 use Rattle.call_contexts.specs.Tables.{chains_up, or_no_chains, chains_in, chains_by, through_sites}
 use Rattle.call_contexts.proofs.Placed.{swapped}
-use Rattle.plain_values.proofs.Lists.{drop_item, get_last, get_other, one_more}
-use Rattle.plain_values.proofs.Cases.{by_test}
+use Rattle.base_values.proofs.Lists.{drop_item, get_last, get_other, one_more}
+use Rattle.base_values.proofs.Cases.{by_test}
 use Rattle.std.proofs.Math.Seq.{drop-length}
 use Rattle.std.proofs.lemmas.List.{length-drop}
 

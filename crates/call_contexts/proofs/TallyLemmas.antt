@@ -10,14 +10,14 @@ use Rattle.std.specs.Map.{keys_of, lookup}
 use Rattle.std.specs.BTreeMap.{is_at}
 use Rattle.std.proofs.Math.Nat.{suc-add}
 use Rattle.imp_slots.specs.Plain.{Code, Stop, Simple, If, While, Call, Break}
-use Rattle.program_chains.specs.Chains.{has}
-use Rattle.program_chains.specs.Marks.{effect_literals, guard_literals, argument_literals, literals, marks_of}
+use Rattle.imp_chains.specs.Chains.{has}
+use Rattle.imp_chains.specs.Thresholds.{effect_literals, guard_literals, argument_literals, literals, thresholds_of}
 use Rattle.call_contexts.specs.Tallies.{literal_lists, one_if, times, rising, tally, or_none, Tells}
 use Rattle.call_contexts.proofs.Numbered.{has_both}
 use Rattle.call_contexts.proofs.Sorted.{inserted_sorted, inserted_has}
-use Rattle.call_contexts.proofs.MarkSets.{marks_by_set}
+use Rattle.call_contexts.proofs.ThresholdSets.{thresholds_by_set}
 use Rattle.call_contexts.proofs.SameEntries.{same_entries}
-use Rattle.plain_values.proofs.Cases.{by_test}
+use Rattle.base_values.proofs.Cases.{by_test}
 
 -- numbers are compared as they are tested
 pub same_test : (n m : ℕ) → is_eq (nat_cmp n m) ≡ (n == m)
@@ -113,8 +113,8 @@ tally_tells c = record {
 pub told_once : (es ds : List (ℕ × ℕ)) (f g : ℕ → ℕ) → Tells es f → Tells ds g → ((n : ℕ) → f n ≡ g n) → es ≡ ds
 told_once es ds f g t u h = same_entries es ds t.sorted u.sorted (λ n. t.at n ∙ ap or_none (h n) ∙ sym (u.at n))
 
--- Blocks whose tallies have the same numbers have the same marks.
-pub same_marks : (c d : Code) → keys_of (tally c) ≡ keys_of (tally d) → marks_of (literals c) ≡ marks_of (literals d)
-same_marks c d h =
+-- Blocks whose tallies have the same numbers have the same thresholds.
+pub same_thresholds : (c d : Code) → keys_of (tally c) ≡ keys_of (tally d) → thresholds_of (literals c) ≡ thresholds_of (literals d)
+same_thresholds c d h =
     let ks : rising (literals c) ≡ rising (literals d) = sym (keys_are (λ n. times n (literal_lists c)) (rising (literals c))) ∙ h ∙ keys_are (λ n. times n (literal_lists d)) (rising (literals d)) in
-    marks_by_set (literals c) (literals d) (λ n. sym (rising_has n (literals c)) ∙ ap (has n) ks ∙ rising_has n (literals d))
+    thresholds_by_set (literals c) (literals d) (λ n. sym (rising_has n (literals c)) ∙ ap (has n) ks ∙ rising_has n (literals d))

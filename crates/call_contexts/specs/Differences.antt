@@ -1,8 +1,8 @@
 -- The numbers that a change takes from a procedure and brings to it, by statements.
 use Rattle.std.specs.Prelude.{◌≡◌, ℕ, ◌+◌, ◌≤◌, List, [], ◌∷◌, ◌++◌, Option, Some, None, ◌==◌, if◌then◌else◌}
 use Rattle.imp_check.specs.declared.entry.Entry.{Entry}
-use Rattle.program_table.specs.declared.change.Put.{Put}
-use Rattle.program_chains.specs.Chains.{has}
+use Rattle.imp_table.specs.declared.change.Put.{Put}
+use Rattle.imp_chains.specs.Chains.{has}
 use Rattle.call_contexts.specs.Literals.{form_literals, literals_in}
 use Rattle.call_contexts.specs.Tallies.{one_if, times}
 

@@ -6,7 +6,7 @@ use Rattle.imp_slots.specs.declared.actions.SlotStmt.TheVariants as act
 use Rattle.imp_check.specs.declared.entry.Entry.{Entry}
 use Rattle.imp_check.specs.declared.entry.SlotForm.{SlotForm}
 use Rattle.imp_check.specs.declared.entry.SlotForm.TheVariants as form
-use Rattle.program_chains.specs.Marks.{guard_literals, effect_literals, argument_literals}
+use Rattle.imp_chains.specs.Thresholds.{guard_literals, effect_literals, argument_literals}
 
 abbrev pub stmt_literals : SlotStmt → List ℕ
 stmt_literals act.Break = []

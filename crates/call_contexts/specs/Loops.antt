@@ -1,7 +1,7 @@
 -- The loops of a procedure, by their numbers.
 use Rattle.std.specs.Prelude.{ℕ, ◌<◌, ◌≤◌, Bool, false, List, [], ◌∷◌, ◌++◌, length, slice_index, Option, Some, None, map, ◌==◌, ◌&&◌}
 use Rattle.imp_slots.specs.Plain.{Code, Stop, Simple, If, While, Call, Break, Routine}
-use Rattle.program_table.specs.declared.change.Put.{Put}
+use Rattle.imp_table.specs.declared.change.Put.{Put}
 use Rattle.imp_check.specs.declared.entry.Entry.{Entry}
 use Rattle.call_contexts.specs.Places.{is_loop}
 use Rattle.call_contexts.specs.Tallies.{rising}

@@ -1,10 +1,10 @@
 -- The procedure of a location, or why there is none; which statements are loops.
 use Rattle.std.specs.Prelude.{ℕ, Bool, true, false, Result, Ok, Err}
 use Rattle.imp_syntax.specs.Plain.{Statement, Simple, Break, Call, If, While}
-use Rattle.analysis_words.specs.declared.refusal.Refusal.{Refusal}
+use Rattle.imp_words.specs.declared.refusal.QueryRefusal.{QueryRefusal}
 use Rattle.batch_meaning.specs.Answers.{Found, In, Misses}
 
-abbrev pub found_of : Result ℕ Refusal → Found
+abbrev pub found_of : Result ℕ QueryRefusal → Found
 found_of (Ok p) = In p
 found_of (Err r) = Misses r
 

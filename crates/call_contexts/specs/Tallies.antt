@@ -7,9 +7,9 @@ use Rattle.std.specs.Map.{keys_of, lookup}
 use Rattle.std.specs.BTreeMap.{is_at}
 use Rattle.std.specs.BTreeSet.{insert_key}
 use Rattle.imp_slots.specs.Plain.{Code, Stop, Simple, If, While, Call, Break, Routine}
-use Rattle.program_chains.specs.declared.widening.Widening.{Widening}
-use Rattle.program_chains.specs.Chains.{has}
-use Rattle.program_chains.specs.Marks.{effect_literals, guard_literals, argument_literals, literals}
+use Rattle.imp_chains.specs.declared.widening.Widening.{Widening}
+use Rattle.imp_chains.specs.Chains.{has}
+use Rattle.imp_chains.specs.Thresholds.{effect_literals, guard_literals, argument_literals, literals}
 
 -- the numbers of each statement, without those inside it
 abbrev pub literal_lists : Code → List (List ℕ)
@@ -43,7 +43,7 @@ rising (n ∷ ns) = insert_key nat_cmp (rising ns) n
 abbrev pub tally : Code → List (ℕ × ℕ)
 tally c = map (λ n. (n, times n (literal_lists c))) (rising (literals c))
 
--- that of a procedure, where numbers are marks
+-- that of a procedure, where numbers are thresholds
 abbrev pub tally_by : Widening → Routine → List (ℕ × ℕ)
 tally_by w r = if w.thresholds then tally r.code else []
 

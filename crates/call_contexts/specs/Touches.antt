@@ -3,9 +3,9 @@ use Rattle.std.specs.Prelude.{ℕ, ◌≡◌, List, [], ◌∷◌, Option, Some,
 use Rattle.imp_syntax.specs.Plain.{Procedure}
 use Rattle.imp_check.specs.Entries.{entries_of, entry_of}
 use Rattle.imp_check.specs.Programs.{AreNumbered, check_fault}
-use Rattle.program_table.specs.Changes.{overlay, AreFalling}
+use Rattle.imp_table.specs.Changes.{overlay, AreFalling}
 use Rattle.imp_check.specs.declared.entry.Entry.{Entry}
-use Rattle.program_table.specs.declared.change.Put.{Put}
+use Rattle.imp_table.specs.declared.change.Put.{Put}
 
 -- whether this is a statement of the procedure at a place
 abbrev pub stands_in : Option Entry → (place : ℕ) → Bool

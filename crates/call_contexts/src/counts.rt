@@ -5,11 +5,11 @@ ghost use Rattle.std.specs.Ordering.{nat_cmp};
 ghost use Rattle.std.specs.List.{All};
 ghost use Rattle.std.specs.Map.{keys_of};
 ghost use Rattle.std.specs.BTreeMap.{get, IsOrdered, Updates};
-ghost use Rattle.plain_values.specs.Numbers.{greatest};
-ghost use Rattle.program_chains.specs.Chains.{has};
+ghost use Rattle.base_values.specs.Numbers.{greatest};
+ghost use Rattle.imp_chains.specs.Chains.{has};
 ghost use Rattle.call_contexts.specs.Tallies.{one_if, occurs, rising, Tells, capped};
 
-use plain_values::{Items, Memory, Number};
+use base_values::{Items, Memory, Number};
 use std::alloc::Global;
 use std::collections::{BTreeMap, BTreeSet};
 use std::marker::Model;

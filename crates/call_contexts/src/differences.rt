@@ -6,10 +6,10 @@ ghost use Rattle.imp_check.specs.Entries.{entries_of, entry_of};
 ghost use Rattle.call_contexts.specs.Differences.{numbers_in, lost, gained, AreDifferent, AreMore};
 
 use crate::literals::numbers_of;
+use base_values::{Items, Memory, Number};
 use imp_check::Entry;
 use imp_syntax::{ProcId, StmtId};
-use plain_values::{Items, Memory, Number};
-use program_table::{Put, View};
+use imp_table::{Put, View};
 use std::alloc::Global;
 
 /// The numbers of each statement of a procedure that a change takes away, and of each that it brings, but for those at a

@@ -7,8 +7,8 @@ ghost use Rattle.imp_syntax.specs.Plain.{Procedure};
 ghost use Rattle.imp_check.specs.Slots.{routines_of};
 ghost use Rattle.imp_check.specs.Entries.{entries_of, entry_of};
 ghost use Rattle.imp_check.specs.Fine.{IsFine};
-ghost use Rattle.program_table.specs.Changes.{AreFalling, Makes};
-ghost use Rattle.call_contexts.specs.Settings.{all_marks, setting_of, IsPart};
+ghost use Rattle.imp_table.specs.Changes.{AreFalling, Makes};
+ghost use Rattle.call_contexts.specs.Settings.{all_thresholds, setting_of, IsPart};
 ghost use Rattle.call_contexts.specs.Tallies.{all_tallies};
 ghost use Rattle.call_contexts.specs.Loops.{all_loops};
 ghost use Rattle.call_contexts.specs.Touches.{Brings, touches};
@@ -16,16 +16,16 @@ ghost use Rattle.call_contexts.specs.Touches.{Brings, touches};
 use crate::counts::Counts;
 use crate::differences::Differences;
 use crate::loops::Loops;
-use crate::marking::marks_of;
-use crate::part::{Marks, Part, Tally};
+use crate::part::{NumberTally, Part, Thresholds};
 use crate::setting::{Setting, no_parts};
 use crate::table::procedure_count;
 use crate::tallying::changed;
+use crate::threshold_sets::thresholds_of;
 use crate::touched::touched_places;
+use base_values::Memory;
+use imp_chains::thresholds_rise;
 use imp_syntax::ProcId;
-use plain_values::Memory;
-use program_chains::marks_rise;
-use program_table::{Change, Put, Table, View};
+use imp_table::{Change, Put, Table, View};
 use std::alloc::Global;
 use std::collections::BTreeSet;
 
@@ -54,12 +54,12 @@ fn loops_over(
 
 impl Setting {
     /// The setting of the program that a change makes, where this is that of the program before it. Procedures that keep
-    /// the set of their numbers share their marks with this setting; the marks of others are made of the numbers that are
+    /// the set of their numbers share their thresholds with this setting; the thresholds of others are made of the numbers that are
     /// counted then. Procedures that keep their loops share these, and those where the numbers that come are those that go
     /// share what is counted. It takes time linear in the change and in the number of procedures. Where other numbers come
     /// than go, it also takes time linear in the different numbers of the procedure, times the logarithm of these where
     /// their set changes; where loops come or go, in its loops, times the logarithm of these; and for a procedure more the
-    /// time of [`marks`]. It fails for want of memory alone.
+    /// time of [`thresholds`]. It fails for want of memory alone.
     pub fn after(&self, alloc: Global, table: &Table, change: &Change) -> Result<Setting, Memory>
         ghost program: { List Procedure }
         requires makes { Makes table.now.program change.now program }
@@ -109,11 +109,11 @@ impl Setting {
         requires before { self.now ≡ setting_of self.now.engine (routines_of old.now) }
         requires touched { (k : ℕ) → contains nat_cmp touched.now k ≡ touches (entry_of (entries_of old.now)) puts.now k }
         requires there { proc < length new.now }
-        ensures is { IfOk result (λ part. IsPart self.now.engine.widening (routines_of new.now) proc part.marks part.tally part.loops) }
+        ensures is { IfOk result (λ part. IsPart self.now.engine.widening (routines_of new.now) proc part.thresholds part.tally part.loops) }
     {
         let place = proc.place() as usize;
-        let (Some(marks), Some(tally), Some(before)) = (
-            self.marks.get(place),
+        let (Some(thresholds), Some(tally), Some(before)) = (
+            self.thresholds.get(place),
             self.tallies.get(place),
             self.loops.get(place),
         ) else {
@@ -121,20 +121,20 @@ impl Setting {
         };
         let loops = loops_over(alloc, old, new, puts, touched, proc, before)?;
         if self.recounts(touched, proc) {
-            self.changed_part(alloc, old, new, puts, proc, marks, tally, loops)
+            self.changed_part(alloc, old, new, puts, proc, thresholds, tally, loops)
         } else {
-            Part::shared(marks, tally, loops)
+            Part::shared(thresholds, tally, loops)
         }
     }
 
-    /// Whether a procedure may have other marks, where these are touched.
+    /// Whether a procedure may have other thresholds, where these are touched.
     fn recounts(&self, touched: &BTreeSet<u32>, proc: ProcId) -> bool
         ensures is { result ≡ (self.now.engine.widening.thresholds && contains nat_cmp touched.now proc) }
     {
         self.widening.thresholds && touched.contains(&proc.place())
     }
 
-    /// The part of a procedure that a change touches, where it had these marks and this tally, and has these loops.
+    /// The part of a procedure that a change touches, where it had these thresholds and this tally, and has these loops.
     fn changed_part(
         &self,
         alloc: Global,
@@ -142,17 +142,17 @@ impl Setting {
         new: &View<'_>,
         puts: &[Put],
         proc: ProcId,
-        before: &Marks,
-        tally: &Tally,
+        before: &Thresholds,
+        tally: &NumberTally,
         loops: Loops,
     ) -> Result<Part, Memory>
         requires brings { Brings old.now new.now puts.now }
-        requires thresholds { self.now.engine.widening.thresholds ≡ true }
-        requires marks { slice_get (all_marks self.now.engine.widening (routines_of old.now)) proc ≡ Some before.now }
+        requires widens { self.now.engine.widening.thresholds ≡ true }
+        requires thresholds { slice_get (all_thresholds self.now.engine.widening (routines_of old.now)) proc ≡ Some before.now }
         requires tally { slice_get (all_tallies self.now.engine.widening (routines_of old.now)) proc ≡ Some tally.now }
         requires loops { slice_get (all_loops (routines_of new.now)) proc ≡ Some loops }
         requires there { proc < length new.now }
-        ensures is { IfOk result (λ part. IsPart self.now.engine.widening (routines_of new.now) proc part.marks part.tally part.loops) }
+        ensures is { IfOk result (λ part. IsPart self.now.engine.widening (routines_of new.now) proc part.thresholds part.tally part.loops) }
     {
         let differences = Differences::new(alloc, old, puts, proc)?;
         if differences.are_none() {
@@ -161,36 +161,36 @@ impl Setting {
         let (lost, gained) = (differences.lost(), differences.gained());
         let counts = changed(alloc, tally.counts(), lost, gained)?;
         let is_kept = counts.has_same_numbers(tally.counts());
-        let marks = self.marks_over(alloc, new, proc, before, &counts, is_kept)?;
+        let thresholds = self.thresholds_over(alloc, new, proc, before, &counts, is_kept)?;
         Ok(Part {
-            marks,
-            tally: Tally::new(alloc, counts)?,
+            thresholds,
+            tally: NumberTally::new(alloc, counts)?,
             loops,
         })
     }
 
-    /// The marks of a procedure that has these counts. They are those before where they are kept, and are else made of the
+    /// The thresholds of a procedure that has these counts. They are those before where they are kept, and are else made of the
     /// numbers that are counted.
-    fn marks_over(
+    fn thresholds_over(
         &self,
         alloc: Global,
         new: &View<'_>,
         proc: ProcId,
-        before: &Marks,
+        before: &Thresholds,
         counts: &Counts,
         is_kept: bool,
-    ) -> Result<Marks, Memory>
-        requires thresholds { self.now.engine.widening.thresholds ≡ true }
+    ) -> Result<Thresholds, Memory>
+        requires widens { self.now.engine.widening.thresholds ≡ true }
         requires counts { slice_get (all_tallies self.now.engine.widening (routines_of new.now)) proc ≡ Some counts.now }
-        requires kept { OnTrue is_kept (slice_get (all_marks self.now.engine.widening (routines_of new.now)) proc ≡ Some before.now) }
-        ensures are { IfOk result (λ marks. slice_get (all_marks self.now.engine.widening (routines_of new.now)) proc ≡ Some marks) }
+        requires kept { OnTrue is_kept (slice_get (all_thresholds self.now.engine.widening (routines_of new.now)) proc ≡ Some before.now) }
+        ensures are { IfOk result (λ thresholds. slice_get (all_thresholds self.now.engine.widening (routines_of new.now)) proc ≡ Some thresholds) }
     {
         if is_kept {
             return Ok(before.clone()?);
         }
         new.procs();
-        marks_rise();
+        thresholds_rise();
         let numbers = counts.numbers(alloc)?;
-        Marks::new(alloc, marks_of(alloc, numbers.as_slice())?)
+        Thresholds::new(alloc, thresholds_of(alloc, numbers.as_slice())?)
     }
 }

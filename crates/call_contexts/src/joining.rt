@@ -2,8 +2,8 @@
 ghost use Rattle.std.specs.Prelude.{◌≡◌, ◌+◌, ◌⊎◌, IfOk, IfErr};
 ghost use Rattle.call_contexts.specs.Joined.{joined, joined_ticks};
 
+use base_values::Memory;
 use domain_laws::{Domain, Steps};
-use plain_values::Memory;
 use std::alloc::Global;
 use std::sync::ledger::Ledger;
 

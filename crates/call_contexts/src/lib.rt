@@ -1,12 +1,12 @@
-//! What an answer needs of a program beside the values: places, chains, marks, and the join of chains.
+//! What an answer needs of a program beside the values: places, chains, thresholds, and the join of chains.
 //!
 //! [`place_of`] finds the procedure of a location, or says why there is none. [`chains_to`] gives the
 //! chains to a procedure, in the order in which their states are joined. [`joined`] sheds one chain's state and joins it
 //! behind those before.
-//! [`marks`] gives the numbers at which widening stops in a procedure, and a [`Setting`] has those of
+//! [`thresholds`] gives the numbers at which widening stops in a procedure, and a [`Setting`] has those of
 //! all procedures, with how often and how the iterates of a loop are made. It counts in how many statements
 //! each number stands, and knows the loops of each procedure, so after a change of the program [`Setting::after`] looks
-//! at the change alone, and makes the marks of those procedures that have other numbers then of the numbers that it counts.
+//! at the change alone, and makes the thresholds of those procedures that have other numbers then of the numbers that it counts.
 //!
 //! A program has at most 4,096 chains, each of at most 8 calls. Nothing walks the program: a place is
 //! read off what is known of the statement, and the chains to a procedure are found along call
@@ -19,18 +19,18 @@ mod following;
 mod joining;
 mod literals;
 mod loops;
-mod marking;
 mod numbers;
 mod part;
 mod places;
 mod setting;
 mod table;
 mod tallying;
+mod threshold_sets;
 mod touched;
 
 pub use joining::joined;
-pub use marking::marks;
 pub use numbers::holds;
 pub use places::{few_routines, place_of};
 pub use setting::Setting;
 pub use table::{chains_to, main_place, procedure_count};
+pub use threshold_sets::thresholds;

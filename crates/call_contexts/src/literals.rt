@@ -2,15 +2,15 @@
 ghost use Rattle.std.specs.Prelude.{◌≡◌, ◌++◌, [], ◌∷◌, IfOk, OnOk, map};
 ghost use Rattle.imp_slots.specs.ActionViews.{effect_of};
 ghost use Rattle.imp_slots.specs.CallViews.{argument_of};
-ghost use Rattle.program_chains.specs.Marks.{term_literals, guard_literals, effect_literals, argument_literals};
+ghost use Rattle.imp_chains.specs.Thresholds.{term_literals, guard_literals, effect_literals, argument_literals};
 ghost use Rattle.imp_check.specs.Entries.{entries_of, entry_of};
 ghost use Rattle.call_contexts.specs.Literals.{stmt_literals, form_literals, literals_in, literals_by};
 
+use base_values::{Items, Memory, Number};
 use imp_check::SlotForm;
 use imp_slots::{Argument, SlotAction, SlotCond, SlotCondNode, SlotExpr, SlotExprNode, SlotStmt};
 use imp_syntax::StmtId;
-use plain_values::{Items, Memory, Number};
-use program_table::View;
+use imp_table::View;
 use std::alloc::Global;
 
 fn add_term(expr: &SlotExpr, found: &mut Items<Number>) -> Result<(), Memory>

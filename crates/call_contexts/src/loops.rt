@@ -7,15 +7,15 @@ ghost use Rattle.std.specs.Option.{option_copied};
 ghost use Rattle.std.specs.Ordering.{nat_cmp};
 ghost use Rattle.imp_check.specs.Entries.{entries_of, entry_of};
 ghost use Rattle.imp_check.specs.Slots.{routines_of};
-ghost use Rattle.program_chains.specs.Chains.{has};
+ghost use Rattle.imp_chains.specs.Chains.{has};
 ghost use Rattle.call_contexts.specs.Loops.{all_loops, loop_in, put_numbers, IsGap};
 ghost use Rattle.call_contexts.specs.Touches.{Brings};
 
 use crate::places::is_loop;
+use base_values::{Items, Memory};
 use imp_check::Entry;
 use imp_syntax::{ProcId, StmtId};
-use plain_values::{Items, Memory};
-use program_table::{Put, View};
+use imp_table::{Put, View};
 use std::alloc::{AllocError, Global};
 use std::collections::BTreeSet;
 use std::marker::Model;

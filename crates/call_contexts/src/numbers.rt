@@ -2,7 +2,7 @@
 ghost use Rattle.std.specs.Prelude.{◌≡◌, if◌then◌else◌, true, ◌||◌, ◌==◌};
 ghost use Rattle.imp_slots.specs.Plain.{Stop, code_numbers};
 ghost use Rattle.imp_slots.specs.BlockViews.{before_code};
-ghost use Rattle.program_chains.specs.Chains.{has};
+ghost use Rattle.imp_chains.specs.Chains.{has};
 
 use imp_slots::{SlotBlock, SlotNode};
 

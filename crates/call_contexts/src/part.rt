@@ -5,23 +5,23 @@ ghost use Rattle.call_contexts.specs.Settings.{IsPart};
 
 use crate::counts::Counts;
 use crate::loops::Loops;
-use crate::marking::marks;
 use crate::tallying::tally;
+use crate::threshold_sets::thresholds;
+use base_values::{Items, Memory};
+use imp_chains::Widening;
 use imp_syntax::ProcId;
-use plain_values::{Items, Memory};
-use program_chains::Widening;
-use program_table::View;
+use imp_table::View;
 use std::alloc::{AllocError, Global};
 use std::marker::Model;
 use std::rc::Rc;
 
-/// The marks of a procedure. Copies share them.
+/// The thresholds of a procedure. Copies share them.
 #[derive(Drop)]
-pub(crate) struct Marks {
-    marks: Rc<Items<i64>>,
+pub(crate) struct Thresholds {
+    thresholds: Rc<Items<i64>>,
 }
 
-impl Model for Marks {
+impl Model for Thresholds {
     ghost use Rattle.std.specs.Prelude.{ℤ, List};
     ghost use Rattle.std.specs.Coded.{coded_list, coded_ℤ};
 
@@ -29,40 +29,40 @@ impl Model for Marks {
 
     ghost coded = { coded_list coded_ℤ };
 
-    ghost view = { λ a. a.marks.value };
+    ghost view = { λ a. a.thresholds.value };
 }
 
-impl Clone for Marks {
+impl Clone for Thresholds {
     ghost is_clone = { λ m copy. copy ≡ m };
 
-    fn clone(&self) -> Result<Marks, AllocError> {
-        let marks = self.marks.clone()?;
-        Ok(Marks { marks })
+    fn clone(&self) -> Result<Thresholds, AllocError> {
+        let thresholds = self.thresholds.clone()?;
+        Ok(Thresholds { thresholds })
     }
 }
 
-impl Marks {
-    pub(crate) fn new(alloc: Global, marks: Items<i64>) -> Result<Marks, Memory>
-        ensures is { IfOk result (λ m. m ≡ marks) }
+impl Thresholds {
+    pub(crate) fn new(alloc: Global, thresholds: Items<i64>) -> Result<Thresholds, Memory>
+        ensures is { IfOk result (λ m. m ≡ thresholds) }
     {
-        let marks = Rc::new(alloc, marks)?;
-        Ok(Marks { marks })
+        let thresholds = Rc::new(alloc, thresholds)?;
+        Ok(Thresholds { thresholds })
     }
 
     pub(crate) fn as_slice(&self) -> &[i64]
         ensures is { result.now ≡ self.now }
     {
-        self.marks.as_slice()
+        self.thresholds.as_slice()
     }
 }
 
 /// In how many statements of a procedure each of its numbers stands. Copies share it.
 #[derive(Drop)]
-pub(crate) struct Tally {
+pub(crate) struct NumberTally {
     counts: Rc<Counts>,
 }
 
-impl Model for Tally {
+impl Model for NumberTally {
     ghost use Rattle.std.specs.Prelude.{ℕ, List};
     ghost use Rattle.call_contexts.specs.Tallies.{tally_code};
 
@@ -73,21 +73,21 @@ impl Model for Tally {
     ghost view = { λ a. a.counts.value };
 }
 
-impl Clone for Tally {
+impl Clone for NumberTally {
     ghost is_clone = { λ t copy. copy ≡ t };
 
-    fn clone(&self) -> Result<Tally, AllocError> {
+    fn clone(&self) -> Result<NumberTally, AllocError> {
         let counts = self.counts.clone()?;
-        Ok(Tally { counts })
+        Ok(NumberTally { counts })
     }
 }
 
-impl Tally {
-    pub(crate) fn new(alloc: Global, counts: Counts) -> Result<Tally, Memory>
+impl NumberTally {
+    pub(crate) fn new(alloc: Global, counts: Counts) -> Result<NumberTally, Memory>
         ensures is { IfOk result (λ t. t ≡ counts) }
     {
         let counts = Rc::new(alloc, counts)?;
-        Ok(Tally { counts })
+        Ok(NumberTally { counts })
     }
 
     pub(crate) fn counts(&self) -> &Counts
@@ -97,11 +97,11 @@ impl Tally {
     }
 }
 
-/// The marks of a procedure, in how many of its statements each of its numbers stands, and its loops.
+/// The thresholds of a procedure, in how many of its statements each of its numbers stands, and its loops.
 #[derive(Drop)]
 pub(crate) struct Part {
-    pub(crate) marks: Marks,
-    pub(crate) tally: Tally,
+    pub(crate) thresholds: Thresholds,
+    pub(crate) tally: NumberTally,
     pub(crate) loops: Loops,
 }
 
@@ -114,28 +114,32 @@ impl Part {
         proc: ProcId,
     ) -> Result<Part, Memory>
         requires there { proc < length prog.now }
-        ensures is { IfOk result (λ part. IsPart widening (routines_of prog.now) proc part.marks part.tally part.loops) }
+        ensures is { IfOk result (λ part. IsPart widening (routines_of prog.now) proc part.thresholds part.tally part.loops) }
     {
-        let marks = Marks::new(alloc, marks(alloc, widening, prog, proc)?)?;
-        let tally = Tally::new(alloc, tally(alloc, widening, prog, proc)?)?;
+        let thresholds = Thresholds::new(alloc, thresholds(alloc, widening, prog, proc)?)?;
+        let tally = NumberTally::new(alloc, tally(alloc, widening, prog, proc)?)?;
         let loops = Loops::new(alloc, prog, proc)?;
         Ok(Part {
-            marks,
+            thresholds,
             tally,
             loops,
         })
     }
 
-    /// The part of these marks and this tally, which it shares, and of these loops.
-    pub(crate) fn shared(marks: &Marks, tally: &Tally, loops: Loops) -> Result<Part, Memory>
-        ensures marks { IfOk result (λ part. part.marks ≡ marks.now) }
+    /// The part of these thresholds and this tally, which it shares, and of these loops.
+    pub(crate) fn shared(
+        thresholds: &Thresholds,
+        tally: &NumberTally,
+        loops: Loops,
+    ) -> Result<Part, Memory>
+        ensures thresholds { IfOk result (λ part. part.thresholds ≡ thresholds.now) }
         ensures tally { IfOk result (λ part. part.tally ≡ tally.now) }
         ensures loops { IfOk result (λ part. part.loops ≡ loops) }
     {
-        let marks = marks.clone()?;
+        let thresholds = thresholds.clone()?;
         let tally = tally.clone()?;
         Ok(Part {
-            marks,
+            thresholds,
             tally,
             loops,
         })

@@ -1,24 +1,24 @@
 //! The procedure of a location.
 ghost use Rattle.std.specs.Prelude.{◌≡◌, ◌<◌, ◌^◌, length};
-ghost use Rattle.analysis_words.specs.declared.refusal.Refusal.TheVariants.{NoStatement};
+ghost use Rattle.imp_words.specs.declared.refusal.QueryRefusal.TheVariants.{NoStatement};
 ghost use Rattle.imp_slots.specs.Fits.{IsChecked};
-ghost use Rattle.program_chains.specs.Chains.{holder, is_while};
+ghost use Rattle.imp_chains.specs.Chains.{holder, is_while};
 ghost use Rattle.batch_meaning.specs.Answers.{found_or, found_loop, procedure_of};
 ghost use Rattle.imp_check.specs.Slots.{routines_of};
 ghost use Rattle.call_contexts.specs.Places.{found_of, is_loop};
 
-use batch_meaning::Refusal;
+use batch_meaning::QueryRefusal;
 use imp_slots::Routine;
 use imp_syntax::{Location, ProcId, Stmt, StmtId, StmtNode};
-use program_table::{Checked, View};
+use imp_table::{Checked, View};
 
 /// The procedure of a statement.
-fn holder(prog: &View<'_>, stmt: StmtId) -> Result<ProcId, Refusal>
+fn holder(prog: &View<'_>, stmt: StmtId) -> Result<ProcId, QueryRefusal>
     ensures is { found_of result ≡ found_or NoStatement (holder stmt (routines_of prog.now)) }
 {
     match prog.entry(stmt) {
         Some(entry) => Ok(entry.context.proc),
-        None => Err(Refusal::NoStatement),
+        None => Err(QueryRefusal::NoStatement),
     }
 }
 
@@ -30,7 +30,7 @@ pub(crate) fn is_loop(part: &Stmt) -> bool
 }
 
 /// The procedure of a loop.
-fn loop_holder(prog: &View<'_>, stmt: StmtId) -> Result<ProcId, Refusal>
+fn loop_holder(prog: &View<'_>, stmt: StmtId) -> Result<ProcId, QueryRefusal>
     ensures is { found_of result ≡ found_loop (is_while stmt (routines_of prog.now)) (found_or NoStatement (holder stmt (routines_of prog.now))) }
 {
     prog.procs();
@@ -40,10 +40,10 @@ fn loop_holder(prog: &View<'_>, stmt: StmtId) -> Result<ProcId, Refusal>
             if is_loop(&entry.part) {
                 Ok(place)
             } else {
-                Err(Refusal::WrongStatement)
+                Err(QueryRefusal::WrongStatement)
             }
         }
-        None => Err(Refusal::NoStatement),
+        None => Err(QueryRefusal::NoStatement),
     }
 }
 
@@ -52,17 +52,17 @@ fn loop_holder(prog: &View<'_>, stmt: StmtId) -> Result<ProcId, Refusal>
 ///
 /// # Errors
 ///
-/// [`Refusal::NoProcedure`] or [`Refusal::NoStatement`] where the program has no such procedure or
-/// statement, [`Refusal::WrongStatement`] where the head of a statement is asked for that is no loop.
+/// [`QueryRefusal::NoProcedure`] or [`QueryRefusal::NoStatement`] where the program has no such procedure or
+/// statement, [`QueryRefusal::WrongStatement`] where the head of a statement is asked for that is no loop.
 #[tactic(auto, using(crate::proofs::Placed::named_is))]
-pub fn place_of(prog: &View<'_>, at: &Location) -> Result<ProcId, Refusal>
+pub fn place_of(prog: &View<'_>, at: &Location) -> Result<ProcId, QueryRefusal>
     ensures is { found_of result ≡ procedure_of (routines_of prog.now) at.now }
 {
     match at {
         Location::Before(n) => holder(prog, *n),
         Location::After(n) => holder(prog, *n),
         Location::Head(n) => loop_holder(prog, *n),
-        Location::End(name) => prog.proc_named(name).ok_or(Refusal::NoProcedure),
+        Location::End(name) => prog.proc_named(name).ok_or(QueryRefusal::NoProcedure),
     }
 }
 

@@ -1,27 +1,27 @@
 //! How the loops of a program are interpreted.
 ghost use Rattle.std.specs.Prelude.{◌≡◌, ◌++◌, ◌∷◌, [], IfOk, OnOk};
 ghost use Rattle.imp_check.specs.Slots.{routines_of};
-ghost use Rattle.call_contexts.specs.Settings.{engine_of, setting_of, marks_at, loops_at};
+ghost use Rattle.call_contexts.specs.Settings.{engine_of, setting_of, thresholds_at, loops_at};
 
 use crate::loops::Loops;
-use crate::part::{Marks, Part, Tally};
+use crate::part::{NumberTally, Part, Thresholds};
 use crate::table::procedure_count;
+use base_values::{Items, Memory};
+use imp_chains::Widening;
 use imp_syntax::{ProcId, StmtId};
-use plain_values::{Items, Memory};
-use program_chains::Widening;
-use program_table::View;
+use imp_table::View;
 use std::alloc::Global;
 use std::marker::Model;
 
 /// How the loops of a program are interpreted: how often their iterates are made and how, with the
-/// marks of each procedure. It counts in how many statements of each procedure a number stands, so that it knows after a
+/// thresholds of each procedure. It counts in how many statements of each procedure a number stands, so that it knows after a
 /// change whether the procedure still has the same numbers. It also knows the loops of each procedure.
 #[derive(Drop)]
 pub struct Setting {
     pub(crate) budget: u32,
     pub(crate) widening: Widening,
-    pub(crate) marks: Items<Marks>,
-    pub(crate) tallies: Items<Tally>,
+    pub(crate) thresholds: Items<Thresholds>,
+    pub(crate) tallies: Items<NumberTally>,
     pub(crate) loops: Items<Loops>,
 }
 
@@ -33,17 +33,17 @@ impl Model for Setting {
 
     ghost coded = { setting_code };
 
-    ghost view = { λ a. record { engine = record { budget = a.budget; widening = a.widening }; marks = a.marks; tallies = a.tallies; loops = a.loops } };
+    ghost view = { λ a. record { engine = record { budget = a.budget; widening = a.widening }; thresholds = a.thresholds; tallies = a.tallies; loops = a.loops } };
 }
 
 /// A setting of no procedures yet.
 pub(crate) fn no_parts(alloc: Global, budget: u32, widening: Widening) -> Setting
-    ensures is { result ≡ record { engine = engine_of budget widening; marks = []; tallies = []; loops = [] } }
+    ensures is { result ≡ record { engine = engine_of budget widening; thresholds = []; tallies = []; loops = [] } }
 {
     Setting {
         budget,
         widening,
-        marks: Items::new(alloc),
+        thresholds: Items::new(alloc),
         tallies: Items::new(alloc),
         loops: Items::new(alloc),
     }
@@ -51,7 +51,7 @@ pub(crate) fn no_parts(alloc: Global, budget: u32, widening: Widening) -> Settin
 
 impl Setting {
     /// The setting of a program, of whose loops the iterates are made `budget` times at most. It takes
-    /// the time of [`marks`] of each procedure, and fails for want of memory alone.
+    /// the time of [`thresholds`] of each procedure, and fails for want of memory alone.
     pub fn new(
         alloc: Global,
         prog: &View<'_>,
@@ -70,11 +70,11 @@ impl Setting {
     /// Adds the part of one more procedure.
     pub(crate) fn push(&mut self, part: Part) -> Result<(), Memory>
         ensures engine { self.new.engine ≡ self.old.engine }
-        ensures marks { OnOk result (self.new.marks ≡ self.old.marks ++ part.marks ∷ []) }
+        ensures thresholds { OnOk result (self.new.thresholds ≡ self.old.thresholds ++ part.thresholds ∷ []) }
         ensures tallies { OnOk result (self.new.tallies ≡ self.old.tallies ++ part.tally ∷ []) }
         ensures loops { OnOk result (self.new.loops ≡ self.old.loops ++ part.loops ∷ []) }
     {
-        self.marks.push(part.marks)?;
+        self.thresholds.push(part.thresholds)?;
         self.tallies.push(part.tally)?;
         self.loops.push(part.loops)
     }
@@ -93,12 +93,12 @@ impl Setting {
         self.widening
     }
 
-    /// The marks of the procedure at a place, rising; none where there is no procedure.
-    pub fn marks(&self, place: usize) -> &[i64]
-        ensures is { result.now ≡ marks_at self.now place }
+    /// The thresholds of the procedure at a place, rising; none where there is no procedure.
+    pub fn thresholds(&self, place: usize) -> &[i64]
+        ensures is { result.now ≡ thresholds_at self.now place }
     {
-        match self.marks.get(place) {
-            Some(marks) => marks.as_slice(),
+        match self.thresholds.get(place) {
+            Some(thresholds) => thresholds.as_slice(),
             None => &[],
         }
     }

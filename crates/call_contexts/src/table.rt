@@ -4,13 +4,13 @@ ghost use Rattle.imp_slots.specs.Fits.{IsChecked};
 ghost use Rattle.imp_check.specs.Entries.{entries_of, entry_of};
 ghost use Rattle.imp_check.specs.Programs.{AreNumbered};
 ghost use Rattle.imp_check.specs.Slots.{routines_of};
-ghost use Rattle.program_chains.specs.Chains.{chains};
+ghost use Rattle.imp_chains.specs.Chains.{chains};
 ghost use Rattle.call_contexts.specs.Tables.{chains_up, chains_in, chains_by, through_sites};
 
+use base_values::{Items, Memory};
+use imp_chains::chains_go_through_callers;
 use imp_syntax::{ProcId, StmtId};
-use plain_values::{Items, Memory};
-use program_chains::chains_go_through_callers;
-use program_table::View;
+use imp_table::View;
 use std::alloc::Global;
 
 /// A chain with one more call behind it.

@@ -2,17 +2,17 @@
 ghost use Rattle.std.specs.Prelude.{◌≡◌, ◌+◌, ◌-◌, ◌<◌, ◌^◌, ℕ, length, slice_get, IfOk, OnOk, Some};
 ghost use Rattle.imp_check.specs.Entries.{entries_of, entry_of};
 ghost use Rattle.imp_check.specs.Slots.{routines_of};
-ghost use Rattle.program_chains.specs.Chains.{has};
+ghost use Rattle.imp_chains.specs.Chains.{has};
 ghost use Rattle.call_contexts.specs.Literals.{literals_in};
 ghost use Rattle.call_contexts.specs.Tallies.{one_if, times, Tells, capped, all_tallies};
 ghost use Rattle.call_contexts.specs.Differences.{lists_by};
 
 use crate::counts::Counts;
 use crate::literals::numbers_of;
+use base_values::{Items, Memory, Number};
+use imp_chains::Widening;
 use imp_syntax::{ProcId, StmtId};
-use plain_values::{Items, Memory, Number};
-use program_chains::Widening;
-use program_table::View;
+use imp_table::View;
 use std::alloc::Global;
 
 /// Counts a statement, if it is there.

@@ -6,10 +6,10 @@ ghost use Rattle.std.specs.Ordering.{nat_cmp};
 ghost use Rattle.imp_check.specs.Entries.{entries_of, entry_of};
 ghost use Rattle.call_contexts.specs.Touches.{stands_in, touches};
 
+use base_values::Memory;
 use imp_check::Entry;
 use imp_syntax::StmtId;
-use plain_values::Memory;
-use program_table::{Put, View};
+use imp_table::{Put, View};
 use std::alloc::Global;
 use std::collections::BTreeSet;
 

@@ -3,16 +3,16 @@ use Rattle.std.proofs.Common.{◌≡◌, ℕ, suc, ◌≤◌, ◌<◌, List, [],
 use Rattle.std.specs.Option.{option_map}
 use Rattle.std.proofs.lemmas.List.{length-map, map-append}
 use Rattle.std.proofs.lemmas.Option.{slice_get-map, same_Some}
-use Rattle.cell_names.specs.declared.frame.Frame.{Frame}
-use Rattle.cell_names.specs.declared.path.Step.{Step}
+use Rattle.cell_names.specs.declared.frame.NameFrame.{NameFrame}
+use Rattle.cell_names.specs.declared.path.PathStep.{PathStep}
 use Rattle.cell_names.specs.declared.path.Name.{Name}
 use Rattle.cell_names.specs.Paths.{CellName, or_root, path_at, paths_of, name_in}
 use Rattle.cell_names.specs.Known.{Known, known_of, IsOnce, Adds, IsKept}
 use Rattle.cell_names.proofs.PathLemmas.{path_by, path-of-step, path-of-root, paths_of-length, path_at-kept, paths_from-append}
 use Rattle.cell_names.proofs.OnceLemmas.{step-of-path, paths-once, names-same}
-use Rattle.plain_values.proofs.Lists.{get_some, get_pushed, get_front}
+use Rattle.base_values.proofs.Lists.{get_some, get_pushed, get_front}
 
-abbrev pub step_of : ℕ → Frame → Step
+abbrev pub step_of : ℕ → NameFrame → PathStep
 step_of before frame = record { before = before; frame = frame }
 
 -- what holds of all and of one thing more holds of all behind it
@@ -27,23 +27,23 @@ map-places : {A B : Type 0} (f g : A → B) (xs : List A) → ((n : ℕ) (x : A)
 map-places f g [] h = refl
 map-places f g (x ∷ xs) h = ap₂ ◌∷◌ (h 0 x refl) (map-places f g xs (λ n y at. h (suc n) y at))
 
-module _ (steps : List Step) (names : List Name) (kept : IsKept steps names) where
-  abbrev pub ps : List (List Frame)
+module _ (steps : List PathStep) (names : List Name) (kept : IsKept steps names) where
+  abbrev pub ps : List (List NameFrame)
   ps = paths_of steps
 
   pub ps-once : IsOnce ps
   ps-once m n w p q = paths-once steps kept.steps_within kept.steps_once w m n p q
 
-  pub path-found : (s : Step) (n : ℕ) → slice_get steps n ≡ Some s → slice_get ps (suc n) ≡ Some (path_by ps s)
+  pub path-found : (s : PathStep) (n : ℕ) → slice_get steps n ≡ Some s → slice_get ps (suc n) ≡ Some (path_by ps s)
   path-found s n at = path-of-step steps kept.steps_within n s at
 
-  pub step-found : (s : Step) (n : ℕ) → s.before < length ps → slice_get ps n ≡ Some (path_by ps s) → (k : ℕ) × (n ≡ suc k) × (slice_get steps k ≡ Some s)
+  pub step-found : (s : PathStep) (n : ℕ) → s.before < length ps → slice_get ps n ≡ Some (path_by ps s) → (k : ℕ) × (n ≡ suc k) × (slice_get steps k ≡ Some s)
   step-found s n h at =
-      let a : (k : ℕ) × (x : Step) × (n ≡ suc k) × (slice_get steps k ≡ Some x) × (x.frame ≡ s.frame) × (slice_get ps x.before ≡ Some (path_at ps s.before)) = step-of-path steps kept.steps_within n s.frame (path_at ps s.before) at in
-      let b : (w : List Frame) × (slice_get ps s.before ≡ Some w) = get_some ps s.before h in
+      let a : (k : ℕ) × (x : PathStep) × (n ≡ suc k) × (slice_get steps k ≡ Some x) × (x.frame ≡ s.frame) × (slice_get ps x.before ≡ Some (path_at ps s.before)) = step-of-path steps kept.steps_within n s.frame (path_at ps s.before) at in
+      let b : (w : List NameFrame) × (slice_get ps s.before ≡ Some w) = get_some ps s.before h in
       let v : path_at ps s.before ≡ b.0 = ap or_root b.1 in
       let before : a.1.before ≡ s.before = ps-once a.1.before s.before (path_at ps s.before) a.5 (b.1 ∙ ap Some (sym v)) in
-      let make : ℕ → Frame → Step = λ n f. record { before = n; frame = f } in
+      let make : ℕ → NameFrame → PathStep = λ n f. record { before = n; frame = f } in
       let same : a.1 ≡ s = ap₂ make before a.4 in
       (a.0, a.2, a.3 ∙ ap Some same)
 
@@ -91,7 +91,7 @@ module _ (steps : List Step) (names : List Name) (kept : IsKept steps names) whe
         names_within = all-added (λ y. y.path ≤ length steps) names more x n added (omega (arith, h, paths_of-length steps)) (λ k y at. kept.names_within k y at);
       }
 
-  pub steps-kept : (s : Step) (more : List Step) (n : ℕ) → s.before < length ps → IsOnce more → Adds steps more s n → IsKept more names
+  pub steps-kept : (s : PathStep) (more : List PathStep) (n : ℕ) → s.before < length ps → IsOnce more → Adds steps more s n → IsKept more names
   steps-kept s more n h once added =
       let low : s.before ≤ length steps = omega (arith, h, paths_of-length steps) in
       ⊎_elim
@@ -101,21 +101,21 @@ module _ (steps : List Step) (names : List Name) (kept : IsKept steps names) whe
         steps_once = o;
         names_once = kept.names_once;
         names_within = (λ k y at. let l : y.path ≤ length steps = kept.names_within k y at in omega (arith, l, length-append steps (s ∷ [])));
-        steps_within = (λ k y at. ⊎_elim (λ b. kept.steps_within k y b) (λ b. let e : y.before ≡ s.before = ap (λ (z : Step). z.before) (sym b.1) in omega (arith, e, b.0, low)) (get_pushed steps s k y at));
+        steps_within = (λ k y at. ⊎_elim (λ b. kept.steps_within k y b) (λ b. let e : y.before ≡ s.before = ap (λ (z : PathStep). z.before) (sym b.1) in omega (arith, e, b.0, low)) (get_pushed steps s k y at));
       }) once)
       added
 
-  more-paths : (s : Step) (n : ℕ) → s.before < length ps → ((m : ℕ) → slice_get steps m ≡ Some s → ⊥) → n ≡ length steps → Adds ps (paths_of (steps ++ s ∷ [])) (path_by ps s) (suc n)
+  more-paths : (s : PathStep) (n : ℕ) → s.before < length ps → ((m : ℕ) → slice_get steps m ≡ Some s → ⊥) → n ≡ length steps → Adds ps (paths_of (steps ++ s ∷ [])) (path_by ps s) (suc n)
   more-paths s n h absent end = inr ((λ m e. let r = step-found s m h e in absent r.0 r.2), ap suc end ∙ sym (paths_of-length steps), paths_from-append ([] ∷ []) steps s)
 
-  pub paths-add : (s : Step) (more : List Step) (n : ℕ) → s.before < length ps → Adds steps more s n → Adds ps (paths_of more) (path_by ps s) (suc n)
+  pub paths-add : (s : PathStep) (more : List PathStep) (n : ℕ) → s.before < length ps → Adds steps more s n → Adds ps (paths_of more) (path_by ps s) (suc n)
   paths-add s more n h added =
       ⊎_elim
       (λ a. inl (path-found s n a.0, ap paths_of a.1))
       (λ a. subst (λ v. Adds ps (paths_of v) (path_by ps s) (suc n)) (sym a.2) (more-paths s n h a.0 a.1))
       added
 
-  pub names-same-paths : (s : Step) (more : List Step) (n : ℕ) → Adds steps more s n → map (name_in (paths_of more)) names ≡ map (name_in ps) names
+  pub names-same-paths : (s : PathStep) (more : List PathStep) (n : ℕ) → Adds steps more s n → map (name_in (paths_of more)) names ≡ map (name_in ps) names
   names-same-paths s more n added =
       ⊎_elim
       (λ a. ap (λ v. map (name_in (paths_of v)) names) a.1)
@@ -128,11 +128,11 @@ module _ (steps : List Step) (names : List Name) (kept : IsKept steps names) whe
   pub root-path : path_at ps 0 ≡ []
   root-path = ap or_root (path-of-root steps)
 
-  pub last-path : (s : Step) (n : ℕ) → slice_get steps n ≡ Some s → path_at ps (suc n) ≡ path_by ps s
+  pub last-path : (s : PathStep) (n : ℕ) → slice_get steps n ≡ Some s → path_at ps (suc n) ≡ path_by ps s
   last-path s n at = ap or_root (path-found s n at)
 
 -- The same of what contracts see, `known`, in place of the fields.
-module _ (steps : List Step) (names : List Name) (kept : IsKept steps names) (known : Known) (is : known_of steps names ≡ known) where
+module _ (steps : List PathStep) (names : List Name) (kept : IsKept steps names) (known : Known) (is : known_of steps names ≡ known) where
   names-are : map (name_in (paths_of steps)) names ≡ known.names
   names-are = ap (λ (k : Known). k.names) is
 
@@ -163,19 +163,19 @@ module _ (steps : List Step) (names : List Name) (kept : IsKept steps names) (kn
   pub known-add-kept : (x : Name) (more : List Name) (n : ℕ) → x.path < length known.paths → IsOnce more → Adds names more x n → IsKept steps more
   known-add-kept x more n h once added = names-kept steps names kept x more n (back (λ k. x.path < length k.paths) h) once added
 
-  pub known-step-kept : (s : Step) (more : List Step) (n : ℕ) → s.before < length known.paths → IsOnce more → Adds steps more s n → IsKept more names
+  pub known-step-kept : (s : PathStep) (more : List PathStep) (n : ℕ) → s.before < length known.paths → IsOnce more → Adds steps more s n → IsKept more names
   known-step-kept s more n h once added = steps-kept steps names kept s more n (back (λ k. s.before < length k.paths) h) once added
 
-  pub known-path-add : (s : Step) (more : List Step) (n : ℕ) → s.before < length known.paths → Adds steps more s n → Adds known.paths (paths_of more) (path_by known.paths s) (suc n)
+  pub known-path-add : (s : PathStep) (more : List PathStep) (n : ℕ) → s.before < length known.paths → Adds steps more s n → Adds known.paths (paths_of more) (path_by known.paths s) (suc n)
   known-path-add s more n h added = along (λ k. Adds k.paths (paths_of more) (path_by k.paths s) (suc n)) (paths-add steps names kept s more n (back (λ k. s.before < length k.paths) h) added)
 
-  pub known-same-names : (s : Step) (more : List Step) (n : ℕ) → Adds steps more s n → map (name_in (paths_of more)) names ≡ known.names
+  pub known-same-names : (s : PathStep) (more : List PathStep) (n : ℕ) → Adds steps more s n → map (name_in (paths_of more)) names ≡ known.names
   known-same-names s more n added = names-same-paths steps names kept s more n added ∙ names-are
 
   pub known-root : path_at known.paths 0 ≡ []
   known-root = along (λ k. path_at k.paths 0 ≡ []) (root-path steps names kept)
 
-  pub known-last : (s : Step) (n : ℕ) → slice_get steps n ≡ Some s → path_at known.paths (suc n) ≡ path_by known.paths s
+  pub known-last : (s : PathStep) (n : ℕ) → slice_get steps n ≡ Some s → path_at known.paths (suc n) ≡ path_by known.paths s
   known-last s n at = along (λ k. path_at k.paths (suc n) ≡ path_by k.paths s) (last-path steps names kept s n at)
 
   pub known-length : length known.paths ≡ suc (length steps)

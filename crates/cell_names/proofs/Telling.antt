@@ -2,21 +2,21 @@
 use Rattle.std.proofs.Common.{◌≡◌, ℕ, Bool, true, ap, ap₂, ◌∙◌, sym, arith, refl}
 use Rattle.std.proofs.lemmas.Bool.Decides.{nat_tests}
 use Rattle.std.proofs.lemmas.Bool.{and_parts}
-use Rattle.plain_values.specs.Claims.{IsDecided}
+use Rattle.base_values.specs.Claims.{IsDecided}
 use Rattle.state_table.specs.Numbers.{TellsApart}
-use Rattle.cell_names.specs.declared.frame.Frame.{Frame}
-use Rattle.cell_names.specs.declared.frame.Frame.TheVariants.{InCall, InLoop}
+use Rattle.cell_names.specs.declared.frame.NameFrame.{NameFrame}
+use Rattle.cell_names.specs.declared.frame.NameFrame.TheVariants.{InCall, InLoop}
 use Rattle.cell_names.specs.declared.frame.Point.{Point}
 use Rattle.cell_names.specs.declared.frame.Point.TheVariants.{Entry, Then, Else, Body, Post, Iterate, Fix, Exit, Leap}
-use Rattle.cell_names.specs.declared.path.Step.{Step}
+use Rattle.cell_names.specs.declared.path.PathStep.{PathStep}
 use Rattle.cell_names.specs.declared.path.Name.{Name}
-use Rattle.cell_names.specs.contracts.frame.FramePartialEq.TheImpl as frame_impl
+use Rattle.cell_names.specs.contracts.frame.NameFramePartialEq.TheImpl as frame_impl
 use Rattle.cell_names.specs.contracts.frame.PointPartialEq.TheImpl as point_impl
-use Rattle.cell_names.specs.contracts.path.StepPartialEq.TheImpl as step_impl
+use Rattle.cell_names.specs.contracts.path.PathStepPartialEq.TheImpl as step_impl
 use Rattle.cell_names.specs.contracts.path.NamePartialEq.TheImpl as name_impl
-use Rattle.cell_names.specs.contracts.frame.FrameEq.TheImpl.Laws as frame_laws
+use Rattle.cell_names.specs.contracts.frame.NameFrameEq.TheImpl.Laws as frame_laws
 use Rattle.cell_names.specs.contracts.frame.PointEq.TheImpl.Laws as point_laws
-use Rattle.cell_names.specs.contracts.path.StepEq.TheImpl.Laws as step_laws
+use Rattle.cell_names.specs.contracts.path.PathStepEq.TheImpl.Laws as step_laws
 use Rattle.cell_names.specs.contracts.path.NameEq.TheImpl.Laws as name_laws
 
 frame_tells : TellsApart frame_impl.ghosts.eq
@@ -40,7 +40,7 @@ point_tells _ _ h = cc
 pub step_tells : TellsApart step_impl.ghosts.eq
 step_tells x y h =
     let p = and_parts _ _ h in
-    let make : ℕ → Frame → Step = λ b f. record { before = b; frame = f } in
+    let make : ℕ → NameFrame → PathStep = λ b f. record { before = b; frame = f } in
     ap₂ make (let e = p.0 in grind (arith, nat_tests)) (frame_tells x.frame y.frame p.1)
 
 pub name_tells : TellsApart name_impl.ghosts.eq
@@ -49,7 +49,7 @@ name_tells x y h =
     let make : ℕ → Point → Name = λ b f. record { path = b; point = f } in
     ap₂ make (let e = p.0 in grind (arith, nat_tests)) (point_tells x.point y.point p.1)
 
-pub step_self : (x : Step) → step_impl.ghosts.eq x x ≡ true
+pub step_self : (x : PathStep) → step_impl.ghosts.eq x x ≡ true
 step_self x = step_laws.laws-law.refl x
 
 pub name_self : (x : Name) → name_impl.ghosts.eq x x ≡ true

@@ -1,13 +1,13 @@
 -- The paths and names that have numbers.
 use Rattle.std.specs.Prelude.{◌≡◌, ℕ, ◌≤◌, List, [], ◌∷◌, ◌++◌, Some, slice_get, length, map, ◌⊎◌}
-use Rattle.cell_names.specs.declared.frame.Frame.{Frame}
+use Rattle.cell_names.specs.declared.frame.NameFrame.{NameFrame}
 use Rattle.cell_names.specs.declared.path.Name.{Name}
-use Rattle.cell_names.specs.declared.path.Step.{Step}
+use Rattle.cell_names.specs.declared.path.PathStep.{PathStep}
 use Rattle.cell_names.specs.Paths.{CellName, paths_of, name_in}
 
 -- A path or a name has its place as its number.
 pub record Known : Type 0 where
-  pub paths : List (List Frame)
+  pub paths : List (List NameFrame)
   pub names : List CellName
 
 -- each number keeps what it names
@@ -22,19 +22,19 @@ IsOnce {A} xs = (m n : ℕ) (x : A) → slice_get xs m ≡ Some x → slice_get 
 abbrev pub Adds : {A : Type 0} → List A → List A → A → ℕ → Type 0
 Adds old new x n = ((slice_get old n ≡ Some x) × (new ≡ old)) ⊎ (((m : ℕ) → slice_get old m ≡ Some x → ⊥) × (n ≡ length old) × (new ≡ old ++ x ∷ []))
 
-abbrev pub known_of : List Step → List Name → Known
+abbrev pub known_of : List PathStep → List Name → Known
 known_of steps names = record { paths = paths_of steps; names = map (name_in (paths_of steps)) names }
 
 -- the step at place k leads from one of the k + 1 paths in front of it
-abbrev pub StepsWithin : List Step → Type 0
-StepsWithin steps = (k : ℕ) (s : Step) → slice_get steps k ≡ Some s → s.before ≤ k
+abbrev pub StepsWithin : List PathStep → Type 0
+StepsWithin steps = (k : ℕ) (s : PathStep) → slice_get steps k ≡ Some s → s.before ≤ k
 
 -- the paths of names are there
 abbrev pub NamesWithin : ℕ → List Name → Type 0
 NamesWithin most names = (k : ℕ) (x : Name) → slice_get names k ≡ Some x → x.path ≤ most
 
 -- what holds of the steps and names that are kept
-pub record IsKept (steps : List Step) (names : List Name) : Type 0 where
+pub record IsKept (steps : List PathStep) (names : List Name) : Type 0 where
   pub steps_within : StepsWithin steps
   pub names_within : NamesWithin (length steps) names
   pub steps_once : IsOnce steps

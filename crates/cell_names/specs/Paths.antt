@@ -1,39 +1,39 @@
 -- Paths, their last frame first, and the numbered steps that make them.
 use Rattle.std.specs.Prelude.{ℕ, List, [], ◌∷◌, ◌++◌, Option, Some, None, slice_get}
-use Rattle.cell_names.specs.declared.frame.Frame.{Frame}
-use Rattle.cell_names.specs.declared.frame.Frame.TheVariants.{InCall, InLoop}
+use Rattle.cell_names.specs.declared.frame.NameFrame.{NameFrame}
+use Rattle.cell_names.specs.declared.frame.NameFrame.TheVariants.{InCall, InLoop}
 use Rattle.cell_names.specs.declared.frame.Point.{Point}
 use Rattle.cell_names.specs.declared.path.Name.{Name}
-use Rattle.cell_names.specs.declared.path.Step.{Step}
+use Rattle.cell_names.specs.declared.path.PathStep.{PathStep}
 
 -- the name of a cell: its path, the last frame first, and its point
 pub record CellName : Type 0 where
-  pub path : List Frame
+  pub path : List NameFrame
   pub point : Point
 
 -- the path at a place, and the empty one past the end
-abbrev pub or_root : Option (List Frame) → List Frame
+abbrev pub or_root : Option (List NameFrame) → List NameFrame
 or_root (Some path) = path
 or_root None = []
 
-abbrev pub path_at : List (List Frame) → ℕ → List Frame
+abbrev pub path_at : List (List NameFrame) → ℕ → List NameFrame
 path_at paths n = or_root (slice_get paths n)
 
 -- these paths, and then those of the steps, each from a path in front of it
-abbrev pub paths_from : List (List Frame) → List Step → List (List Frame)
+abbrev pub paths_from : List (List NameFrame) → List PathStep → List (List NameFrame)
 paths_from paths [] = paths
 paths_from paths (s ∷ steps) = paths_from (paths ++ (s.frame ∷ path_at paths s.before) ∷ []) steps
 
 -- the paths of the steps, behind the empty one
-abbrev pub paths_of : List Step → List (List Frame)
+abbrev pub paths_of : List PathStep → List (List NameFrame)
 paths_of steps = paths_from ([] ∷ []) steps
 
 -- a name whose path has a number
-abbrev pub name_in : List (List Frame) → Name → CellName
+abbrev pub name_in : List (List NameFrame) → Name → CellName
 name_in paths name = record { path = path_at paths name.path; point = name.point }
 
 -- the call sites of a path, the last first
-abbrev pub sites_of : List Frame → List ℕ
+abbrev pub sites_of : List NameFrame → List ℕ
 sites_of [] = []
 sites_of (InCall n ∷ w) = n ∷ sites_of w
 sites_of (InLoop n k ∷ w) = sites_of w

@@ -3,7 +3,7 @@ use imp_syntax::StmtId;
 
 /// A part of a path.
 #[derive(Clone, Copy, Debug, PartialEq, Eq, Hash)]
-pub enum Frame {
+pub enum NameFrame {
     /// Into the procedure that a call statement calls.
     InCall(StmtId),
     /// Into the body of a loop, from its iterate of this index, counted from 0.

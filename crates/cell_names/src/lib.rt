@@ -1,6 +1,6 @@
 //! The names of cells: a path, and a point of the block that the path leads to.
 //!
-//! A path is a list of [`Frame`]s from `main`: into a call of a procedure, or into a round of a loop.
+//! A path is a list of [`NameFrame`]s from `main`: into a call of a procedure, or into a round of a loop.
 //! [`Names`] keeps each path once, as its last frame and the path before it, and each name once. So a
 //! path is one number, which all cells of a block share, and a name is three. The number of a path or
 //! of a name is its place in a list that is only added to: a name has one number and a number one name.
@@ -10,19 +10,19 @@
 //! takes no memory. A path tells its call sites, and a name the statement that it belongs to.
 #![tactic(auto)]
 
-ghost use Rattle.plain_values.specs.Claims.{IsDecided};
+ghost use Rattle.base_values.specs.Claims.{IsDecided};
 
 mod frame;
 mod names;
 mod path;
 
-pub use frame::{Frame, Point};
+pub use frame::{NameFrame, Point};
 pub use names::Names;
 pub use path::{Name, PathId};
 
 /// `==` tells frames, points and names apart exactly where they are not the same.
 pub fn equality_decides()
-    ensures frames { IsDecided ⟦<Frame as PartialEq>⟧.eq }
+    ensures frames { IsDecided ⟦<NameFrame as PartialEq>⟧.eq }
     ensures points { IsDecided ⟦<Point as PartialEq>⟧.eq }
     ensures names { IsDecided ⟦<Name as PartialEq>⟧.eq }
 {}

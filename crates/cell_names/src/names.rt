@@ -5,19 +5,19 @@ ghost use Rattle.cell_names.specs.Known.{Adds, IsOnce};
 ghost use Rattle.cell_names.specs.declared.frame.Point.TheVariants.{Entry, Body};
 ghost use Rattle.cell_names.specs.Owners.{owner};
 
-use crate::frame::{Frame, Point};
-use crate::path::{Name, PathId, Step};
+use crate::frame::{NameFrame, Point};
+use crate::path::{Name, PathId, PathStep};
+use base_values::{Items, Memory};
 use imp_syntax::StmtId;
-use plain_values::{Items, Memory};
-use state_table::Table;
+use state_table::StateTable;
 use std::alloc::Global;
 use std::marker::Model;
 
 /// Paths and names, each under one number.
 #[derive(Drop)]
 pub struct Names {
-    steps: Table<Step>,
-    names: Table<Name>,
+    steps: StateTable<PathStep>,
+    names: StateTable<Name>,
 }
 
 impl Model for Names {
@@ -37,8 +37,8 @@ impl Names {
         ensures names { result.names ≡ [] }
     {
         Names {
-            steps: Table::new(alloc),
-            names: Table::new(alloc),
+            steps: StateTable::new(alloc),
+            names: StateTable::new(alloc),
         }
     }
 
@@ -58,13 +58,13 @@ impl Names {
 
     /// The path that goes on from another one by a frame, with a new number where it had none.
     #[inline]
-    pub fn add_path(&mut self, before: PathId, frame: Frame) -> Result<PathId, Memory>
+    pub fn add_path(&mut self, before: PathId, frame: NameFrame) -> Result<PathId, Memory>
         requires there { before < length self.old.paths }
         ensures path { IfOk result (Adds self.old.paths self.new.paths (frame ∷ path_at self.old.paths before)) }
         ensures names { self.new.names ≡ self.old.names }
         ensures err { OnErr result (self.new ≡ self.old) }
     {
-        let number = self.steps.intern(Step { before, frame })?;
+        let number = self.steps.intern(PathStep { before, frame })?;
         Ok(PathId::after(number))
     }
 
@@ -103,7 +103,7 @@ impl Names {
 
     /// A path's last frame, and the path before it; `None` for the empty path.
     #[inline]
-    pub fn last_frame(&self, path: PathId) -> Option<(PathId, Frame)>
+    pub fn last_frame(&self, path: PathId) -> Option<(PathId, NameFrame)>
         requires there { path < length self.now.paths }
         ensures empty { IfNone result (path_at self.now.paths path ≡ []) }
         ensures last { IfSome result (λ r. path_at self.now.paths path ≡ r.1 ∷ path_at self.now.paths r.0) }
@@ -125,7 +125,7 @@ impl Names {
         let mut sites = Items::new(alloc);
         let mut rest = path;
         while let Some((before, frame)) = self.last_frame(rest) {
-            if let Frame::InCall(site) = frame {
+            if let NameFrame::InCall(site) = frame {
                 sites.push(site)?;
             }
             rest = before;
@@ -141,8 +141,8 @@ impl Names {
     {
         match self.last_frame(path) {
             Some((_, frame)) => match frame {
-                Frame::InCall(call) => call.number(),
-                Frame::InLoop(_, _) => 0,
+                NameFrame::InCall(call) => call.number(),
+                NameFrame::InLoop(_, _) => 0,
             },
             None => 0,
         }
@@ -156,8 +156,8 @@ impl Names {
     {
         match self.last_frame(path) {
             Some((_, frame)) => match frame {
-                Frame::InLoop(head, _) => head.number(),
-                Frame::InCall(_) => 0,
+                NameFrame::InLoop(head, _) => head.number(),
+                NameFrame::InCall(_) => 0,
             },
             None => 0,
         }

@@ -1,5 +1,5 @@
 //! Paths by their numbers, and names.
-use crate::frame::{Frame, Point};
+use crate::frame::{NameFrame, Point};
 use std::marker::Model;
 
 /// A path, by its number. The empty path, at the start of `main`, has the number 0.
@@ -55,7 +55,7 @@ pub struct Name {
 
 /// A path that is not empty: the path before its last frame, and that frame.
 #[derive(Clone, Copy, Debug, PartialEq, Eq, Hash)]
-pub(crate) struct Step {
+pub(crate) struct PathStep {
     pub(crate) before: PathId,
-    pub(crate) frame: Frame,
+    pub(crate) frame: NameFrame,
 }

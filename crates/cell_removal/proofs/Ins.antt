@@ -2,11 +2,11 @@
 use Rattle.std.proofs.Common.{◌≡◌, ℕ, zero, suc, ◌<◌, ◌⊎◌, List, [], ◌∷◌, ◌++◌, take, Some, slice_get, Bool, true, false, ◌||◌, nat_eq, refl, sym, ap, ◌∙◌, inl, inr, arith}
 use Rattle.std.specs.List.{list_any}
 use Rattle.std.proofs.lemmas.Bool.Decides.{nat_tests}
-use Rattle.plain_values.proofs.Cases.{by_bool, equal_test}
+use Rattle.base_values.proofs.Cases.{by_bool, equal_test}
 use Rattle.daig_graph.specs.Held.{IsIn}
 use Rattle.std.proofs.lemmas.Bool.{or_cases}
 use Rattle.std.proofs.lemmas.Option.{same_Some}
-use Rattle.plain_values.proofs.Lists.{get_front}
+use Rattle.base_values.proofs.Lists.{get_front}
 
 module _ {A : Type 0} where
   pub in_none : {P : Type 0} (x : A) → IsIn [] x → P

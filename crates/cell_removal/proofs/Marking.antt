@@ -7,7 +7,7 @@ use Rattle.std.proofs.lemmas.Nat.Bits.{shr_and_one, bit_at-zero, bit_at_set_same
 use Rattle.std.proofs.lemmas.List.{get_or-set_same, get_or-set_other, get_or_past}
 use Rattle.std.proofs.lemmas.Bool.{cases_eq}
 use Rattle.std.proofs.lemmas.Bool.Decides.{nat_tests}
-use Rattle.plain_values.proofs.Cases.{by_bool, equal_test}
+use Rattle.base_values.proofs.Cases.{by_bool, equal_test}
 use Rattle.cell_removal.specs.Marks.{HasMark, Puts, SameWords, with_mark}
 
 -- a word of zeros has no marks

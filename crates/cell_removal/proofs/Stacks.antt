@@ -8,7 +8,7 @@ use Rattle.cell_removal.specs.declared.planning.Open.{Open}
 use Rattle.cell_removal.specs.Removal.{Cells, Uses, LeadsTo, itself, through, IsOrder, Adds, IsFirst}
 use Rattle.cell_removal.proofs.Ins.{in_none, in_first, in_more, in_cases, in_left, in_either, in_last, in_pushed}
 use Rattle.cell_removal.proofs.Pigeons.{Differ, differ_both, differ_once, no_more_than}
-use Rattle.plain_values.proofs.Lists.{get_front, get_pushed}
+use Rattle.base_values.proofs.Lists.{get_front, get_pushed}
 use Rattle.std.proofs.lemmas.Option.{slice_get_within}
 
 abbrev pub cells_of : List Open → List ℕ

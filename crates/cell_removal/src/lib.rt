@@ -9,9 +9,9 @@
 //! The crate knows neither names nor programs.
 #![tactic(auto)]
 
+mod bit_set;
 mod committing;
 mod laws;
-mod marks;
 mod planning;
 
 pub use committing::commit;

@@ -7,9 +7,9 @@ ghost use Rattle.cell_removal.specs.Removal.{Adds, IsNext, IsOrder, IsRising, Re
 ghost use Rattle.cell_removal.specs.Marks.{AreMarked, HasMark};
 ghost use Rattle.cell_removal.specs.Turns.{IsOpened, Turns};
 
-use crate::marks::Marks;
+use crate::bit_set::BitSet;
+use base_values::Memory;
 use daig_graph::{Graph, Iter, Use};
-use plain_values::Memory;
 use std::alloc::Global;
 use std::marker::Model;
 
@@ -47,7 +47,7 @@ struct Open<'a> {
 /// The next user that is not marked yet.
 #[tactic(auto, using(crate::proofs::Users::behind_first, crate::proofs::Users::behind_next, crate::proofs::Users::behind_found, crate::proofs::Users::behind_all))]
 #[inline]
-fn next_user(users: &mut Iter<'_, Use>, marks: &Marks) -> Option<usize>
+fn next_user(users: &mut Iter<'_, Use>, marks: &BitSet) -> Option<usize>
     ensures next { IsNext (HasMark marks.now) users.old users.new result }
 {
     'users: while let Some(user) = users.next() {
@@ -76,7 +76,7 @@ fn opened<V>(graph: &Graph<V>, cell: usize) -> Open<'_>
 fn turn<'a, V>(
     graph: &'a Graph<V>,
     mut top: Open<'a>,
-    marks: &mut Marks,
+    marks: &mut BitSet,
     planned: &mut Vec<usize>,
     stack: &mut Vec<Open<'a>>,
 ) -> Result<(), Memory>
@@ -102,7 +102,7 @@ fn add<V>(
     alloc: Global,
     graph: &Graph<V>,
     cell: usize,
-    marks: &mut Marks,
+    marks: &mut BitSet,
     planned: &mut Vec<usize>,
 ) -> Result<(), Memory>
     requires rising { IsRising graph.now.cells }
@@ -143,7 +143,7 @@ pub fn removal<V>(
     ensures removes { IfOk result (Removes graph.now.cells (IsIn touched.now)) }
 {
     let mut cells = Vec::new(alloc);
-    let mut marks = Marks::new(alloc);
+    let mut marks = BitSet::new(alloc);
     for cell in touched {
         add(alloc, graph, *cell, &mut marks, &mut cells)?;
     }

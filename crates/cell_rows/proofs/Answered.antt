@@ -4,13 +4,13 @@ use Rattle.std.specs.Option.{option_map}
 use Rattle.imp_syntax.specs.declared.edit.Location.{Location}
 use Rattle.imp_slots.specs.Plain.{Routine}
 use Rattle.imp_slots.specs.Fits.{IsChecked}
-use Rattle.program_chains.specs.Chains.{selected}
+use Rattle.imp_chains.specs.Chains.{selected}
 use Rattle.domain_laws.specs.Operations.{Operations}
-use Rattle.batch_meaning.specs.Batch.{Engine}
+use Rattle.batch_meaning.specs.Batch.{LoopOptions}
 use Rattle.batch_meaning.specs.Places.{if_some, value_at, main_layout}
 use Rattle.batch_meaning.specs.Answers.{In, all_values, sum_of, summed, answer_in}
 use Rattle.cell_names.specs.Paths.{CellName}
-use Rattle.demand_order.specs.Asking.{gather, value_of}
+use Rattle.daig_order.specs.Asking.{gather, value_of}
 use Rattle.cell_rows.specs.Names.{Mark, mark_of, IsSame}
 use Rattle.cell_rows.specs.Cells.{Cell, values, value_of_name}
 use Rattle.cell_rows.specs.Claims.{HasName, rows_of}
@@ -26,7 +26,7 @@ use Rattle.cell_rows.proofs.Chained.{all_once, is_at}
 use Rattle.cell_rows.proofs.Demands.{demands_are, reads_are, same_target}
 use Rattle.std.proofs.lemmas.Option.{same_Some}
 
-module _ {S : Type 0} (dom : Operations S) (engine : Engine) (program : List Routine) (checked : IsChecked program) where
+module _ {S : Type 0} (dom : Operations S) (engine : LoopOptions) (program : List Routine) (checked : IsChecked program) where
   abbrev back : List Routine
   back = reverse program
 

@@ -3,17 +3,17 @@ use Rattle.std.proofs.Common.{ℤ, ◌≡◌, ℕ, ◌<◌, List, [], ◌∷◌,
 use Rattle.imp_slots.specs.Plain.{Guard, DoBreak, Does, Code, Stop, Simple, If, While, Call, Break, Routine, code_numbers}
 use Rattle.domain_laws.specs.Operations.{Operations}
 use Rattle.batch_meaning.specs.Values.{Value, State, Over, lift, lift2}
-use Rattle.batch_meaning.specs.Batch.{Engine, Passed, Fixed, head_of, behind, batch, calls_of}
+use Rattle.batch_meaning.specs.Batch.{LoopOptions, Passed, Fixed, head_of, behind, batch, calls_of}
 use Rattle.batch_meaning.specs.Places.{Spot, spots, main_layout, spot}
-use Rattle.cell_names.specs.declared.frame.Frame.{Frame}
-use Rattle.cell_names.specs.declared.frame.Frame.TheVariants.{InLoop}
+use Rattle.cell_names.specs.declared.frame.NameFrame.{NameFrame}
+use Rattle.cell_names.specs.declared.frame.NameFrame.TheVariants.{InLoop}
 use Rattle.cell_names.specs.declared.frame.Point.{Point}
 use Rattle.cell_names.specs.declared.frame.Point.TheVariants.{Then, Else, Body, Post, Fix}
 use Rattle.cell_names.specs.Paths.{CellName}
-use Rattle.plain_values.proofs.Members.{Member, here, there, in_left, in_right, Each, each_more, each_both, none_there, each_as, keys, keys_both, in_map}
-use Rattle.cell_rows.specs.Names.{Scope, name, Mark, At, Algebra, Place, behind_it, inside, level, level_of, AllFine}
+use Rattle.base_values.proofs.Members.{Member, here, there, in_left, in_right, Each, each_more, each_both, none_there, each_as, keys, keys_both, in_map}
+use Rattle.cell_rows.specs.Names.{Scope, name, Mark, At, Algebra, PathBlock, behind_it, inside, level, level_of, AllFine}
 use Rattle.cell_rows.specs.Cells.{Cell, block, values, one_round, fix_value, after_value, value_of_name, value_of_mark}
-use Rattle.cell_rows.specs.Targets.{Text, text, deeper, texts, Step, Take, takes, callee_of, is_loop, unless_over, value_in_path, demanded_in}
+use Rattle.cell_rows.specs.Targets.{Text, text, deeper, texts, TargetStep, Take, takes, callee_of, is_loop, unless_over, value_in_path, demanded_in}
 use Rattle.cell_rows.proofs.Unique.{All}
 use Rattle.cell_rows.proofs.Linked.{batch_over, behind_over}
 use Rattle.cell_rows.proofs.Lookup.{fine}
@@ -34,10 +34,10 @@ keys_texts (While n guard b r) p = rw (keys_both, keys_deeper, keys_texts b, key
 keys_texts (Call n call q r) p = ap (λ k. n ∷ k) (keys_texts r _)
 keys_texts (Break n r) p = ap (λ k. n ∷ k) (keys_texts r _)
 
-module _ {S : Type 0} (dom : Operations S) (engine : Engine) where
+module _ {S : Type 0} (dom : Operations S) (engine : LoopOptions) where
   -- What is known at a statement, by its code and the value in front of it.
   abbrev pub head_value : (scope : Scope) (z : List ℕ) → Code → Value S → Option (Fixed S)
-  head_value scope z (While n guard b r) a = Some (head_of dom engine scope.marks z n guard (block dom engine scope z b) a)
+  head_value scope z (While n guard b r) a = Some (head_of dom engine scope.thresholds z n guard (block dom engine scope z b) a)
   head_value scope z _ a = None
 
   abbrev pub spot_of : (scope : Scope) (z : List ℕ) → Code → Value S → Spot S
@@ -142,24 +142,24 @@ module _ {S : Type 0} (dom : Operations S) (engine : Engine) where
     M = Mark (Cell S)
 
     abbrev P : Type 0
-    P = Place engine A
+    P = PathBlock engine A
 
     abbrev f : CellName → Cell S
     f = value_of_name dom engine program
 
-    abbrev goto : List Step → Point → List Frame → Value S
+    abbrev goto : List TargetStep → Point → List NameFrame → Value S
     goto = value_in_path f
 
     -- Names that the program has.
     abbrev pub Has : CellName → Type 0
     Has x = (m : M) × (at dom engine program all x ≡ Some m)
 
-    abbrev Need : List Step → Point → List Frame → Type 0
+    abbrev Need : List TargetStep → Point → List NameFrame → Type 0
     Need ss p w = All Has (demanded_in f ss p w)
 
     -- The target's path leads to the statement, and all that is known there is as the marks have it.
-    pub record Reaches (w : List Frame) (b : P) (t : Text) (s : Spot S) : Type 0 where
-      pub path : List Frame
+    pub record Reaches (w : List NameFrame) (b : P) (t : Text) (s : Spot S) : Type 0 where
+      pub path : List NameFrame
       pub place : P
       pub front : M
       pub led : Led dom engine program all path place front t.code
@@ -167,29 +167,29 @@ module _ {S : Type 0} (dom : Operations S) (engine : Engine) where
       pub same_sites : place.sites ≡ b.sites
       pub point : t.front ≡ front.point
       pub spot_is : s ≡ spot_of place.scope place.sites t.code front.value.value
-      pub goes : (rest : List Step) (p : Point) → goto (takes t.loops ++ rest) p w ≡ goto rest p path
-      pub needs : (rest : List Step) (p : Point) → Need rest p path → Need (takes t.loops ++ rest) p w
+      pub goes : (rest : List TargetStep) (p : Point) → goto (takes t.loops ++ rest) p w ≡ goto rest p path
+      pub needs : (rest : List TargetStep) (p : Point) → Need rest p path → Need (takes t.loops ++ rest) p w
 
-    pub record Stops (w : List Frame) (t : Text) (s : Spot S) : Type 0 where
+    pub record Stops (w : List NameFrame) (t : Text) (s : Spot S) : Type 0 where
       pub loop : ℕ
       pub chain : List ℕ
       pub over : AllOver loop chain s
-      pub stops : (rest : List Step) (p : Point) → goto (takes t.loops ++ rest) p w ≡ Over loop chain
-      pub needs : (rest : List Step) (p : Point) → Need (takes t.loops ++ rest) p w
+      pub stops : (rest : List TargetStep) (p : Point) → goto (takes t.loops ++ rest) p w ≡ Over loop chain
+      pub needs : (rest : List TargetStep) (p : Point) → Need (takes t.loops ++ rest) p w
 
-    pub record Seen (c : Code) (p : Point) (w : List Frame) (b : P) (x : ℕ × Spot S) : Type 0 where
+    pub record Seen (c : Code) (p : Point) (w : List NameFrame) (b : P) (x : ℕ × Spot S) : Type 0 where
       pub text : Text
       pub listed : Member (x.0, text) (texts c p)
       pub fits : Fits text x.1
       pub outcome : Reaches w b text x.1 ⊎ Stops w text x.1
 
-    abbrev SeenAt : Code → Point → List Frame → P → ℕ × Spot S → Type 0
+    abbrev SeenAt : Code → Point → List NameFrame → P → ℕ × Spot S → Type 0
     SeenAt c p w b x = Seen c p w b x
 
-    seen_more : (w : List Frame) (b : P) (c d : Code) (p q : Point) → ((x : ℕ × Text) → Member x (texts c p) → Member x (texts d q)) → (xs : List (ℕ × Spot S)) → Each (SeenAt c p w b) xs → Each (SeenAt d q w b) xs
+    seen_more : (w : List NameFrame) (b : P) (c d : Code) (p q : Point) → ((x : ℕ × Text) → Member x (texts c p) → Member x (texts d q)) → (xs : List (ℕ × Spot S)) → Each (SeenAt c p w b) xs → Each (SeenAt d q w b) xs
     seen_more w b c d p q g xs e = each_as (SeenAt c p w b) (SeenAt d q w b) xs (λ x s. record { text = s.text; listed = g _ s.listed; fits = s.fits; outcome = s.outcome }) e
 
-    seen_here : (w : List Frame) (b : P) (x : M) (c : Code) (n : ℕ) (s : Spot S) → Led dom engine program all w b x c → Member (n, text [] x.point c) (texts c x.point) → Fits (text [] x.point c) s → s ≡ spot_of b.scope b.sites c x.value.value → Seen c x.point w b (n, s)
+    seen_here : (w : List NameFrame) (b : P) (x : M) (c : Code) (n : ℕ) (s : Spot S) → Led dom engine program all w b x c → Member (n, text [] x.point c) (texts c x.point) → Fits (text [] x.point c) s → s ≡ spot_of b.scope b.sites c x.value.value → Seen c x.point w b (n, s)
     seen_here w b x c n s l m k e = record {
       text = text [] x.point c;
       listed = m;
@@ -197,7 +197,7 @@ module _ {S : Type 0} (dom : Operations S) (engine : Engine) where
       outcome = inl (record { path = w; place = b; front = x; led = l; same_earlier = refl; same_sites = refl; point = refl; spot_is = e; goes = λ rest p. refl; needs = λ rest p q. q });
     }
 
-    module _ (w : List Frame) (b : P) (n : ℕ) (guard : Guard) (body r : Code) (y : M) (l : Led dom engine program all w b y (While n guard body r)) where
+    module _ (w : List NameFrame) (b : P) (n : ℕ) (guard : Guard) (body r : Code) (y : M) (l : Led dom engine program all w b y (While n guard body r)) where
       abbrev F : Cell S
       F = fix_value dom engine b.scope b.sites n guard body y.value
 
@@ -205,17 +205,17 @@ module _ {S : Type 0} (dom : Operations S) (engine : Engine) where
       round_at k = turn dom engine program all w b n guard body r y l k
 
       abbrev SPB : Value S → List (ℕ × Spot S)
-      SPB a = spots dom engine b.scope.marks b.sites (calls_of dom engine b.scope.earlier b.sites) body a
+      SPB a = spots dom engine b.scope.thresholds b.sites (calls_of dom engine b.scope.earlier b.sites) body a
 
       cell_is : f (name w (Fix n)) ≡ F
       cell_is = ap (value_of_mark dom engine) (fix_found dom engine program all w b n guard body r y l)
 
-      at_over : (j : ℕ) (z : List ℕ) → F.value ≡ Over j z → (rest : List Step) (p : Point) → goto (Take n ∷ rest) p w ≡ Over j z
+      at_over : (j : ℕ) (z : List ℕ) → F.value ≡ Over j z → (rest : List TargetStep) (p : Point) → goto (Take n ∷ rest) p w ≡ Over j z
       at_over j z e rest p =
           ap (λ (c : Cell S). unless_over c.value c.value (goto rest p (InLoop n c.index ∷ w))) cell_is
           ∙ ap (λ v. unless_over v v (goto rest p (InLoop n F.index ∷ w))) e
 
-      at_state : (s : S) → F.value ≡ State s → (rest : List Step) (p : Point) → goto (Take n ∷ rest) p w ≡ goto rest p (InLoop n F.index ∷ w)
+      at_state : (s : S) → F.value ≡ State s → (rest : List TargetStep) (p : Point) → goto (Take n ∷ rest) p w ≡ goto rest p (InLoop n F.index ∷ w)
       at_state s e rest p =
           ap (λ (c : Cell S). unless_over c.value c.value (goto rest p (InLoop n c.index ∷ w))) cell_is
           ∙ ap (λ v. unless_over v v (goto rest p (InLoop n F.index ∷ w))) e
@@ -223,12 +223,12 @@ module _ {S : Type 0} (dom : Operations S) (engine : Engine) where
       fix_has : Has (name w (Fix n))
       fix_has = (_, fix_found dom engine program all w b n guard body r y l)
 
-      over_needs : (j : ℕ) (z : List ℕ) → F.value ≡ Over j z → (rest : List Step) (p : Point) → Need (Take n ∷ rest) p w
+      over_needs : (j : ℕ) (z : List ℕ) → F.value ≡ Over j z → (rest : List TargetStep) (p : Point) → Need (Take n ∷ rest) p w
       over_needs j z e rest p =
           let i : (f (name w (Fix n))).value ≡ Over j z = ap (λ (c : Cell S). c.value) cell_is ∙ e in
           (fix_has, subst (λ v. All Has (unless_over v [] (demanded_in f rest p (InLoop n (f (name w (Fix n))).index ∷ w)))) (sym i) tt)
 
-      state_needs : (s : S) → F.value ≡ State s → (rest : List Step) (p : Point) → Need rest p (InLoop n F.index ∷ w) → Need (Take n ∷ rest) p w
+      state_needs : (s : S) → F.value ≡ State s → (rest : List TargetStep) (p : Point) → Need rest p (InLoop n F.index ∷ w) → Need (Take n ∷ rest) p w
       state_needs s e rest p q =
           let i : (f (name w (Fix n))).value ≡ State s = ap (λ (c : Cell S). c.value) cell_is ∙ e in (
             fix_has,
@@ -259,16 +259,16 @@ module _ {S : Type 0} (dom : Operations S) (engine : Engine) where
           })
           go (inr o) = inr (record { loop = o.loop; chain = o.chain; over = o.over; stops = λ rest p. at_state s e (takes q.text.loops ++ rest) p ∙ o.stops rest p; needs = λ rest p. state_needs s e (takes q.text.loops ++ rest) p (o.needs rest p) })
 
-      head_is : F.value ≡ (head_of dom engine b.scope.marks b.sites n guard (block dom engine b.scope b.sites body) y.value.value).value
+      head_is : F.value ≡ (head_of dom engine b.scope.thresholds b.sites n guard (block dom engine b.scope b.sites body) y.value.value).value
       head_is = refl
 
-      seen_loop : ((k : ℕ) → k < N → Each (SeenAt body Body (InLoop n k ∷ w) (round_at k)) (SPB (round_at k).first.value.value)) → (v : Value S) → F.value ≡ v → Each (SeenAt (While n guard body r) y.point w b) (SPB (lift (dom.assume guard true) (head_of dom engine b.scope.marks b.sites n guard (block dom engine b.scope b.sites body) y.value.value).value))
+      seen_loop : ((k : ℕ) → k < N → Each (SeenAt body Body (InLoop n k ∷ w) (round_at k)) (SPB (round_at k).first.value.value)) → (v : Value S) → F.value ≡ v → Each (SeenAt (While n guard body r) y.point w b) (SPB (lift (dom.assume guard true) (head_of dom engine b.scope.thresholds b.sites n guard (block dom engine b.scope b.sites body) y.value.value).value))
       seen_loop rec (Over j z) e =
           let h = sym head_is ∙ e in
           record {
             at = λ x m.
-                let s = (shown b.scope.marks b.sites (calls_of dom engine b.scope.earlier b.sites) body Body _).at x m in
-                let o = (over_spots b.scope.marks b.sites (calls_of dom engine b.scope.earlier b.sites) j z body _ (ap (lift (dom.assume guard true)) h)).at x m in
+                let s = (shown b.scope.thresholds b.sites (calls_of dom engine b.scope.earlier b.sites) body Body _).at x m in
+                let o = (over_spots b.scope.thresholds b.sites (calls_of dom engine b.scope.earlier b.sites) j z body _ (ap (lift (dom.assume guard true)) h)).at x m in
                 record {
                   text = text (n ∷ s.text.loops) s.text.front s.text.code;
                   listed = there (in_left (texts r (Post n)) (in_map (deeper n) (x.0, s.text) (texts body Body) s.listed));
@@ -277,13 +277,13 @@ module _ {S : Type 0} (dom : Operations S) (engine : Engine) where
                 };
           }
       seen_loop rec (State s) e =
-          let i = fix_index dom engine b.scope.marks (one_round dom engine b.scope b.sites guard body) n b.sites y.value.value s e in
+          let i = fix_index dom engine b.scope.thresholds (one_round dom engine b.scope b.sites guard body) n b.sites y.value.value s e in
           let same = iterate_is dom engine program all w b n guard body r y l F.index ∙ i.1 ∙ sym e ∙ head_is in
           subst (λ v. Each (SeenAt (While n guard body r) y.point w b) (SPB (lift (dom.assume guard true) v))) same
           (each_as (SeenAt body Body (InLoop n F.index ∷ w) (round_at F.index)) (SeenAt (While n guard body r) y.point w b) _ (λ x q. deepen x s e q) (rec F.index i.0))
 
     -- Each statement of a block is seen, from a mark of it on.
-    pub seen : (c : Code) (w : List Frame) (b : P) (x : M) → to dom engine program all w ≡ Some b → ((p : ℕ × At (Cell S)) → Member p (level engine A b.scope b.sites c x) → Member p (level_of engine A b)) → Each (SeenAt c x.point w b) (spots dom engine b.scope.marks b.sites (calls_of dom engine b.scope.earlier b.sites) c x.value.value)
+    pub seen : (c : Code) (w : List NameFrame) (b : P) (x : M) → to dom engine program all w ≡ Some b → ((p : ℕ × At (Cell S)) → Member p (level engine A b.scope b.sites c x) → Member p (level_of engine A b)) → Each (SeenAt c x.point w b) (spots dom engine b.scope.thresholds b.sites (calls_of dom engine b.scope.earlier b.sites) c x.value.value)
     seen Stop w b x e k = none_there (SeenAt Stop x.point w b)
     seen (Simple n effect r) w b x e k =
         let l : Led dom engine program all w b x (Simple n effect r) = record { leads = e; fine = fine engine A program all w b e; stands = record { there = k _ here } } in

@@ -4,14 +4,14 @@ use Rattle.std.specs.Option.{option_map}
 use Rattle.std.proofs.lemmas.List.{map-append}
 use Rattle.std.proofs.lemmas.Iterator.Adapters.{option_map_id}
 use Rattle.imp_slots.specs.Plain.{Guard, Invoke, Code, Stop, Simple, If, While, Call, Break, Routine}
-use Rattle.batch_meaning.specs.Batch.{Engine}
+use Rattle.batch_meaning.specs.Batch.{LoopOptions}
 use Rattle.batch_meaning.specs.Places.{find, if_some, from, main_layout}
-use Rattle.cell_names.specs.declared.frame.Frame.{Frame}
-use Rattle.cell_names.specs.declared.frame.Frame.TheVariants.{InCall, InLoop}
+use Rattle.cell_names.specs.declared.frame.NameFrame.{NameFrame}
+use Rattle.cell_names.specs.declared.frame.NameFrame.TheVariants.{InCall, InLoop}
 use Rattle.cell_names.specs.declared.frame.Point.{Point}
 use Rattle.cell_names.specs.declared.frame.Point.TheVariants.{Entry, Then, Else, Body, Post, Iterate, Fix, Exit, Leap}
 use Rattle.cell_names.specs.Paths.{CellName}
-use Rattle.cell_rows.specs.Names.{Scope, name, Mark, mark, At, Algebra, Place, bare, breaks, break_numbers, place_of, leap_of, behind_it, inside, entry, level, level_of, start_of, in_call, in_loop, round_place, statement, follow, when, branch_mark, post_mark, next_mark, fix_mark, exit_mark, leap_mark, mark_at, mark_of, is_entry}
+use Rattle.cell_rows.specs.Names.{Scope, name, Mark, mark, At, Algebra, PathBlock, bare, breaks, break_numbers, place_of, leap_of, behind_it, inside, entry, level, level_of, start_of, in_call, in_loop, round_place, statement, follow, when, branch_mark, post_mark, next_mark, fix_mark, exit_mark, leap_mark, mark_at, mark_of, is_entry}
 use Rattle.cell_rows.specs.Rows as R
 use Rattle.cell_rows.specs.Rows.{Row, row_at, branch_row, post_row, next_row, fix_row, exit_row, leap_row, enter_row, turn_row, loop_row}
 
@@ -24,12 +24,12 @@ bare_at x = (x.0, record { before = bare_mark x.1.before; code = x.1.code })
 map_three : {A B : Type 0} (f : A → B) (xs ys zs : List A) (us vs ws : List B) → us ≡ map f xs → vs ≡ map f ys → ws ≡ map f zs → us ++ (vs ++ ws) ≡ map f (xs ++ (ys ++ zs))
 map_three f xs ys zs us vs ws a b c = rw (a, b, c, map-append f xs (ys ++ zs), map-append f ys zs) refl
 
-module _ (engine : Engine) {V : Type 0} (A : Algebra V) where
+module _ (engine : LoopOptions) {V : Type 0} (A : Algebra V) where
   abbrev P : Type 0
-  P = Place engine A
+  P = PathBlock engine A
 
   abbrev Q : Type 0
-  Q = Place engine bare
+  Q = PathBlock engine bare
 
   abbrev bare_place : P → Q
   bare_place b = record { scope = b.scope; sites = b.sites; code = b.code; first = bare_mark b.first }
@@ -95,7 +95,7 @@ module _ (engine : Engine) {V : Type 0} (A : Algebra V) where
   loop_bare n k b y (Break m r) = refl
 
   module _ (program : List Routine) where
-    pub follow_bare : (w : List Frame) → follow engine bare program w ≡ option_map bare_place (follow engine A program w)
+    pub follow_bare : (w : List NameFrame) → follow engine bare program w ≡ option_map bare_place (follow engine A program w)
     follow_bare [] = start_bare program [] (mark Entry 0 A.start)
     follow_bare (InCall n ∷ w) =
         ap (λ o. statement engine bare o n (λ b. in_call engine bare b n)) (follow_bare w)
@@ -104,7 +104,7 @@ module _ (engine : Engine) {V : Type 0} (A : Algebra V) where
         ap (λ o. statement engine bare o n (λ b. in_loop engine bare b n k)) (follow_bare w)
         ∙ statement_bare bare_place (follow engine A program w) n (λ b. in_loop engine A b n k) (λ b. in_loop engine bare b n k) (λ b y d. loop_bare n k b y d)
 
-    same_row : (w : List Frame) (n : ℕ) (g : P → Mark V → Code → Option Row) (k : Q → Mark (Unit {0}) → Code → Option Row) → ((b : P) (y : Mark V) (d : Code) → k (bare_place b) (bare_mark y) d ≡ g b y d) → statement engine bare (follow engine bare program w) n k ≡ statement engine A (follow engine A program w) n g
+    same_row : (w : List NameFrame) (n : ℕ) (g : P → Mark V → Code → Option Row) (k : Q → Mark (Unit {0}) → Code → Option Row) → ((b : P) (y : Mark V) (d : Code) → k (bare_place b) (bare_mark y) d ≡ g b y d) → statement engine bare (follow engine bare program w) n k ≡ statement engine A (follow engine A program w) n g
     same_row w n g k f =
         ap (λ o. statement engine bare o n k) (follow_bare w)
         ∙ statement_bare (λ (r : Row). r) (follow engine A program w) n g k (λ b y d. f b y d ∙ sym (option_map_id (g b y d)))
@@ -114,7 +114,7 @@ module _ (engine : Engine) {V : Type 0} (A : Algebra V) where
     const_row r None = refl
     const_row r (Some b) = refl
 
-    enter_same : (n : ℕ) (w : List Frame) (b : P) (y : Mark V) (d : Code) → enter_row engine bare w (bare_place b) n (bare_mark y) d ≡ enter_row engine A w b n y d
+    enter_same : (n : ℕ) (w : List NameFrame) (b : P) (y : Mark V) (d : Code) → enter_row engine bare w (bare_place b) n (bare_mark y) d ≡ enter_row engine A w b n y d
     enter_same n w b y Stop = refl
     enter_same n w b y (Simple m effect r) = refl
     enter_same n w b y (If m guard t e r) = refl
@@ -123,7 +123,7 @@ module _ (engine : Engine) {V : Type 0} (A : Algebra V) where
         ap (λ o. if_some o (λ d. Some (R.One (R.Enters call.entering) (name w y.point)))) (call_bare n b y (Call m call q r)) ∙ const_row _ (in_call engine A b n y (Call m call q r))
     enter_same n w b y (Break m r) = refl
 
-    turn_same : (n k : ℕ) (w : List Frame) (b : P) (y : Mark V) (d : Code) → turn_row engine bare w (bare_place b) n k (bare_mark y) d ≡ turn_row engine A w b n k y d
+    turn_same : (n k : ℕ) (w : List NameFrame) (b : P) (y : Mark V) (d : Code) → turn_row engine bare w (bare_place b) n k (bare_mark y) d ≡ turn_row engine A w b n k y d
     turn_same n k w b y Stop = refl
     turn_same n k w b y (Simple m effect r) = refl
     turn_same n k w b y (If m guard t e r) = refl
@@ -131,7 +131,7 @@ module _ (engine : Engine) {V : Type 0} (A : Algebra V) where
     turn_same n k w b y (Call m call q r) = refl
     turn_same n k w b y (Break m r) = refl
 
-    branch_same : (h : Bool) (w : List Frame) (b : P) (y : Mark V) (d : Code) → branch_row engine bare w h (bare_place b) (bare_mark y) d ≡ branch_row engine A w h b y d
+    branch_same : (h : Bool) (w : List NameFrame) (b : P) (y : Mark V) (d : Code) → branch_row engine bare w h (bare_place b) (bare_mark y) d ≡ branch_row engine A w h b y d
     branch_same h w b y Stop = refl
     branch_same h w b y (Simple m effect r) = refl
     branch_same h w b y (If m guard t e r) = refl
@@ -139,18 +139,18 @@ module _ (engine : Engine) {V : Type 0} (A : Algebra V) where
     branch_same h w b y (Call m call q r) = refl
     branch_same h w b y (Break m r) = refl
 
-    abbrev left_row : List Frame → ℕ → Invoke → Point → Code → Row
+    abbrev left_row : List NameFrame → ℕ → Invoke → Point → Code → Row
     left_row w n call p c = R.Two (R.Leaves call.returning) (name w p) (name (InCall n ∷ w) (R.last_point c Entry))
 
-    code_row : (w : List Frame) (n : ℕ) (call : Invoke) (p : Point) (o : Option P) → if_some (option_map bare_place o) (λ d. Some (left_row w n call p d.code)) ≡ if_some o (λ d. Some (left_row w n call p d.code))
+    code_row : (w : List NameFrame) (n : ℕ) (call : Invoke) (p : Point) (o : Option P) → if_some (option_map bare_place o) (λ d. Some (left_row w n call p d.code)) ≡ if_some o (λ d. Some (left_row w n call p d.code))
     code_row w n call p None = refl
     code_row w n call p (Some b) = refl
 
-    loop_same : (w : List Frame) (n : ℕ) (guard : Guard) (body : Code) (k : ℕ) → loop_row engine bare w n guard body k ≡ loop_row engine A w n guard body k
+    loop_same : (w : List NameFrame) (n : ℕ) (guard : Guard) (body : Code) (k : ℕ) → loop_row engine bare w n guard body k ≡ loop_row engine A w n guard body k
     loop_same w n guard body zero = refl
     loop_same w n guard body (suc i) = refl
 
-    post_same : (w : List Frame) (b : P) (y : Mark V) (d : Code) → post_row engine bare w (bare_place b) (bare_mark y) d ≡ post_row engine A w b y d
+    post_same : (w : List NameFrame) (b : P) (y : Mark V) (d : Code) → post_row engine bare w (bare_place b) (bare_mark y) d ≡ post_row engine A w b y d
     post_same w b y Stop = refl
     post_same w b y (Simple m effect r) = refl
     post_same w b y (If m guard t e r) = refl
@@ -159,7 +159,7 @@ module _ (engine : Engine) {V : Type 0} (A : Algebra V) where
         ap (λ o. if_some o (λ d. Some (left_row w m call y.point d.code))) (call_bare m b y (Call m call q r)) ∙ code_row w m call y.point (in_call engine A b m y (Call m call q r))
     post_same w b y (Break m r) = refl
 
-    next_same : (k : ℕ) (w : List Frame) (b : P) (y : Mark V) (d : Code) → next_row engine bare w k (bare_place b) (bare_mark y) d ≡ next_row engine A w k b y d
+    next_same : (k : ℕ) (w : List NameFrame) (b : P) (y : Mark V) (d : Code) → next_row engine bare w k (bare_place b) (bare_mark y) d ≡ next_row engine A w k b y d
     next_same k w b y Stop = refl
     next_same k w b y (Simple m effect r) = refl
     next_same k w b y (If m guard t e r) = refl
@@ -167,7 +167,7 @@ module _ (engine : Engine) {V : Type 0} (A : Algebra V) where
     next_same k w b y (Call m call q r) = refl
     next_same k w b y (Break m r) = refl
 
-    fix_same : (w : List Frame) (b : P) (y : Mark V) (d : Code) → fix_row engine bare w (bare_place b) (bare_mark y) d ≡ fix_row engine A w b y d
+    fix_same : (w : List NameFrame) (b : P) (y : Mark V) (d : Code) → fix_row engine bare w (bare_place b) (bare_mark y) d ≡ fix_row engine A w b y d
     fix_same w b y Stop = refl
     fix_same w b y (Simple m effect r) = refl
     fix_same w b y (If m guard t e r) = refl
@@ -175,7 +175,7 @@ module _ (engine : Engine) {V : Type 0} (A : Algebra V) where
     fix_same w b y (Call m call q r) = refl
     fix_same w b y (Break m r) = refl
 
-    exit_same : (w : List Frame) (b : P) (y : Mark V) (d : Code) → exit_row engine bare w (bare_place b) (bare_mark y) d ≡ exit_row engine A w b y d
+    exit_same : (w : List NameFrame) (b : P) (y : Mark V) (d : Code) → exit_row engine bare w (bare_place b) (bare_mark y) d ≡ exit_row engine A w b y d
     exit_same w b y Stop = refl
     exit_same w b y (Simple m effect r) = refl
     exit_same w b y (If m guard t e r) = refl
@@ -183,7 +183,7 @@ module _ (engine : Engine) {V : Type 0} (A : Algebra V) where
     exit_same w b y (Call m call q r) = refl
     exit_same w b y (Break m r) = refl
 
-    leap_same : (i : ℕ) (w : List Frame) (b : P) (y : Mark V) (d : Code) → leap_row engine bare w i (bare_place b) (bare_mark y) d ≡ leap_row engine A w i b y d
+    leap_same : (i : ℕ) (w : List NameFrame) (b : P) (y : Mark V) (d : Code) → leap_row engine bare w i (bare_place b) (bare_mark y) d ≡ leap_row engine A w i b y d
     leap_same i w b y Stop = refl
     leap_same i w b y (Simple m effect r) = refl
     leap_same i w b y (If m guard t e r) = refl
@@ -192,7 +192,7 @@ module _ (engine : Engine) {V : Type 0} (A : Algebra V) where
     leap_same i w b y (Break m r) = refl
 
     -- A name's row, whatever is computed.
-    pub row_bare : (w : List Frame) (p : Point) → row_at engine bare program w p ≡ row_at engine A program w p
+    pub row_bare : (w : List NameFrame) (p : Point) → row_at engine bare program w p ≡ row_at engine A program w p
     row_bare [] Entry = ap (λ o. if_some o (λ d. Some (R.Init (main_layout program)))) (follow_bare []) ∙ const_row (R.Init (main_layout program)) (follow engine A program [])
     row_bare (InCall n ∷ w) Entry = same_row w n (λ b. enter_row engine A w b n) (λ b. enter_row engine bare w b n) (λ b y d. enter_same n w b y d)
     row_bare (InLoop n k ∷ w) Entry = refl

@@ -5,10 +5,10 @@ use Rattle.imp_slots.specs.Plain.{Layout, Guard, Code, Stop, Simple, If, While, 
 use Rattle.imp_slots.specs.Fits.{Absent, Distinct}
 use Rattle.domain_laws.specs.Operations.{Operations}
 use Rattle.batch_meaning.specs.Values.{Value, State, Over, lift, lift2}
-use Rattle.batch_meaning.specs.Batch.{Engine, next_of, settle, iterate, fix, joined}
+use Rattle.batch_meaning.specs.Batch.{LoopOptions, next_of, settle, iterate, fix, joined}
 use Rattle.batch_meaning.specs.Places.{from}
-use Rattle.plain_values.proofs.Cases.{by_test}
-use Rattle.plain_values.proofs.Members.{Member, here, there, in_left, in_right, Each, each_more, each_both, none_there, each_as}
+use Rattle.base_values.proofs.Cases.{by_test}
+use Rattle.base_values.proofs.Members.{Member, here, there, in_left, in_right, Each, each_more, each_both, none_there, each_as}
 use Rattle.cell_rows.specs.Blocks.{iterate_at}
 use Rattle.cell_rows.specs.Names.{Scope, spans, Mark, At, Algebra, breaks, break_numbers, place_of, item, next_place, span, behind_it, inside, entry, level, last, leaves}
 use Rattle.cell_rows.specs.Rows.{leave_points}
@@ -44,7 +44,7 @@ place_is (n ∷ ns) (suc i) d h =
     (λ e. absurd (absent_item n ns i d.0 (omega arith) (sym e)))
     (λ e. ap next_place (place_is ns i d.1 (omega arith)))
 
-pub span_from : (engine : Engine) (ps : List Routine) (q : ℕ) (r : Routine) (earlier : List Routine) → from ps q ≡ r ∷ earlier → spans engine ps q ≡ span engine (spans engine earlier) r.code
+pub span_from : (engine : LoopOptions) (ps : List Routine) (q : ℕ) (r : Routine) (earlier : List Routine) → from ps q ≡ r ∷ earlier → spans engine ps q ≡ span engine (spans engine earlier) r.code
 span_from engine [] q r earlier e = absurd cc
 span_from engine (b ∷ ps) q r earlier e =
     (by_test q (length ps) (λ c. (if c then b ∷ ps else from ps q) ≡ r ∷ earlier → (if c then span engine (spans engine ps) b.code else spans engine ps q) ≡ span engine (spans engine earlier) r.code)
@@ -52,7 +52,7 @@ span_from engine (b ∷ ps) q r earlier e =
     (λ k e. span_from engine ps q r earlier e)) e
 
 -- The entries of an if's branches are entries of the block.
-module _ (engine : Engine) {V : Type 0} (alg : Algebra V) (scope : Scope) (z : List ℕ) where
+module _ (engine : LoopOptions) {V : Type 0} (alg : Algebra V) (scope : Scope) (z : List ℕ) where
   abbrev L : Code → Mark V → List (ℕ × At V)
   L = level engine alg scope z
 
@@ -115,7 +115,7 @@ got f [] i p e = absurd cc
 got f (x ∷ xs) zero p e = (x, refl, cc, here)
 got f (x ∷ xs) (suc i) p e = let r = got f xs i p e in (r.0, r.1, r.2, there r.3)
 
-module _ {S : Type 0} (dom : Operations S) (engine : Engine) where
+module _ {S : Type 0} (dom : Operations S) (engine : LoopOptions) where
   one_side : (f : S → S → S) (s : S) (v : Value S) → lift2 f (State s) v ≡ lift (f s) v
   one_side f s (State t) = refl
   one_side f s (Over n y) = refl

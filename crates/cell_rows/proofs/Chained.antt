@@ -3,22 +3,22 @@ use Rattle.std.proofs.Common.{◌≡◌, ℕ, suc, List, [], ◌∷◌, ◌++◌
 use Rattle.imp_slots.specs.Plain.{Invoke, Code, Stop, Simple, If, While, Call, Break, Routine, code_numbers}
 use Rattle.imp_slots.specs.Fits.{Distinct, routine_numbers}
 use Rattle.domain_laws.specs.Operations.{Operations}
-use Rattle.program_chains.specs.Marks.{marks}
+use Rattle.imp_chains.specs.Thresholds.{thresholds}
 use Rattle.batch_meaning.specs.Values.{Value, State, Over, lift}
-use Rattle.batch_meaning.specs.Batch.{Engine, Fixed, batch, calls_of}
+use Rattle.batch_meaning.specs.Batch.{LoopOptions, Fixed, batch, calls_of}
 use Rattle.batch_meaning.specs.Places.{Spot, spots, find, if_some, from, main_layout, spots_in, value_in, entered, entry, head_value as head_of_spot}
-use Rattle.cell_names.specs.declared.frame.Frame.{Frame}
-use Rattle.cell_names.specs.declared.frame.Frame.TheVariants.{InCall}
+use Rattle.cell_names.specs.declared.frame.NameFrame.{NameFrame}
+use Rattle.cell_names.specs.declared.frame.NameFrame.TheVariants.{InCall}
 use Rattle.cell_names.specs.declared.frame.Point.{Point}
 use Rattle.cell_names.specs.declared.frame.Point.TheVariants.{Entry, Then, Else, Body, Post, Fix}
 use Rattle.cell_names.specs.Paths.{CellName}
-use Rattle.plain_values.proofs.Cases.{by_test, given_test}
-use Rattle.plain_values.proofs.Members.{Member, here, there, Each, each_more, each_both, none_there, keys}
+use Rattle.base_values.proofs.Cases.{by_test, given_test}
+use Rattle.base_values.proofs.Members.{Member, here, there, Each, each_more, each_both, none_there, keys}
 use Rattle.batch_meaning.proofs.Places.{keys_numbers, found, found_member}
-use Rattle.cell_rows.specs.Names.{Scope, scope_of, name, Mark, mark, Algebra, Place, number, behind_it, last, AllFine, start_of, in_call, post_mark}
+use Rattle.cell_rows.specs.Names.{Scope, scope_of, name, Mark, mark, Algebra, PathBlock, number, behind_it, last, AllFine, start_of, in_call, post_mark}
 use Rattle.cell_rows.specs.Rows.{last_point}
 use Rattle.cell_rows.specs.Cells.{Cell, plain, values, value_of_name, value_of_mark}
-use Rattle.cell_rows.specs.Targets.{Text, text, deeper, texts, Step, Go, takes, Target, to_point, Way, way_of, way_in, way, callee_of, is_loop, target_in, value_in_path, value_of_target, demanded_in}
+use Rattle.cell_rows.specs.Targets.{Text, text, deeper, texts, TargetStep, Go, takes, Target, to_point, Way, way_of, way_in, way, callee_of, is_loop, target_in, value_in_path, value_of_target, demanded_in}
 use Rattle.cell_rows.proofs.Unique.{All}
 use Rattle.cell_rows.proofs.Lookup.{then_some}
 use Rattle.imp_syntax.specs.declared.edit.Location.{Location}
@@ -58,7 +58,7 @@ numbered (While n guard b r) p = each_more Numbered (n, text [] p (While n guard
 numbered (Call n call q r) p = each_more Numbered (n, text [] p (Call n call q r)) (texts r (Post n)) refl (numbered r _)
 numbered (Break n r) p = each_more Numbered (n, text [] p (Break n r)) (texts r (Post n)) refl (numbered r _)
 
-module _ {S : Type 0} (dom : Operations S) (engine : Engine) (program : List Routine) (all : AllFine program) (once : AllOnce program) where
+module _ {S : Type 0} (dom : Operations S) (engine : LoopOptions) (program : List Routine) (all : AllFine program) (once : AllOnce program) where
   abbrev A : Algebra (Cell S)
   A = values dom engine (main_layout program)
 
@@ -66,25 +66,25 @@ module _ {S : Type 0} (dom : Operations S) (engine : Engine) (program : List Rou
   M = Mark (Cell S)
 
   abbrev P : Type 0
-  P = Place engine A
+  P = PathBlock engine A
 
   abbrev f : CellName → Cell S
   f = value_of_name dom engine program
 
-  abbrev goto : List Step → Point → List Frame → Value S
+  abbrev goto : List TargetStep → Point → List NameFrame → Value S
   goto = value_in_path f
 
-  abbrev Need : List Step → Point → List Frame → Type 0
+  abbrev Need : List TargetStep → Point → List NameFrame → Type 0
   Need ss p w = All (Has dom engine program all) (demanded_in f ss p w)
 
   abbrev Sc : Routine → List Routine → Scope
   Sc = scope_of engine A
 
   abbrev spots_by : Scope → List ℕ → Code → Value S → List (ℕ × Spot S)
-  spots_by sc z c a = spots dom engine sc.marks z (calls_of dom engine sc.earlier z) c a
+  spots_by sc z c a = spots dom engine sc.thresholds z (calls_of dom engine sc.earlier z) c a
 
   abbrev ended_by : Scope → List ℕ → Code → Value S → Value S
-  ended_by sc z c a = (batch dom engine sc.marks z (calls_of dom engine sc.earlier z) c a).value
+  ended_by sc z c a = (batch dom engine sc.thresholds z (calls_of dom engine sc.earlier z) c a).value
 
   abbrev all_spots : List Routine → List ℕ → Value S → List (ℕ × Spot S)
   all_spots = spots_in dom engine
@@ -95,38 +95,38 @@ module _ {S : Type 0} (dom : Operations S) (engine : Engine) (program : List Rou
   Placed (c ∷ e) b = (b.scope ≡ Sc c e) × (b.code ≡ c.code)
 
   -- Where a target's steps from main come to.
-  record Arrives (ss : List Step) (procs : List Routine) (z : List ℕ) (a : Value S) : Type 0 where
-    path : List Frame
+  record Arrives (ss : List TargetStep) (procs : List Routine) (z : List ℕ) (a : Value S) : Type 0 where
+    path : List NameFrame
     place : P
     leads : to dom engine program all path ≡ Some place
     placed : Placed procs place
     sites_are : z ≡ place.sites
     value_is : a ≡ place.first.value.value
     point : place.first.point ≡ Entry
-    goes : (rest : List Step) (p : Point) → goto (ss ++ rest) p [] ≡ goto rest p path
-    needs : (rest : List Step) (p : Point) → Need rest p path → Need (ss ++ rest) p []
+    goes : (rest : List TargetStep) (p : Point) → goto (ss ++ rest) p [] ≡ goto rest p path
+    needs : (rest : List TargetStep) (p : Point) → Need rest p path → Need (ss ++ rest) p []
 
-  record Halts (ss : List Step) (a : Value S) : Type 0 where
+  record Halts (ss : List TargetStep) (a : Value S) : Type 0 where
     loop : ℕ
     chain : List ℕ
     over : a ≡ Over loop chain
-    stops : (rest : List Step) (p : Point) → goto (ss ++ rest) p [] ≡ Over loop chain
-    needs : (rest : List Step) (p : Point) → Need (ss ++ rest) p []
+    stops : (rest : List TargetStep) (p : Point) → goto (ss ++ rest) p [] ≡ Over loop chain
+    needs : (rest : List TargetStep) (p : Point) → Need (ss ++ rest) p []
 
-  data Comes (ss : List Step) (procs : List Routine) (z : List ℕ) (a : Value S) : Type 0 where
+  data Comes (ss : List TargetStep) (procs : List Routine) (z : List ℕ) (a : Value S) : Type 0 where
     arrives : Arrives ss procs z a → Comes ss procs z a
     halts : Halts ss a → Comes ss procs z a
     nowhere : procs ≡ [] → Comes ss procs z a
 
   record Came (procs : List Routine) (z : List ℕ) (a : Value S) : Type 0 where
-    steps : List Step
+    steps : List TargetStep
     way_is : way program z ≡ Some (way_of steps procs)
     came : Comes steps procs z a
     once_too : AllOnce procs
 
   -- A statement of the procedure in which a chain ends.
-  record Here (ss : List Step) (t : Text) (s : Spot S) (scope : Scope) (z : List ℕ) : Type 0 where
-    path : List Frame
+  record Here (ss : List TargetStep) (t : Text) (s : Spot S) (scope : Scope) (z : List ℕ) : Type 0 where
+    path : List NameFrame
     place : P
     front : M
     led : Led dom engine program all path place front t.code
@@ -134,17 +134,17 @@ module _ {S : Type 0} (dom : Operations S) (engine : Engine) (program : List Rou
     same_sites : place.sites ≡ z
     point : t.front ≡ front.point
     spot_is : s ≡ spot_of dom engine place.scope place.sites t.code front.value.value
-    goes : (rest : List Step) (p : Point) → goto (ss ++ (takes t.loops ++ rest)) p [] ≡ goto rest p path
-    needs : (rest : List Step) (p : Point) → Need rest p path → Need (ss ++ (takes t.loops ++ rest)) p []
+    goes : (rest : List TargetStep) (p : Point) → goto (ss ++ (takes t.loops ++ rest)) p [] ≡ goto rest p path
+    needs : (rest : List TargetStep) (p : Point) → Need rest p path → Need (ss ++ (takes t.loops ++ rest)) p []
 
-  record Gone (ss : List Step) (t : Text) (s : Spot S) : Type 0 where
+  record Gone (ss : List TargetStep) (t : Text) (s : Spot S) : Type 0 where
     loop : ℕ
     chain : List ℕ
     over : AllOver dom engine loop chain s
-    stops : (rest : List Step) (p : Point) → goto (ss ++ (takes t.loops ++ rest)) p [] ≡ Over loop chain
-    needs : (rest : List Step) (p : Point) → Need (ss ++ (takes t.loops ++ rest)) p []
+    stops : (rest : List TargetStep) (p : Point) → goto (ss ++ (takes t.loops ++ rest)) p [] ≡ Over loop chain
+    needs : (rest : List TargetStep) (p : Point) → Need (ss ++ (takes t.loops ++ rest)) p []
 
-  record Located (ss : List Step) (body : Code) (scope : Scope) (z : List ℕ) (n : ℕ) (s : Spot S) : Type 0 where
+  record Located (ss : List TargetStep) (body : Code) (scope : Scope) (z : List ℕ) (n : ℕ) (s : Spot S) : Type 0 where
     text : Text
     found_text : find n (texts body Entry) ≡ Some text
     fits : Fits dom engine text s
@@ -154,7 +154,7 @@ module _ {S : Type 0} (dom : Operations S) (engine : Engine) (program : List Rou
   find_text : (body : Code) (n : ℕ) (t : Text) → Distinct (code_numbers body) → Member (n, t) (texts body Entry) → find n (texts body Entry) ≡ Some t
   find_text body n t d m = found (n, t) (texts body Entry) (subst Distinct (sym (keys_texts body Entry)) d) m
 
-  located : (ss : List Step) (c : Routine) (earlier : List Routine) (z : List ℕ) (a : Value S) (n : ℕ) (s : Spot S) → Distinct (code_numbers c.code) → Comes ss (c ∷ earlier) z a → find n (all_spots (c ∷ earlier) z a) ≡ Some s → Located ss c.code (Sc c earlier) z n s
+  located : (ss : List TargetStep) (c : Routine) (earlier : List Routine) (z : List ℕ) (a : Value S) (n : ℕ) (s : Spot S) → Distinct (code_numbers c.code) → Comes ss (c ∷ earlier) z a → find n (all_spots (c ∷ earlier) z a) ≡ Some s → Located ss c.code (Sc c earlier) z n s
   located ss c earlier z a n s d (arrives r) e =
       let b = r.place in
       let same : all_spots (c ∷ earlier) z a ≡ spots_by b.scope b.sites b.code b.first.value.value =
@@ -186,8 +186,8 @@ module _ {S : Type 0} (dom : Operations S) (engine : Engine) (program : List Rou
       go t (inr o) = inr (record { loop = o.loop; chain = o.chain; over = o.over; stops = λ rest p. r.goes (takes t.loops ++ rest) p ∙ o.stops rest p; needs = λ rest p. r.needs (takes t.loops ++ rest) p (o.needs rest p) })
   located ss c earlier z a n s d (halts r) e =
       let m = found_member n s (all_spots (c ∷ earlier) z a) e in
-      let q = (shown dom engine (marks engine.widening c) z (calls_of dom engine earlier z) c.code Entry a).at (n, s) m in
-      let o = (over_spots dom engine (marks engine.widening c) z (calls_of dom engine earlier z) r.loop r.chain c.code a r.over).at (n, s) m in
+      let q = (shown dom engine (thresholds engine.widening c) z (calls_of dom engine earlier z) c.code Entry a).at (n, s) m in
+      let o = (over_spots dom engine (thresholds engine.widening c) z (calls_of dom engine earlier z) r.loop r.chain c.code a r.over).at (n, s) m in
       record {
         text = q.text;
         found_text = find_text c.code n q.text d q.listed;
@@ -197,10 +197,10 @@ module _ {S : Type 0} (dom : Operations S) (engine : Engine) (program : List Rou
       }
   located ss c earlier z a n s d (nowhere r) e = absurd cc
 
-  reassoc : (ss ls : List Step) (x : Step) (rest : List Step) → (ss ++ (ls ++ x ∷ [])) ++ rest ≡ ss ++ (ls ++ x ∷ rest)
+  reassoc : (ss ls : List TargetStep) (x : TargetStep) (rest : List TargetStep) → (ss ++ (ls ++ x ∷ [])) ++ rest ≡ ss ++ (ls ++ x ∷ rest)
   reassoc ss ls x rest = append_assoc ss (ls ++ x ∷ []) rest ∙ ap (λ k. ss ++ k) (append_assoc ls (x ∷ []) rest)
 
-  come_call : (ss : List Step) (scope : Scope) (z : List ℕ) (n : ℕ) (s : Spot S) (t : Text) (h : Here ss t s scope z) (m : ℕ) (call : Invoke) (q : ℕ) (r : Code) → t.code ≡ Call m call q r → n ≡ m → Comes (ss ++ (takes t.loops ++ Go n ∷ [])) (from scope.earlier q) (n ∷ z) (lift (dom.enter call.entering) s.before)
+  come_call : (ss : List TargetStep) (scope : Scope) (z : List ℕ) (n : ℕ) (s : Spot S) (t : Text) (h : Here ss t s scope z) (m : ℕ) (call : Invoke) (q : ℕ) (r : Code) → t.code ≡ Call m call q r → n ≡ m → Comes (ss ++ (takes t.loops ++ Go n ∷ [])) (from scope.earlier q) (n ∷ z) (lift (dom.enter call.entering) s.before)
   come_call ss scope z n s t h m call q r i j = go (from scope.earlier q) refl
     where
       x : M
@@ -225,7 +225,7 @@ module _ {S : Type 0} (dom : Operations S) (engine : Engine) (program : List Rou
             needs = λ rest p q. subst (λ k. Need k p []) (sym (reassoc ss (takes t.loops) (Go n) rest)) (h.needs (Go n ∷ rest) p q);
           })
 
-  come_here : (ss : List Step) (scope : Scope) (z : List ℕ) (n : ℕ) (s : Spot S) (t : Text) (h : Here ss t s scope z) (k : Invoke × ℕ) (d : Code) → t.code ≡ d → callee_of d ≡ Some k → n ≡ number d → Comes (ss ++ (takes t.loops ++ Go n ∷ [])) (from scope.earlier k.1) (n ∷ z) (lift (dom.enter k.0.entering) s.before)
+  come_here : (ss : List TargetStep) (scope : Scope) (z : List ℕ) (n : ℕ) (s : Spot S) (t : Text) (h : Here ss t s scope z) (k : Invoke × ℕ) (d : Code) → t.code ≡ d → callee_of d ≡ Some k → n ≡ number d → Comes (ss ++ (takes t.loops ++ Go n ∷ [])) (from scope.earlier k.1) (n ∷ z) (lift (dom.enter k.0.entering) s.before)
   come_here ss scope z n s t h k Stop i c j = absurd cc
   come_here ss scope z n s t h k (Simple m effect r) i c j = absurd cc
   come_here ss scope z n s t h k (If m guard x y r) i c j = absurd cc
@@ -234,7 +234,7 @@ module _ {S : Type 0} (dom : Operations S) (engine : Engine) (program : List Rou
       subst (λ (k : Invoke × ℕ). Comes (ss ++ (takes t.loops ++ Go n ∷ [])) (from scope.earlier k.1) (n ∷ z) (lift (dom.enter k.0.entering) s.before)) (same_Some _ _ c) (come_call ss scope z n s t h m call q r i j)
   come_here ss scope z n s t h k (Break m r) i c j = absurd cc
 
-  come_in : (ss : List Step) (scope : Scope) (z : List ℕ) (n : ℕ) (s : Spot S) (t : Text) (k : Invoke × ℕ) → callee_of t.code ≡ Some k → n ≡ number t.code → Here ss t s scope z ⊎ Gone ss t s → Comes (ss ++ (takes t.loops ++ Go n ∷ [])) (from scope.earlier k.1) (n ∷ z) (lift (dom.enter k.0.entering) s.before)
+  come_in : (ss : List TargetStep) (scope : Scope) (z : List ℕ) (n : ℕ) (s : Spot S) (t : Text) (k : Invoke × ℕ) → callee_of t.code ≡ Some k → n ≡ number t.code → Here ss t s scope z ⊎ Gone ss t s → Comes (ss ++ (takes t.loops ++ Go n ∷ [])) (from scope.earlier k.1) (n ∷ z) (lift (dom.enter k.0.entering) s.before)
   come_in ss scope z n s t k c j (inl h) = come_here ss scope z n s t h k t.code refl c j
   come_in ss scope z n s t k c j (inr g) = halts (record {
     loop = g.loop;
@@ -298,29 +298,29 @@ module _ {S : Type 0} (dom : Operations S) (engine : Engine) (program : List Rou
     value : value_of_target f target_at ≡ v
     needs : Need target_at.steps target_at.last []
 
-  reached : (ss : List Step) (scope : Scope) (z : List ℕ) (s : Spot S) (t : Text) (p : Point) (v : Value S) → ((h : Here ss t s scope z) → (f (name h.path p)).value ≡ v) → ((g : Gone ss t s) → Over g.loop g.chain ≡ v) → Here ss t s scope z ⊎ Gone ss t s → goto (ss ++ takes t.loops) p [] ≡ v
+  reached : (ss : List TargetStep) (scope : Scope) (z : List ℕ) (s : Spot S) (t : Text) (p : Point) (v : Value S) → ((h : Here ss t s scope z) → (f (name h.path p)).value ≡ v) → ((g : Gone ss t s) → Over g.loop g.chain ≡ v) → Here ss t s scope z ⊎ Gone ss t s → goto (ss ++ takes t.loops) p [] ≡ v
   reached ss scope z s t p v j k (inl h) = ap (λ x. goto (ss ++ x) p []) (sym (append-nil (takes t.loops))) ∙ h.goes [] p ∙ j h
   reached ss scope z s t p v j k (inr g) = ap (λ x. goto (ss ++ x) p []) (sym (append-nil (takes t.loops))) ∙ g.stops [] p ∙ k g
 
-  needed : (ss : List Step) (scope : Scope) (z : List ℕ) (s : Spot S) (t : Text) (p : Point) → ((h : Here ss t s scope z) → Has dom engine program all (name h.path p)) → Here ss t s scope z ⊎ Gone ss t s → Need (ss ++ takes t.loops) p []
+  needed : (ss : List TargetStep) (scope : Scope) (z : List ℕ) (s : Spot S) (t : Text) (p : Point) → ((h : Here ss t s scope z) → Has dom engine program all (name h.path p)) → Here ss t s scope z ⊎ Gone ss t s → Need (ss ++ takes t.loops) p []
   needed ss scope z s t p j (inl h) = subst (λ x. Need (ss ++ x) p []) (append-nil (takes t.loops)) (h.needs [] p (j h, tt))
   needed ss scope z s t p j (inr g) = subst (λ x. Need (ss ++ x) p []) (append-nil (takes t.loops)) (g.needs [] p)
 
   cell_at : (x : CellName) (m : M) → at dom engine program all x ≡ Some m → (f x).value ≡ m.value.value
   cell_at x m e = ap (λ (o : Option M). (value_of_mark dom engine o).value) e
 
-  before_is : (ss : List Step) (scope : Scope) (z : List ℕ) (s : Spot S) (t : Text) (h : Here ss t s scope z) → (f (name h.path t.front)).value ≡ s.before
+  before_is : (ss : List TargetStep) (scope : Scope) (z : List ℕ) (s : Spot S) (t : Text) (h : Here ss t s scope z) → (f (name h.path t.front)).value ≡ s.before
   before_is ss scope z s t h =
       ap (λ (p : Point). (f (name h.path p)).value) h.point ∙ cell_at (name h.path h.front.point) h.front (front_found dom engine program all h.path h.place h.front t.code h.led) ∙ ap (λ (s : Spot S). s.before) (sym h.spot_is)
 
-  front_has : (ss : List Step) (scope : Scope) (z : List ℕ) (s : Spot S) (t : Text) (h : Here ss t s scope z) → Has dom engine program all (name h.path t.front)
+  front_has : (ss : List TargetStep) (scope : Scope) (z : List ℕ) (s : Spot S) (t : Text) (h : Here ss t s scope z) → Has dom engine program all (name h.path t.front)
   front_has ss scope z s t h = subst (λ (p : Point). Has dom engine program all (name h.path p)) (sym h.point) (h.front, front_found dom engine program all h.path h.place h.front t.code h.led)
 
-  post_has : (ss : List Step) (scope : Scope) (z : List ℕ) (n : ℕ) (s : Spot S) (t : Text) (h : Here ss t s scope z) → n ≡ number t.code → Has dom engine program all (name h.path (Post n))
+  post_has : (ss : List TargetStep) (scope : Scope) (z : List ℕ) (n : ℕ) (s : Spot S) (t : Text) (h : Here ss t s scope z) → n ≡ number t.code → Has dom engine program all (name h.path (Post n))
   post_has ss scope z n s t h j =
       subst (λ (n : ℕ). Has dom engine program all (name h.path (Post n))) (sym j) (behind_it engine A h.place.scope h.place.sites t.code h.front, led_to dom engine program all h.path h.place h.front t.code h.led (post_mark engine A))
 
-  fix_has : (ss : List Step) (scope : Scope) (z : List ℕ) (n : ℕ) (s : Spot S) (t : Text) (h : Here ss t s scope z) (d : Code) → t.code ≡ d → n ≡ number d → is_loop d ≡ true → Has dom engine program all (name h.path (Fix n))
+  fix_has : (ss : List TargetStep) (scope : Scope) (z : List ℕ) (n : ℕ) (s : Spot S) (t : Text) (h : Here ss t s scope z) (d : Code) → t.code ≡ d → n ≡ number d → is_loop d ≡ true → Has dom engine program all (name h.path (Fix n))
   fix_has ss scope z n s t h Stop i j k = absurd cc
   fix_has ss scope z n s t h (Simple m effect r) i j k = absurd cc
   fix_has ss scope z n s t h (If m guard x y r) i j k = absurd cc
@@ -330,13 +330,13 @@ module _ {S : Type 0} (dom : Operations S) (engine : Engine) (program : List Rou
   fix_has ss scope z n s t h (Call m call q r) i j k = absurd cc
   fix_has ss scope z n s t h (Break m r) i j k = absurd cc
 
-  after_is : (ss : List Step) (scope : Scope) (z : List ℕ) (n : ℕ) (s : Spot S) (t : Text) (h : Here ss t s scope z) → n ≡ number t.code → (f (name h.path (Post n))).value ≡ s.after
+  after_is : (ss : List TargetStep) (scope : Scope) (z : List ℕ) (n : ℕ) (s : Spot S) (t : Text) (h : Here ss t s scope z) → n ≡ number t.code → (f (name h.path (Post n))).value ≡ s.after
   after_is ss scope z n s t h j =
       ap (λ (n : ℕ). (f (name h.path (Post n))).value) j
       ∙ cell_at (name h.path (Post (number t.code))) (behind_it engine A h.place.scope h.place.sites t.code h.front) (led_to dom engine program all h.path h.place h.front t.code h.led (post_mark engine A))
       ∙ ap (λ (s : Spot S). s.after) (sym h.spot_is)
 
-  head_at : (ss : List Step) (scope : Scope) (z : List ℕ) (n : ℕ) (s : Spot S) (t : Text) (h : Here ss t s scope z) (d : Code) (v : Fixed S) → t.code ≡ d → n ≡ number d → is_loop d ≡ true → s.head ≡ Some v → (f (name h.path (Fix n))).value ≡ v.value
+  head_at : (ss : List TargetStep) (scope : Scope) (z : List ℕ) (n : ℕ) (s : Spot S) (t : Text) (h : Here ss t s scope z) (d : Code) (v : Fixed S) → t.code ≡ d → n ≡ number d → is_loop d ≡ true → s.head ≡ Some v → (f (name h.path (Fix n))).value ≡ v.value
   head_at ss scope z n s t h Stop v i j k e = absurd cc
   head_at ss scope z n s t h (Simple m effect r) v i j k e = absurd cc
   head_at ss scope z n s t h (If m guard x y r) v i j k e = absurd cc
@@ -354,7 +354,7 @@ module _ {S : Type 0} (dom : Operations S) (engine : Engine) (program : List Rou
   at_end x z c earlier a v i e =
       by_name (bytes_eq x c.name) (ap (λ o. if_some o (λ y. target_in (End x) y.steps y.procs)) i.way_is) e
     where
-      end_needs : (ss : List Step) → Comes ss (c ∷ earlier) z a → Need ss (last_point c.code Entry) []
+      end_needs : (ss : List TargetStep) → Comes ss (c ∷ earlier) z a → Need ss (last_point c.code Entry) []
       end_needs ss (arrives r) =
           let m = first_end dom engine program all r.path r.place r.leads r.point in
           subst (λ x. Need x (last_point c.code Entry) []) (append-nil ss)
@@ -362,7 +362,7 @@ module _ {S : Type 0} (dom : Operations S) (engine : Engine) (program : List Rou
       end_needs ss (halts r) = subst (λ x. Need x (last_point c.code Entry) []) (append-nil ss) (r.needs [] (last_point c.code Entry))
       end_needs ss (nowhere r) = absurd cc
 
-      ending : (ss : List Step) → Comes ss (c ∷ earlier) z a → goto ss (last_point c.code Entry) [] ≡ ended_by (Sc c earlier) z c.code a
+      ending : (ss : List TargetStep) → Comes ss (c ∷ earlier) z a → goto ss (last_point c.code Entry) [] ≡ ended_by (Sc c earlier) z c.code a
       ending ss (arrives r) =
           ap (λ x. goto x (last_point c.code Entry) []) (sym (append-nil ss)) ∙ r.goes [] (last_point c.code Entry)
           ∙ ap (λ (d : Code). (f (name r.path (last_point d Entry))).value) (sym r.placed.1)
@@ -372,7 +372,7 @@ module _ {S : Type 0} (dom : Operations S) (engine : Engine) (program : List Rou
           ∙ ap (λ (sc : Scope). ended_by sc r.place.sites r.place.code a) r.placed.0
           ∙ ap (λ (d : Code). ended_by (Sc c earlier) r.place.sites d a) r.placed.1
           ∙ ap (λ z. ended_by (Sc c earlier) z c.code a) (sym r.sites_are)
-      ending ss (halts r) = ap (λ x. goto x (last_point c.code Entry) []) (sym (append-nil ss)) ∙ r.stops [] (last_point c.code Entry) ∙ sym (batch_over dom engine (marks engine.widening c) z (calls_of dom engine earlier z) r.loop r.chain c.code a r.over)
+      ending ss (halts r) = ap (λ x. goto x (last_point c.code Entry) []) (sym (append-nil ss)) ∙ r.stops [] (last_point c.code Entry) ∙ sym (batch_over dom engine (thresholds engine.widening c) z (calls_of dom engine earlier z) r.loop r.chain c.code a r.over)
       ending ss (nowhere r) = absurd cc
 
       by_name : (t : Bool) → target_back (End x) z ≡ (if t then Some (to_point i.steps (last_point c.code Entry)) else None) → (if t then Some (ended_by (Sc c earlier) z c.code a) else None) ≡ Some v → AtIs (End x) z v
@@ -444,13 +444,13 @@ module _ {S : Type 0} (dom : Operations S) (engine : Engine) (program : List Rou
 
   spotted : (c : Routine) (earlier : List Routine) (z : List ℕ) (a : Value S) (n : ℕ) (t : Text) → Distinct (code_numbers c.code) → find n (texts c.code Entry) ≡ Some t → Spotted c earlier z a n t
   spotted c earlier z a n t d e =
-      let same = keys_texts c.code Entry ∙ sym (keys_numbers dom engine (marks engine.widening c) z (calls_of dom engine earlier z) c.code a) in
+      let same = keys_texts c.code Entry ∙ sym (keys_numbers dom engine (thresholds engine.widening c) z (calls_of dom engine earlier z) c.code a) in
       let s = find_some n (texts c.code Entry) (all_spots (c ∷ earlier) z a) t same e in
-      let q = (shown dom engine (marks engine.widening c) z (calls_of dom engine earlier z) c.code Entry a).at (n, s.0) (found_member n s.0 (all_spots (c ∷ earlier) z a) s.1) in
+      let q = (shown dom engine (thresholds engine.widening c) z (calls_of dom engine earlier z) c.code Entry a).at (n, s.0) (found_member n s.0 (all_spots (c ∷ earlier) z a) s.1) in
       let i : q.text ≡ t = same_Some _ _ (sym (find_text c.code n q.text d q.listed) ∙ e) in
       record { at_it = s.0; found_it = s.1; fits = subst (λ t. Fits dom engine t s.0) i q.fits }
 
-  enter_some : (n : ℕ) (z : List ℕ) (ss : List Step) (ps : List Routine) (a : Value S) (w : Way) → AllOnce ps → way_in n ss ps ≡ Some w → (b : Value S) × (entered dom engine n z (ps, a) ≡ Some (w.procs, b))
+  enter_some : (n : ℕ) (z : List ℕ) (ss : List TargetStep) (ps : List Routine) (a : Value S) (w : Way) → AllOnce ps → way_in n ss ps ≡ Some w → (b : Value S) × (entered dom engine n z (ps, a) ≡ Some (w.procs, b))
   enter_some n z ss [] a w o e = absurd cc
   enter_some n z ss (c ∷ earlier) a w o e =
       let x = then_some (find n (texts c.code Entry)) (λ t. if_some (callee_of t.code) (λ q. Some (way_of (ss ++ (takes t.loops ++ Go n ∷ [])) (from earlier q.1)))) w e in
@@ -473,7 +473,7 @@ module _ {S : Type 0} (dom : Operations S) (engine : Engine) (program : List Rou
       let r = enter_some n z x.0.steps x.0.procs i.0 w (came z x.0.procs i.0 i.1).once_too x.2 in
       (r.0, ap (λ o. if_some o (entered dom engine n z)) i.1 ∙ r.1)
 
-  value_some : (l : Location) (z : List ℕ) (ss : List Step) (ps : List Routine) (a : Value S) (t : Target) → AllOnce ps → target_in l ss ps ≡ Some t → (v : Value S) × (value_in dom engine ps z a l ≡ Some v)
+  value_some : (l : Location) (z : List ℕ) (ss : List TargetStep) (ps : List Routine) (a : Value S) (t : Target) → AllOnce ps → target_in l ss ps ≡ Some t → (v : Value S) × (value_in dom engine ps z a l ≡ Some v)
   value_some l z ss [] a t o e = absurd cc
   value_some (Before n) z ss (c ∷ earlier) a t o e =
       let x = then_some (find n (texts c.code Entry)) (λ t. Some (to_point (ss ++ takes t.loops) t.front)) t e in

@@ -2,23 +2,23 @@
 use Rattle.std.proofs.Common.{◌≡◌, ℕ, zero, suc, ◌+◌, ◌≤◌, List, [], ◌∷◌, ◌++◌, length, map, Option, Some, None, refl, sym, ap, ◌∙◌, subst, arith, append_assoc, append-nil, take, slice_get}
 use Rattle.std.proofs.lemmas.List.{map-append}
 use Rattle.batch_meaning.specs.Values.{Value, State, Over}
-use Rattle.cell_names.specs.declared.frame.Frame.{Frame}
-use Rattle.cell_names.specs.declared.frame.Frame.TheVariants.{InCall, InLoop}
+use Rattle.cell_names.specs.declared.frame.NameFrame.{NameFrame}
+use Rattle.cell_names.specs.declared.frame.NameFrame.TheVariants.{InCall, InLoop}
 use Rattle.cell_names.specs.declared.frame.Point.{Point}
 use Rattle.cell_names.specs.declared.frame.Point.TheVariants.{Fix}
 use Rattle.cell_names.specs.Paths.{CellName}
-use Rattle.demand_order.specs.Asking.{gather}
-use Rattle.demand_order.proofs.AskingProofs.{gather-none, gather-some, gather-next}
+use Rattle.daig_order.specs.Asking.{gather}
+use Rattle.daig_order.proofs.AskingProofs.{gather-none, gather-some, gather-next}
 use Rattle.cell_rows.specs.Names.{name}
 use Rattle.cell_rows.specs.Cells.{Cell}
-use Rattle.cell_rows.specs.Targets.{Step, Take, Go, Target, unless_over, next_in, next_demanded, most_in, most_demanded, demanded_in, demanded, value_in_path, value_of_target, read_in, read_all}
+use Rattle.cell_rows.specs.Targets.{TargetStep, Take, Go, Target, unless_over, next_in, next_demanded, most_in, most_demanded, demanded_in, demanded, value_in_path, value_of_target, read_in, read_all}
 use Rattle.cell_rows.proofs.Unique.{All}
 
 module _ {S : Type 0} (g : CellName → Cell S) where
   -- One target's names, and then those of the rest.
   gather_in : (asks rest : List (Cell S) → Option CellName) (more : List CellName) (room : ℕ) →
       ((before : List (Cell S)) (fuel : ℕ) → ((vs : List (Cell S)) → asks (before ++ vs) ≡ rest vs) → room ≤ fuel → gather g asks fuel before ≡ more) →
-      (ss : List Step) (p : Point) (w : List Frame) (before : List (Cell S)) (fuel : ℕ) → ((vs : List (Cell S)) → asks (before ++ vs) ≡ next_in rest ss p w vs) → most_in ss + room ≤ fuel →
+      (ss : List TargetStep) (p : Point) (w : List NameFrame) (before : List (Cell S)) (fuel : ℕ) → ((vs : List (Cell S)) → asks (before ++ vs) ≡ next_in rest ss p w vs) → most_in ss + room ≤ fuel →
       gather g asks fuel before ≡ demanded_in g ss p w ++ more
   gather_in asks rest more room rec [] p w before zero h le = absurd (omega arith)
   gather_in asks rest more room rec [] p w before (suc fuel) h le =
@@ -56,7 +56,7 @@ module _ {S : Type 0} (g : CellName → Cell S) where
   pub demands_are : (ts : List Target) → gather g (next_demanded ts) (most_demanded ts) [] ≡ demanded g ts
   demands_are ts = gather_all ts (next_demanded ts) [] (most_demanded ts) (λ vs. refl) (omega arith)
 
-  read_target : (rest : List (Cell S) → List (Value S)) (ss : List Step) (p : Point) (w : List Frame) (us : List (Cell S)) → read_in rest ss (map g (demanded_in g ss p w) ++ us) ≡ value_in_path g ss p w ∷ rest us
+  read_target : (rest : List (Cell S) → List (Value S)) (ss : List TargetStep) (p : Point) (w : List NameFrame) (us : List (Cell S)) → read_in rest ss (map g (demanded_in g ss p w) ++ us) ≡ value_in_path g ss p w ∷ rest us
   read_target rest [] p w us = refl
   read_target rest (Go n ∷ ss) p w us = read_target rest ss p (InCall n ∷ w) us
   read_target rest (Take n ∷ ss) p w us = go (read_target rest ss p (InLoop n (g (name w (Fix n))).index ∷ w) us) (g (name w (Fix n))).value
@@ -84,7 +84,7 @@ module _ {S : Type 0} (g : CellName → Cell S) where
     Same x = g x ≡ f x
 
     -- Functions that agree on a target's names demand the same and give the same value.
-    pub same_target : (ss : List Step) (p : Point) (w : List Frame) → All Same (demanded_in f ss p w) → (demanded_in g ss p w ≡ demanded_in f ss p w) × (value_in_path g ss p w ≡ value_in_path f ss p w)
+    pub same_target : (ss : List TargetStep) (p : Point) (w : List NameFrame) → All Same (demanded_in f ss p w) → (demanded_in g ss p w ≡ demanded_in f ss p w) × (value_in_path g ss p w ≡ value_in_path f ss p w)
     same_target [] p w h = (refl, ap (λ (c : Cell S). c.value) h.0)
     same_target (Go n ∷ ss) p w h = same_target ss p (InCall n ∷ w) h
     same_target (Take n ∷ ss) p w h =
@@ -103,7 +103,7 @@ module _ {S : Type 0} (g : CellName → Cell S) where
 
 module _ {S : Type 0} where
   -- Nothing is asked for past so many values.
-  ends_in : (rest : List (Cell S) → Option CellName) (room : ℕ) → ((us : List (Cell S)) → room ≤ length us → rest us ≡ None) → (ss : List Step) (p : Point) (w : List Frame) (vs : List (Cell S)) → most_in ss + room ≤ length vs → next_in rest ss p w vs ≡ None
+  ends_in : (rest : List (Cell S) → Option CellName) (room : ℕ) → ((us : List (Cell S)) → room ≤ length us → rest us ≡ None) → (ss : List TargetStep) (p : Point) (w : List NameFrame) (vs : List (Cell S)) → most_in ss + room ≤ length vs → next_in rest ss p w vs ≡ None
   ends_in rest room h [] p w [] l = absurd (omega arith)
   ends_in rest room h [] p w (v ∷ vs) l = h vs (omega arith)
   ends_in rest room h (Go n ∷ ss) p w vs l = ends_in rest room h ss p (InCall n ∷ w) vs l

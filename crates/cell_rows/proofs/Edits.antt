@@ -2,14 +2,14 @@
 use Rattle.std.proofs.Common.{◌≡◌, ℕ, zero, suc, ◌<◌, List, [], ◌∷◌, length, map, None, Bool, true, refl, sym, ap, ◌∙◌, arith}
 use Rattle.imp_slots.specs.Plain.{Routine}
 use Rattle.domain_laws.specs.Operations.{Operations}
-use Rattle.batch_meaning.specs.Batch.{Engine}
+use Rattle.batch_meaning.specs.Batch.{LoopOptions}
 use Rattle.cell_names.specs.Paths.{CellName}
-use Rattle.demand_order.specs.Order.{member}
-use Rattle.demand_order.specs.Asking.{SameRow, Rows, AreRows, value_of, inputs_of}
-use Rattle.demand_order.proofs.AskingProofs.{value-is, system-acyclic}
+use Rattle.daig_order.specs.Order.{member}
+use Rattle.daig_order.specs.Asking.{SameRow, Rows, AreRows, value_of, inputs_of}
+use Rattle.daig_order.proofs.AskingProofs.{value-is, system-acyclic}
 use Rattle.std.proofs.lemmas.Bool.{or_left, or_right}
 use Rattle.std.proofs.lemmas.List.{length-map}
-use Rattle.demand_order.proofs.Stable.{stable}
+use Rattle.daig_order.proofs.Stable.{stable}
 use Rattle.cell_rows.specs.Names.{IsSame, AllFine}
 use Rattle.cell_rows.specs.Cells.{Cell, table, row_of_name, by_row, operation_row, asks_row, most_row, nothing}
 use Rattle.cell_rows.proofs.TableProofs.{is_table}
@@ -38,7 +38,7 @@ module _ {T V : Type 0} (t u : Rows T V) where
     pub kept : (x : T) → P x → value_of t x ≡ value_of u x
     kept x p = kept-at (suc (t.rank x)) x (omega arith) p
 
-module _ {S : Type 0} (dom : Operations S) (engine : Engine) (old new : List Routine) (old_fine : AllFine old) (new_fine : AllFine new) (same : CellName → CellName → Bool) (is : IsSame same) where
+module _ {S : Type 0} (dom : Operations S) (engine : LoopOptions) (old new : List Routine) (old_fine : AllFine old) (new_fine : AllFine new) (same : CellName → CellName → Bool) (is : IsSame same) where
   abbrev TO : Rows CellName (Cell S)
   TO = table dom engine old same
 

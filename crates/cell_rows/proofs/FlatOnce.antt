@@ -7,7 +7,7 @@ use Rattle.imp_slots.specs.Plain.{Layout, Code, Stop, Simple, If, While, Call, B
 use Rattle.imp_slots.specs.Fits.{Distinct, FitsCall, FitsCode, IsChecked, routine_numbers}
 use Rattle.cell_names.specs.declared.frame.Point.TheVariants.{Entry}
 use Rattle.batch_meaning.proofs.Procedures.{FitBack, fit_back}
-use Rattle.plain_values.proofs.Members.{Member, in_left, in_right, keys, either, keys_both}
+use Rattle.base_values.proofs.Members.{Member, in_left, in_right, keys, either, keys_both}
 use Rattle.cell_rows.specs.Names.{CallsBelow, AllFine}
 use Rattle.cell_rows.specs.Targets.{Text, texts}
 use Rattle.cell_rows.specs.Flat.{flat_of, flat}

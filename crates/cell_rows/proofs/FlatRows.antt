@@ -2,16 +2,16 @@
 use Rattle.std.proofs.Common.{◌≡◌, ℕ, zero, suc, List, [], ◌∷◌, map, Option, Some, Bool, true, false, refl, sym, ap, ◌∙◌, subst, nat_lt}
 use Rattle.imp_slots.specs.Plain.{DoBreak, Does, Code, Stop, Simple, If, While, Call, Break, Routine}
 use Rattle.imp_slots.specs.Fits.{Distinct}
-use Rattle.batch_meaning.specs.Batch.{Engine}
+use Rattle.batch_meaning.specs.Batch.{LoopOptions}
 use Rattle.batch_meaning.specs.Places.{find, if_some, from, main_layout}
-use Rattle.cell_names.specs.declared.frame.Frame.{Frame}
-use Rattle.cell_names.specs.declared.frame.Frame.TheVariants.{InCall, InLoop}
+use Rattle.cell_names.specs.declared.frame.NameFrame.{NameFrame}
+use Rattle.cell_names.specs.declared.frame.NameFrame.TheVariants.{InCall, InLoop}
 use Rattle.cell_names.specs.declared.frame.Point.{Point}
 use Rattle.cell_names.specs.declared.frame.Point.TheVariants.{Entry, Then, Else, Body, Post, Iterate, Fix, Exit, Leap}
-use Rattle.plain_values.proofs.Cases.{given_item}
-use Rattle.plain_values.proofs.Members.{Member, in_left, in_right, keys, in_map}
+use Rattle.base_values.proofs.Cases.{given_item}
+use Rattle.base_values.proofs.Members.{Member, in_left, in_right, keys, in_map}
 use Rattle.batch_meaning.proofs.Places.{found}
-use Rattle.cell_rows.specs.Names.{Scope, scope_of, name, Mark, mark, Place, bare, number, entry, start_of, in_call, in_loop, iterate_point, round_place, statement, follow, when}
+use Rattle.cell_rows.specs.Names.{Scope, scope_of, name, Mark, mark, PathBlock, bare, number, entry, start_of, in_call, in_loop, iterate_point, round_place, statement, follow, when}
 use Rattle.cell_rows.specs.Rows as R
 use Rattle.cell_rows.specs.Rows.{Row, Init, One, Two, row_at, branch_row, post_row, next_row, fix_row, exit_row, leap_row, enter_row, turn_row, last_point}
 use Rattle.cell_rows.specs.Targets.{Text, text, deeper, texts}
@@ -22,12 +22,12 @@ use Rattle.cell_rows.proofs.Sites.{path_sites}
 use Rattle.cell_rows.proofs.Ways.{flat_behind}
 use Rattle.std.proofs.lemmas.Option.{same_Some}
 
-module _ (engine : Engine) (program : List Routine) (once : Distinct (keys (flat program))) where
+module _ (engine : LoopOptions) (program : List Routine) (once : Distinct (keys (flat program))) where
   abbrev N : ℕ
   N = engine.budget
 
   abbrev Q : Type 0
-  Q = Place engine bare
+  Q = PathBlock engine bare
 
   abbrev U : Type 0
   U = Mark (Unit {0})
@@ -78,7 +78,7 @@ module _ (engine : Engine) (program : List Routine) (once : Distinct (keys (flat
   covers_loop b n k y (Call m call q r) c v s e = absurd cc
   covers_loop b n k y (Break m r) c v s e = absurd cc
 
-  covers : (w : List Frame) (b : Q) → follow engine bare program w ≡ Some b → Covers b
+  covers : (w : List NameFrame) (b : Q) → follow engine bare program w ≡ Some b → Covers b
   covers [] b e = covers_start program [] _ b refl (λ y m. m) e
   covers (InCall n ∷ w) b e =
       let u = unstated engine bare (follow engine bare program w) n (λ b. in_call engine bare b n) b e in
@@ -88,14 +88,14 @@ module _ (engine : Engine) (program : List Routine) (once : Distinct (keys (flat
       covers_loop u.place n k u.before u.code b (covers w u.place u.leads) u.stands u.gives
 
   -- The table's entry of a statement that a path leads to.
-  in_table : (w : List Frame) (b : Q) (y : U) (d : Code) → follow engine bare program w ≡ Some b → Stands engine bare b y d → Entered b.scope (number d) y.point d
+  in_table : (w : List NameFrame) (b : Q) (y : U) (d : Code) → follow engine bare program w ≡ Some b → Stands engine bare b y d → Entered b.scope (number d) y.point d
   in_table w b y d e s = (covers w b e).texts_in (number d, text [] y.point d) (shown_at b y d s).itself
 
   -- Rows look at the procedures, the call sites, the point in front and the code alone.
   abbrev pub Reads : (Q → U → Code → Option Row) → Type 0
   Reads g = (b c : Q) (y x : U) (d : Code) → b.scope ≡ c.scope → b.sites ≡ c.sites → y.point ≡ x.point → g b y d ≡ g c x d
 
-  row_found : (w : List Frame) (n : ℕ) (g : Q → U → Code → Option Row) (r : Row) → Reads g → statement engine bare (follow engine bare program w) n g ≡ Some r → by_text engine program w n g ≡ Some r
+  row_found : (w : List NameFrame) (n : ℕ) (g : Q → U → Code → Option Row) (r : Row) → Reads g → statement engine bare (follow engine bare program w) n g ≡ Some r → by_text engine program w n g ≡ Some r
   row_found w n g r h e =
       let u = unstated engine bare (follow engine bare program w) n g r e in
       let t = in_table w u.place u.before u.code u.leads u.stands in
@@ -111,7 +111,7 @@ module _ (engine : Engine) (program : List Routine) (once : Distinct (keys (flat
   start_code [] z v x y f = refl
   start_code (body ∷ earlier) z v x y f = refl
 
-  pub branch_reads : (w : List Frame) (h : Bool) → Reads (branch_row engine bare w h)
+  pub branch_reads : (w : List NameFrame) (h : Bool) → Reads (branch_row engine bare w h)
   branch_reads w h b c y x Stop i j k = refl
   branch_reads w h b c y x (Simple n effect r) i j k = refl
   branch_reads w h b c y x (If n guard t e r) i j k = ap (λ (p : Point). Some (One (R.Assumes guard h) (name w p))) k
@@ -119,7 +119,7 @@ module _ (engine : Engine) (program : List Routine) (once : Distinct (keys (flat
   branch_reads w h b c y x (Call n call q r) i j k = refl
   branch_reads w h b c y x (Break n r) i j k = refl
 
-  pub post_reads : (w : List Frame) → Reads (post_row engine bare w)
+  pub post_reads : (w : List NameFrame) → Reads (post_row engine bare w)
   post_reads w b c y x Stop i j k = refl
   post_reads w b c y x (Simple n effect r) i j k = ap (λ (p : Point). Some (One (R.Posts (Does effect)) (name w p))) k
   post_reads w b c y x (If n guard t e r) i j k = refl
@@ -130,7 +130,7 @@ module _ (engine : Engine) (program : List Routine) (once : Distinct (keys (flat
       ∙ start_code (from c.scope.earlier q) (n ∷ b.sites) (n ∷ c.sites) (mark Entry (suc y.rank) tt) (mark Entry (suc x.rank) tt) (λ d. Two (R.Leaves call.returning) (name w x.point) (name (InCall n ∷ w) (last_point d Entry)))
   post_reads w b c y x (Break n r) i j k = ap (λ (p : Point). Some (One (R.Posts DoBreak) (name w p))) k
 
-  pub enter_reads : (w : List Frame) (n : ℕ) → Reads (λ b. enter_row engine bare w b n)
+  pub enter_reads : (w : List NameFrame) (n : ℕ) → Reads (λ b. enter_row engine bare w b n)
   enter_reads w n b c y x Stop i j k = refl
   enter_reads w n b c y x (Simple m effect r) i j k = refl
   enter_reads w n b c y x (If m guard t e r) i j k = refl
@@ -141,7 +141,7 @@ module _ (engine : Engine) (program : List Routine) (once : Distinct (keys (flat
       ∙ start_code (from c.scope.earlier q) (n ∷ b.sites) (n ∷ c.sites) (mark Entry (suc y.rank) tt) (mark Entry (suc x.rank) tt) (λ d. One (R.Enters call.entering) (name w x.point))
   enter_reads w n b c y x (Break m r) i j k = refl
 
-  pub turn_reads : (w : List Frame) (n l : ℕ) → Reads (λ b. turn_row engine bare w b n l)
+  pub turn_reads : (w : List NameFrame) (n l : ℕ) → Reads (λ b. turn_row engine bare w b n l)
   turn_reads w n l b c y x Stop i j k = refl
   turn_reads w n l b c y x (Simple m effect r) i j k = refl
   turn_reads w n l b c y x (If m guard t e r) i j k = refl
@@ -149,17 +149,17 @@ module _ (engine : Engine) (program : List Routine) (once : Distinct (keys (flat
   turn_reads w n l b c y x (Call m call q r) i j k = refl
   turn_reads w n l b c y x (Break m r) i j k = refl
 
-  pub next_reads : (w : List Frame) (l : ℕ) → Reads (next_row engine bare w l)
+  pub next_reads : (w : List NameFrame) (l : ℕ) → Reads (next_row engine bare w l)
   next_reads w l b c y x Stop i j k = refl
   next_reads w l b c y x (Simple n effect r) i j k = refl
   next_reads w l b c y x (If n guard t e r) i j k = refl
   next_reads w l b c y x (While n guard t r) i j k =
-      ap (λ (p : Point). when engine bare (nat_lt l N) (Two (R.next_operation engine b.scope.marks l) (name w (iterate_point engine bare n p l)) (name (InLoop n l ∷ w) (last_point t Body)))) k
-      ∙ ap (λ (e : Scope). when engine bare (nat_lt l N) (Two (R.next_operation engine e.marks l) (name w (iterate_point engine bare n x.point l)) (name (InLoop n l ∷ w) (last_point t Body)))) i
+      ap (λ (p : Point). when engine bare (nat_lt l N) (Two (R.next_operation engine b.scope.thresholds l) (name w (iterate_point engine bare n p l)) (name (InLoop n l ∷ w) (last_point t Body)))) k
+      ∙ ap (λ (e : Scope). when engine bare (nat_lt l N) (Two (R.next_operation engine e.thresholds l) (name w (iterate_point engine bare n x.point l)) (name (InLoop n l ∷ w) (last_point t Body)))) i
   next_reads w l b c y x (Call n call q r) i j k = refl
   next_reads w l b c y x (Break n r) i j k = refl
 
-  pub fix_reads : (w : List Frame) → Reads (fix_row engine bare w)
+  pub fix_reads : (w : List NameFrame) → Reads (fix_row engine bare w)
   fix_reads w b c y x Stop i j k = refl
   fix_reads w b c y x (Simple n effect r) i j k = refl
   fix_reads w b c y x (If n guard t e r) i j k = refl
@@ -167,7 +167,7 @@ module _ (engine : Engine) (program : List Routine) (once : Distinct (keys (flat
   fix_reads w b c y x (Call n call q r) i j k = refl
   fix_reads w b c y x (Break n r) i j k = refl
 
-  pub exit_reads : (w : List Frame) → Reads (exit_row engine bare w)
+  pub exit_reads : (w : List NameFrame) → Reads (exit_row engine bare w)
   exit_reads w b c y x Stop i j k = refl
   exit_reads w b c y x (Simple n effect r) i j k = refl
   exit_reads w b c y x (If n guard t e r) i j k = refl
@@ -175,7 +175,7 @@ module _ (engine : Engine) (program : List Routine) (once : Distinct (keys (flat
   exit_reads w b c y x (Call n call q r) i j k = refl
   exit_reads w b c y x (Break n r) i j k = refl
 
-  pub leap_reads : (w : List Frame) (l : ℕ) → Reads (leap_row engine bare w l)
+  pub leap_reads : (w : List NameFrame) (l : ℕ) → Reads (leap_row engine bare w l)
   leap_reads w l b c y x Stop i j k = refl
   leap_reads w l b c y x (Simple n effect r) i j k = refl
   leap_reads w l b c y x (If n guard t e r) i j k = refl
@@ -184,7 +184,7 @@ module _ (engine : Engine) (program : List Routine) (once : Distinct (keys (flat
   leap_reads w l b c y x (Break n r) i j k = refl
 
   -- The row of a name that the program has is the table's.
-  pub flat_row_is : (w : List Frame) (p : Point) (r : Row) → row_at engine bare program w p ≡ Some r → flat_row engine program w p ≡ Some r
+  pub flat_row_is : (w : List NameFrame) (p : Point) (r : Row) → row_at engine bare program w p ≡ Some r → flat_row engine program w p ≡ Some r
   flat_row_is [] Entry r e = let q = then_some (follow engine bare program []) (λ b. Some (Init (main_layout program))) r e in q.2
   flat_row_is (InCall n ∷ w) Entry r e = row_found w n (λ b. enter_row engine bare w b n) r (enter_reads w n) e
   flat_row_is (InLoop n k ∷ w) Entry r e = absurd cc

@@ -3,10 +3,10 @@ use Rattle.std.proofs.Common.{reverse, ◌≡◌, Bool, true, List, Some, sym, a
 use Rattle.imp_slots.specs.Plain.{Routine}
 use Rattle.imp_slots.specs.Fits.{IsChecked}
 use Rattle.domain_laws.specs.Operations.{Operations}
-use Rattle.batch_meaning.specs.Batch.{Engine}
+use Rattle.batch_meaning.specs.Batch.{LoopOptions}
 use Rattle.cell_names.specs.Paths.{CellName}
-use Rattle.demand_order.specs.Order.{member}
-use Rattle.demand_order.specs.Asking.{Rows, inputs_of}
+use Rattle.daig_order.specs.Order.{member}
+use Rattle.daig_order.specs.Asking.{Rows, inputs_of}
 use Rattle.cell_rows.specs.Names.{IsSame}
 use Rattle.cell_rows.specs.Rows.{Row, op_of}
 use Rattle.cell_rows.specs.Cells.{Cell, value_of_name, by_row, nothing, operation_row}
@@ -17,7 +17,7 @@ use Rattle.cell_rows.proofs.Edits.{SameIn, kept}
 use Rattle.cell_rows.proofs.FlatShapes.{same_operation}
 use Rattle.cell_rows.proofs.TotalRows.{is_total, total_values}
 
-module _ {S : Type 0} (dom : Operations S) (engine : Engine) (old new : List Routine) (co : IsChecked old) (cn : IsChecked new) (same : CellName → CellName → Bool) (is : IsSame same) where
+module _ {S : Type 0} (dom : Operations S) (engine : LoopOptions) (old new : List Routine) (co : IsChecked old) (cn : IsChecked new) (same : CellName → CellName → Bool) (is : IsSame same) where
   abbrev TO : Rows CellName (Cell S)
   TO = total_table dom engine (reverse old) same
 

@@ -2,18 +2,18 @@
 use Rattle.std.proofs.Common.{◌≡◌, ℕ, zero, suc, List, [], ◌∷◌, Option, Some, None, Bool, true, false, if◌then◌else◌, refl, sym, ◌∙◌, subst, nat_lt, slice_get, arith}
 use Rattle.imp_slots.specs.Plain.{Guard, Code, Stop, Simple, If, While, Call, Break, Routine}
 use Rattle.domain_laws.specs.Operations.{Operations}
-use Rattle.batch_meaning.specs.Batch.{Engine}
+use Rattle.batch_meaning.specs.Batch.{LoopOptions}
 use Rattle.batch_meaning.specs.Places.{find, if_some}
-use Rattle.cell_names.specs.declared.frame.Frame.{Frame}
-use Rattle.cell_names.specs.declared.frame.Frame.TheVariants.{InCall, InLoop}
+use Rattle.cell_names.specs.declared.frame.NameFrame.{NameFrame}
+use Rattle.cell_names.specs.declared.frame.NameFrame.TheVariants.{InCall, InLoop}
 use Rattle.cell_names.specs.declared.frame.Point.{Point}
 use Rattle.cell_names.specs.declared.frame.Point.TheVariants.{Entry, Then, Else, Body, Post, Iterate, Fix, Exit, Leap}
 use Rattle.cell_names.specs.Paths.{CellName}
-use Rattle.demand_order.specs.Order.{member}
-use Rattle.demand_order.specs.Asking.{Rows, AreRows, inputs_of}
+use Rattle.daig_order.specs.Order.{member}
+use Rattle.daig_order.specs.Asking.{Rows, AreRows, inputs_of}
 use Rattle.std.proofs.lemmas.Bool.{or_left}
-use Rattle.demand_order.proofs.AskingProofs.{asks-next}
-use Rattle.cell_rows.specs.Names.{name, start_point, mark, Place, bare, breaks, break_numbers, place_of, in_call, when}
+use Rattle.daig_order.proofs.AskingProofs.{asks-next}
+use Rattle.cell_rows.specs.Names.{name, start_point, mark, PathBlock, bare, breaks, break_numbers, place_of, in_call, when}
 use Rattle.cell_rows.specs.Rows as R
 use Rattle.cell_rows.specs.Rows.{Row, Init, One, Two, Fixed as FixedRow, Joins, branch_row, post_row, next_row, fix_row, exit_row, leap_row, enter_row, turn_row, joins_row, loop_row, leave_points, joined_point, last_point}
 use Rattle.cell_rows.specs.Cells.{asks_row}
@@ -21,26 +21,26 @@ use Rattle.cell_rows.specs.Flat.{Flat, flat, stand_in, by_text, flat_row}
 use Rattle.cell_rows.proofs.Shown.{U}
 
 -- the first input has this path
-abbrev pub InPath : List Frame → Row → Type 0
+abbrev pub InPath : List NameFrame → Row → Type 0
 InPath v (Init layout) = ⊥
 InPath v (One op a) = a.path ≡ v
 InPath v (Two op a b) = a.path ≡ v
 InPath v (FixedRow n z u p) = u ≡ v
 InPath v (Joins stays l n u p) = l.path ≡ v
 
-abbrev InPaths : List Frame → Option Row → Type 0
+abbrev InPaths : List NameFrame → Option Row → Type 0
 InPaths v None = Unit {0}
 InPaths v (Some r) = InPath v r
 
 -- Where the first input of a name stands.
-pub data Goes (w : List Frame) (p : Point) (r : Row) : Type 0 where
+pub data Goes (w : List NameFrame) (p : Point) (r : Row) : Type 0 where
   main : w ≡ [] → Goes w p r
   own : InPath w r → Goes w p r
-  out : (f : Frame) (v : List Frame) → w ≡ f ∷ v → p ≡ start_point w → InPath v r → Goes w p r
+  out : (f : NameFrame) (v : List NameFrame) → w ≡ f ∷ v → p ≡ start_point w → InPath v r → Goes w p r
 
-module _ (engine : Engine) (program : List Routine) (w : List Frame) where
+module _ (engine : LoopOptions) (program : List Routine) (w : List NameFrame) where
   abbrev Q : Type 0
-  Q = Place engine bare
+  Q = PathBlock engine bare
 
   by_number : (n : ℕ) (g : Q → U → Code → Option Row) → ((b : Q) (y : U) (d : Code) → InPaths w (g b y d)) → InPaths w (by_text engine program w n g)
   by_number n g f = go (find n (flat program))
@@ -140,11 +140,11 @@ module _ (engine : Engine) (program : List Routine) (w : List Frame) where
   leap_in k b y (Call m call q r) = tt
   leap_in k b y (Break m r) = tt
 
-module _ (engine : Engine) (program : List Routine) where
-  given : (w : List Frame) (o : Option Row) (r : Row) → o ≡ Some r → InPaths w o → InPath w r
+module _ (engine : LoopOptions) (program : List Routine) where
+  given : (w : List NameFrame) (o : Option Row) (r : Row) → o ≡ Some r → InPaths w o → InPath w r
   given w o r e i = subst (InPaths w) e i
 
-  pub goes : (w : List Frame) (p : Point) (r : Row) → flat_row engine program w p ≡ Some r → Goes w p r
+  pub goes : (w : List NameFrame) (p : Point) (r : Row) → flat_row engine program w p ≡ Some r → Goes w p r
   goes [] Entry r e = main refl
   goes (InCall n ∷ w) Entry r e = out (InCall n) w refl refl (given w (by_text engine program w n (λ b. enter_row engine bare w b n)) r e (by_number engine program w n (λ b. enter_row engine bare w b n) (enter_in engine program w n)))
   goes (InLoop n k ∷ w) Entry r e = absurd cc
@@ -161,7 +161,7 @@ module _ (engine : Engine) (program : List Routine) where
   goes w (Leap n k) r e = own (given w (by_text engine program w n (leap_row engine bare w k)) r e (by_number engine program w n (leap_row engine bare w k) (leap_in engine program w k)))
 
 -- The first input that a row asks for.
-pub first_asked : {S : Type 0} (dom : Operations S) (engine : Engine) (v : List Frame) (r : Row) → InPath v r → (y : CellName) × (asks_row dom engine r [] ≡ Some y) × (y.path ≡ v)
+pub first_asked : {S : Type 0} (dom : Operations S) (engine : LoopOptions) (v : List NameFrame) (r : Row) → InPath v r → (y : CellName) × (asks_row dom engine r [] ≡ Some y) × (y.path ≡ v)
 first_asked dom engine v (Init layout) h = absurd h
 first_asked dom engine v (One op a) h = (a, refl, h)
 first_asked dom engine v (Two op a b) h = (a, refl, h)

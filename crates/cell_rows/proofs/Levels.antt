@@ -2,13 +2,13 @@
 use Rattle.std.proofs.Common.{◌≡◌, ℕ, ◌+◌, ◌≤◌, List, ◌∷◌, map, Bool, true, false, refl, ap, arith}
 use Rattle.std.proofs.lemmas.List.{map-append}
 use Rattle.imp_slots.specs.Plain.{Guard, Code, Stop, Simple, If, While, Call, Break}
-use Rattle.batch_meaning.specs.Batch.{Engine}
+use Rattle.batch_meaning.specs.Batch.{LoopOptions}
 use Rattle.cell_names.specs.declared.frame.Point.{Point}
-use Rattle.plain_values.proofs.Members.{Member, here, there, in_left, in_right, Each, each_more, each_both, none_there, each_as, keys, keys_both}
+use Rattle.base_values.proofs.Members.{Member, here, there, in_left, in_right, Each, each_more, each_both, none_there, each_as, keys, keys_both}
 use Rattle.cell_rows.specs.Names.{Scope, Mark, At, Algebra, number, span, cost, body_span, behind_it, inside, entry, level, last, leaves, own}
 use Rattle.cell_rows.specs.Rows.{last_point, leave_points}
 
-module _ (engine : Engine) {V : Type 0} (alg : Algebra V) (scope : Scope) (z : List ℕ) where
+module _ (engine : LoopOptions) {V : Type 0} (alg : Algebra V) (scope : Scope) (z : List ℕ) where
   abbrev L : Code → Mark V → List (ℕ × At V)
   L = level engine alg scope z
 

@@ -4,9 +4,9 @@ use Rattle.std.proofs.Common.{refl, ap, ◌∙◌}
 use Rattle.imp_slots.specs.Plain.{Guard, DoBreak, Does, Code, Stop, Simple, If, While, Call, Break}
 use Rattle.domain_laws.specs.Operations.{Operations}
 use Rattle.batch_meaning.specs.Values.{Value, Over, lift, lift2}
-use Rattle.batch_meaning.specs.Batch.{Engine, Passed, joined, head_of, behind, batch}
+use Rattle.batch_meaning.specs.Batch.{LoopOptions, Passed, joined, head_of, behind, batch}
 
-module _ {S : Type 0} (dom : Operations S) (engine : Engine) where
+module _ {S : Type 0} (dom : Operations S) (engine : LoopOptions) where
   pub joined_over : (n : ℕ) (y : List ℕ) (xs : List (Value S)) → joined dom engine (Over n y) xs ≡ Over n y
   joined_over n y [] = refl
   joined_over n y (x ∷ xs) = joined_over n y xs

@@ -2,16 +2,16 @@
 use Rattle.std.proofs.Common.{◌≡◌, ℕ, ◌<◌, List, [], ◌∷◌, length, Option, Some, None, true, false, if◌then◌else◌, refl, sym, ap, subst, ◌⊎◌, inl, inr, arith, nat_lt}
 use Rattle.imp_slots.specs.Plain.{Code, Stop, Simple, If, While, Call, Break, Routine}
 use Rattle.imp_slots.specs.Fits.{Distinct}
-use Rattle.batch_meaning.specs.Batch.{Engine}
+use Rattle.batch_meaning.specs.Batch.{LoopOptions}
 use Rattle.batch_meaning.specs.Places.{find, if_some, from}
-use Rattle.cell_names.specs.declared.frame.Frame.{Frame}
-use Rattle.cell_names.specs.declared.frame.Frame.TheVariants.{InCall, InLoop}
+use Rattle.cell_names.specs.declared.frame.NameFrame.{NameFrame}
+use Rattle.cell_names.specs.declared.frame.NameFrame.TheVariants.{InCall, InLoop}
 use Rattle.cell_names.specs.declared.frame.Point.{Point}
 use Rattle.cell_names.specs.declared.frame.Point.TheVariants.{Entry, Body}
-use Rattle.plain_values.proofs.Cases.{by_test}
-use Rattle.plain_values.proofs.Members.{Member, Each, each_more, each_both, none_there}
+use Rattle.base_values.proofs.Cases.{by_test}
+use Rattle.base_values.proofs.Members.{Member, Each, each_more, each_both, none_there}
 use Rattle.batch_meaning.proofs.Places.{found, found_member}
-use Rattle.cell_rows.specs.Names.{Scope, CallsBelow, Mark, At, Algebra, Place, number, behind_it, inside, entry, level, level_of, Nested, IsFine, AllFine, start_of, in_call, in_loop, round_place, statement, follow, branch_mark, post_mark, mark_at, is_entry}
+use Rattle.cell_rows.specs.Names.{Scope, CallsBelow, Mark, At, Algebra, PathBlock, number, behind_it, inside, entry, level, level_of, Nested, IsFine, AllFine, start_of, in_call, in_loop, round_place, statement, follow, branch_mark, post_mark, mark_at, is_entry}
 use Rattle.cell_rows.proofs.Levels.{Known, first, post, branch, keyed, keys_own}
 use Rattle.std.proofs.lemmas.Option.{same_Some, cond_some}
 
@@ -33,9 +33,9 @@ from_some (b ∷ ps) q h =
     (λ e. (b, ps, refl))
     (λ e. let l : q < length ps = omega arith in from_some ps q l)
 
-module _ (engine : Engine) {V : Type 0} (alg : Algebra V) where
+module _ (engine : LoopOptions) {V : Type 0} (alg : Algebra V) where
   abbrev P : Type 0
-  P = Place engine alg
+  P = PathBlock engine alg
 
   pub record Fine (b : P) : Type 0 where
     pub block : IsFine (length b.scope.earlier) b.code
@@ -131,7 +131,7 @@ module _ (engine : Engine) {V : Type 0} (alg : Algebra V) where
   fine_loop b n k y (Break m r) c f s e = absurd cc
 
   module _ (program : List Routine) (all : AllFine program) where
-    pub fine : (w : List Frame) (b : P) → follow engine alg program w ≡ Some b → Fine b
+    pub fine : (w : List NameFrame) (b : P) → follow engine alg program w ≡ Some b → Fine b
     fine [] b e = fine_start program [] _ b all (inl refl) e
     fine (InCall n ∷ w) b e =
         let u = unstated (follow engine alg program w) n (λ b. in_call engine alg b n) b e in

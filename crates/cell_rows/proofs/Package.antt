@@ -2,11 +2,11 @@
 use Rattle.std.proofs.Common.{◌≡◌, ℕ, suc, ◌+◌, ◌<◌, ◌≤◌, Bool, true, List, [], ◌∷◌, map, sym, ap, ◌∙◌, subst, arith, inl, inr}
 use Rattle.imp_slots.specs.Plain.{Routine}
 use Rattle.domain_laws.specs.Operations.{Operations}
-use Rattle.batch_meaning.specs.Batch.{Engine}
+use Rattle.batch_meaning.specs.Batch.{LoopOptions}
 use Rattle.cell_names.specs.Paths.{CellName}
-use Rattle.demand_order.specs.Order.{member, IsAcyclic}
-use Rattle.demand_order.specs.Asking.{Rows, value_of, inputs_of, system_of}
-use Rattle.demand_order.proofs.AskingProofs.{value-is, system-acyclic}
+use Rattle.daig_order.specs.Order.{member, IsAcyclic}
+use Rattle.daig_order.specs.Asking.{Rows, value_of, inputs_of, system_of}
+use Rattle.daig_order.proofs.AskingProofs.{value-is, system-acyclic}
 use Rattle.cell_rows.specs.Names.{IsSame, AllFine}
 use Rattle.cell_rows.specs.Cells.{Cell, table, value_of_name}
 use Rattle.cell_rows.specs.Targets.{Target, demanded}
@@ -31,7 +31,7 @@ under_top same eq rank (x ∷ xs) y m =
       | inr q ↦ (let l = under_top same eq rank xs y q in omega arith)
     ]
 
-module _ {S : Type 0} (dom : Operations S) (engine : Engine) (program : List Routine) (all : AllFine program) (same : CellName → CellName → Bool) (is : IsSame same) where
+module _ {S : Type 0} (dom : Operations S) (engine : LoopOptions) (program : List Routine) (all : AllFine program) (same : CellName → CellName → Bool) (is : IsSame same) where
   abbrev T : Rows CellName (Cell S)
   T = table dom engine program same
 

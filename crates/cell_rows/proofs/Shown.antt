@@ -1,9 +1,9 @@
 -- The statements of a block that stand in no loop of it, and those in its loops, are among the block's texts.
 use Rattle.std.proofs.Common.{ℕ, List, [], map, true, false}
 use Rattle.imp_slots.specs.Plain.{Code, Stop, Simple, If, While, Call, Break}
-use Rattle.batch_meaning.specs.Batch.{Engine}
+use Rattle.batch_meaning.specs.Batch.{LoopOptions}
 use Rattle.cell_names.specs.declared.frame.Point.TheVariants.{Then, Else, Body, Post}
-use Rattle.plain_values.proofs.Members.{Member, here, there, in_left, in_right, Each, each_more, each_both, none_there, each_as, in_map}
+use Rattle.base_values.proofs.Members.{Member, here, there, in_left, in_right, Each, each_more, each_both, none_there, each_as, in_map}
 use Rattle.cell_rows.specs.Names.{Scope, Mark, At, bare, number, behind_it, inside, entry, level}
 use Rattle.cell_rows.specs.Targets.{Text, text, deeper, texts}
 
@@ -37,7 +37,7 @@ inner_more xs ys f (Break n r) i = tt
 shows_more : (xs ys : List (ℕ × Text)) → ((q : ℕ × Text) → Member q xs → Member q ys) → (zs : List Seat) → Each (Shows xs) zs → Each (Shows ys) zs
 shows_more xs ys f zs e = each_as (Shows xs) (Shows ys) zs (λ x s. record { itself = f _ s.itself; inner = inner_more xs ys f x.1.code s.inner }) e
 
-module _ (engine : Engine) (e : Scope) (z : List ℕ) where
+module _ (engine : LoopOptions) (e : Scope) (z : List ℕ) where
   abbrev L : Code → U → List Seat
   L = level engine bare e z
 

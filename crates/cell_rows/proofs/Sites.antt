@@ -1,19 +1,19 @@
 -- The call sites of the block that a path leads to are the path's.
 use Rattle.std.proofs.Common.{◌≡◌, ℕ, List, [], ◌∷◌, Some, sym, ap, ◌∙◌, nat_lt}
 use Rattle.imp_slots.specs.Plain.{Code, Stop, Simple, If, While, Call, Break, Routine}
-use Rattle.batch_meaning.specs.Batch.{Engine}
+use Rattle.batch_meaning.specs.Batch.{LoopOptions}
 use Rattle.batch_meaning.specs.Places.{from}
-use Rattle.cell_names.specs.declared.frame.Frame.{Frame}
-use Rattle.cell_names.specs.declared.frame.Frame.TheVariants.{InCall, InLoop}
-use Rattle.cell_rows.specs.Names.{Mark, Place, bare, start_of, in_call, in_loop, round_place, follow}
+use Rattle.cell_names.specs.declared.frame.NameFrame.{NameFrame}
+use Rattle.cell_names.specs.declared.frame.NameFrame.TheVariants.{InCall, InLoop}
+use Rattle.cell_rows.specs.Names.{Mark, PathBlock, bare, start_of, in_call, in_loop, round_place, follow}
 use Rattle.cell_rows.specs.Rows.{sites_of}
 use Rattle.cell_rows.proofs.Lookup.{unstated}
 use Rattle.std.proofs.lemmas.Option.{same_Some}
-use Rattle.plain_values.proofs.Cases.{given_item}
+use Rattle.base_values.proofs.Cases.{given_item}
 
-module _ (engine : Engine) (program : List Routine) where
+module _ (engine : LoopOptions) (program : List Routine) where
   abbrev Q : Type 0
-  Q = Place engine bare
+  Q = PathBlock engine bare
 
   abbrev U : Type 0
   U = Mark (Unit {0})
@@ -38,7 +38,7 @@ module _ (engine : Engine) (program : List Routine) where
   loop_sites b n k y (Call m call q r) c e = absurd cc
   loop_sites b n k y (Break m r) c e = absurd cc
 
-  pub path_sites : (w : List Frame) (b : Q) → follow engine bare program w ≡ Some b → b.sites ≡ sites_of w
+  pub path_sites : (w : List NameFrame) (b : Q) → follow engine bare program w ≡ Some b → b.sites ≡ sites_of w
   path_sites [] b e = start_sites program [] _ b e
   path_sites (InCall n ∷ w) b e =
       let u = unstated engine bare (follow engine bare program w) n (λ b. in_call engine bare b n) b e in

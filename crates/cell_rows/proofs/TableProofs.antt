@@ -3,14 +3,14 @@ use Rattle.std.proofs.Common.{◌≡◌, ℕ, zero, suc, ◌+◌, ◌<◌, ◌�
 use Rattle.imp_slots.specs.Plain.{Routine}
 use Rattle.domain_laws.specs.Operations.{Operations}
 use Rattle.batch_meaning.specs.Values.{Value, State, Over, lift, lift2}
-use Rattle.batch_meaning.specs.Batch.{Engine, next_of, settle, iterate, fix}
+use Rattle.batch_meaning.specs.Batch.{LoopOptions, next_of, settle, iterate, fix}
 use Rattle.batch_meaning.specs.Places.{main_layout}
-use Rattle.cell_names.specs.declared.frame.Frame.{Frame}
-use Rattle.cell_names.specs.declared.frame.Frame.TheVariants.{InLoop}
+use Rattle.cell_names.specs.declared.frame.NameFrame.{NameFrame}
+use Rattle.cell_names.specs.declared.frame.NameFrame.TheVariants.{InLoop}
 use Rattle.cell_names.specs.declared.frame.Point.{Point}
 use Rattle.cell_names.specs.Paths.{CellName}
-use Rattle.demand_order.specs.Asking.{Rows, AreRows, gather, value_of, inputs_of}
-use Rattle.demand_order.proofs.AskingProofs.{gather-none, gather-some}
+use Rattle.daig_order.specs.Asking.{Rows, AreRows, gather, value_of, inputs_of}
+use Rattle.daig_order.proofs.AskingProofs.{gather-none, gather-some}
 use Rattle.cell_rows.specs.Blocks.{iterate_at}
 use Rattle.cell_rows.specs.Names.{IsSame, name, Mark, AllFine, bare, iterate_point}
 use Rattle.cell_rows.specs.Rows.{Unary, Binary, Row, Init, One, Two, Fixed as FixedRow, Joins}
@@ -21,9 +21,9 @@ use Rattle.cell_rows.proofs.Unique.{All, Solves, unique}
 use Rattle.cell_rows.proofs.BatchTie.{next_iterate}
 use Rattle.cell_rows.proofs.Tied.{at, Below, Ones, Twos, Fixes, Joined, Holds, Tied, neither, both, tied}
 use Rattle.std.proofs.lemmas.Option.{same_Some, cond_some}
-use Rattle.plain_values.proofs.Cases.{less_test, less_of}
+use Rattle.base_values.proofs.Cases.{less_test, less_of}
 
-module _ {S : Type 0} (dom : Operations S) (engine : Engine) (program : List Routine) (all : AllFine program) where
+module _ {S : Type 0} (dom : Operations S) (engine : LoopOptions) (program : List Routine) (all : AllFine program) where
   abbrev pub M : Type 0
   M = Mark (Cell S)
 
@@ -179,7 +179,7 @@ module _ {S : Type 0} (dom : Operations S) (engine : Engine) (program : List Rou
         names = (has_mark a h.x m h.below, (has_mark b h.y m h.below_too, tt));
       })
 
-  solve_joins : (stays : Bool) (l : CellName) (n : ℕ) (w : List Frame) (p : Point) (m : M) → Joined dom engine program all stays l n w p m → Solved (Joins stays l n w p) m.value (inputs (Joins stays l n w p) 2 [])
+  solve_joins : (stays : Bool) (l : CellName) (n : ℕ) (w : List NameFrame) (p : Point) (m : M) → Joined dom engine program all stays l n w p m → Solved (Joins stays l n w p) m.value (inputs (Joins stays l n w p) 2 [])
   solve_joins stays l n w p m h = go h.left.value.value refl
     where
       r : Row
@@ -213,7 +213,7 @@ module _ {S : Type 0} (dom : Operations S) (engine : Engine) (program : List Rou
           })
 
   -- A loop's fixed point, by its iterates.
-  module _ (n : ℕ) (z : List ℕ) (w : List Frame) (p : Point) (m : M) (h : Fixes dom engine program all n z w p m) where
+  module _ (n : ℕ) (z : List ℕ) (w : List NameFrame) (p : Point) (m : M) (h : Fixes dom engine program all n z w p m) where
     abbrev r : Row
     r = FixedRow n z w p
 
@@ -242,25 +242,25 @@ module _ {S : Type 0} (dom : Operations S) (engine : Engine) (program : List Rou
     step : (left k fuel : ℕ) (before : List (Cell S)) (s : S) (c : Cell S) →
         ((us : List (Cell S)) → wants_first dom engine (before ++ us) ≡ wants dom engine (suc left) s us) →
         ((us : List (Cell S)) → ends_first dom engine over (before ++ us) ≡ ends dom engine over (suc left) k s us) →
-        ((t : S) → c.value ≡ State t → dom.same t s ≡ false → Read (before ++ c ∷ []) (iterate dom engine h.marks_of h.body over left (suc k) t) (inputs r fuel (before ++ c ∷ []))) →
-        (u : Value S) → c.value ≡ u → Read (before ++ c ∷ []) (settle dom engine k s u (iterate dom engine h.marks_of h.body over left (suc k))) (inputs r fuel (before ++ c ∷ []))
+        ((t : S) → c.value ≡ State t → dom.same t s ≡ false → Read (before ++ c ∷ []) (iterate dom engine h.thresholds_of h.body over left (suc k) t) (inputs r fuel (before ++ c ∷ []))) →
+        (u : Value S) → c.value ≡ u → Read (before ++ c ∷ []) (settle dom engine k s u (iterate dom engine h.thresholds_of h.body over left (suc k))) (inputs r fuel (before ++ c ∷ []))
     step left k fuel before s c wf ef rec (Over j q) i =
         stop fuel (before ++ c ∷ []) (plain (Over j q))
         (wf (c ∷ []) ∙ ap (λ v. again dom engine s v (λ t. wants dom engine left t [])) i)
         (ef (c ∷ []) ∙ ap (λ v. settle dom engine k s v (λ t. ends dom engine over left (suc k) t [])) i)
     step left k fuel before s c wf ef rec (State t) i = go (dom.same t s) refl
       where
-        go : (b : Bool) → dom.same t s ≡ b → Read (before ++ c ∷ []) (if b then cell (State s) k else iterate dom engine h.marks_of h.body over left (suc k) t) (inputs r fuel (before ++ c ∷ []))
+        go : (b : Bool) → dom.same t s ≡ b → Read (before ++ c ∷ []) (if b then cell (State s) k else iterate dom engine h.thresholds_of h.body over left (suc k) t) (inputs r fuel (before ++ c ∷ []))
         go true b =
             stop fuel (before ++ c ∷ []) (cell (State s) k)
             (wf (c ∷ []) ∙ ap (λ v. again dom engine s v (λ t. wants dom engine left t [])) i ∙ ap (λ (q : Bool). if q then false else wants dom engine left t []) b)
             (ef (c ∷ []) ∙ ap (λ v. settle dom engine k s v (λ t. ends dom engine over left (suc k) t [])) i ∙ ap (λ (q : Bool). if q then cell (State s) k else ends dom engine over left (suc k) t []) b)
         go false b = rec t i b
 
-    reading : (left k : ℕ) (before : List (Cell S)) (s : S) (fuel : ℕ) → left ≤ fuel → length before ≡ suc k → k + left ≡ N → iterate_at dom engine h.marks_of h.body h.start k ≡ State s →
+    reading : (left k : ℕ) (before : List (Cell S)) (s : S) (fuel : ℕ) → left ≤ fuel → length before ≡ suc k → k + left ≡ N → iterate_at dom engine h.thresholds_of h.body h.start k ≡ State s →
         ((us : List (Cell S)) → wants_first dom engine (before ++ us) ≡ wants dom engine left s us) →
         ((us : List (Cell S)) → ends_first dom engine over (before ++ us) ≡ ends dom engine over left k s us) →
-        Read before (iterate dom engine h.marks_of h.body over left k s) (inputs r fuel before)
+        Read before (iterate dom engine h.thresholds_of h.body over left k s) (inputs r fuel before)
     reading zero k before s fuel le len sum at wf ef =
         stop fuel before (plain over) (ap (wants_first dom engine) (sym (append-nil before)) ∙ wf []) (ap (ends_first dom engine over) (sym (append-nil before)) ∙ ef [])
     reading (suc left) k before s zero le len sum at wf ef = absurd (omega arith)
@@ -269,15 +269,15 @@ module _ {S : Type 0} (dom : Operations S) (engine : Engine) (program : List Rou
         let y = iterate_name (length before) in
         let x = h.iterates (length before) (omega arith) in
         let c = f y in
-        let v : c.value ≡ lift (next_of dom engine h.marks_of k s) (h.body (State s)) =
-        ap (λ (q : Cell S). q.value) (value_at_mark y x.0 x.1.is) ∙ x.2 ∙ ap (iterate_at dom engine h.marks_of h.body h.start) len ∙ next_iterate dom engine h.marks_of h.body h.start k s at in
+        let v : c.value ≡ lift (next_of dom engine h.thresholds_of k s) (h.body (State s)) =
+        ap (λ (q : Cell S). q.value) (value_at_mark y x.0 x.1.is) ∙ x.2 ∙ ap (iterate_at dom engine h.thresholds_of h.body h.start) len ∙ next_iterate dom engine h.thresholds_of h.body h.start k s at in
         let more : length (before ++ c ∷ []) ≡ suc (suc k) = omega (arith, length-append before (c ∷ [])) in
         let rec = λ (t : S) (i : c.value ≡ State t) (b : dom.same t s ≡ false).
-        reading left (suc k) (before ++ c ∷ []) t fuel (omega arith) more (omega arith) (next_iterate dom engine h.marks_of h.body h.start k s at ∙ sym v ∙ i)
+        reading left (suc k) (before ++ c ∷ []) t fuel (omega arith) more (omega arith) (next_iterate dom engine h.thresholds_of h.body h.start k s at ∙ sym v ∙ i)
         (λ us. ap (wants_first dom engine) (append_assoc before (c ∷ []) us) ∙ wf (c ∷ us) ∙ ap (λ v. again dom engine s v (λ t. wants dom engine left t us)) i ∙ ap (λ (q : Bool). if q then false else wants dom engine left t us) b)
         (λ us. ap (ends_first dom engine over) (append_assoc before (c ∷ []) us) ∙ ef (c ∷ us) ∙ ap (λ v. settle dom engine k s v (λ t. ends dom engine over left (suc k) t us)) i ∙ ap (λ (q : Bool). if q then cell (State s) k else ends dom engine over left (suc k) t us) b) in
-        subst (Read before (iterate dom engine h.marks_of h.body over (suc left) k s)) (sym (one_more r fuel before y (asked before true wanted)))
-        (read_more before y _ _ (has_mark y x.0 m x.1) (step left k fuel before s c wf ef rec (lift (next_of dom engine h.marks_of k s) (h.body (State s))) v))
+        subst (Read before (iterate dom engine h.thresholds_of h.body over (suc left) k s)) (sym (one_more r fuel before y (asked before true wanted)))
+        (read_more before y _ _ (has_mark y x.0 m x.1) (step left k fuel before s c wf ef rec (lift (next_of dom engine h.thresholds_of k s) (h.body (State s))) v))
 
     solve_fixed : Solved r m.value (inputs r (suc N) [])
     solve_fixed =
@@ -289,7 +289,7 @@ module _ {S : Type 0} (dom : Operations S) (engine : Engine) (program : List Rou
         let t = read_more [] y _ _ (has_mark y x.0 m x.1) q in
         subst (Solved r m.value) (sym (one_more r N [] y refl)) (record { value = h.value ∙ sym t.value; names = t.names })
       where
-        go : (c : Cell S) (u : Value S) → h.start ≡ u → c.value ≡ u → Read (c ∷ []) (fix dom engine h.marks_of h.body over u) (inputs r N (c ∷ []))
+        go : (c : Cell S) (u : Value S) → h.start ≡ u → c.value ≡ u → Read (c ∷ []) (fix dom engine h.thresholds_of h.body over u) (inputs r N (c ∷ []))
         go c (Over a b) e i =
             stop N (c ∷ []) (plain (Over a b)) (ap (λ v. wants_at dom engine v []) i) (ap (λ v. ends_at dom engine over v []) i)
         go c (State s) e i =

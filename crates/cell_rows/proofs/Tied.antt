@@ -6,18 +6,18 @@ use Rattle.std.proofs.lemmas.Option.{slice_get-map}
 use Rattle.imp_slots.specs.Plain.{Guard, Invoke, Code, Stop, Simple, If, While, Call, Break, Routine}
 use Rattle.domain_laws.specs.Operations.{Operations}
 use Rattle.batch_meaning.specs.Values.{Value, State, Over, lift, lift2}
-use Rattle.batch_meaning.specs.Batch.{Engine, next_of, fix, joined, head_of, behind, procedure}
+use Rattle.batch_meaning.specs.Batch.{LoopOptions, next_of, fix, joined, head_of, behind, procedure}
 use Rattle.batch_meaning.specs.Places.{find, if_some, from, main_layout}
-use Rattle.cell_names.specs.declared.frame.Frame.{Frame}
-use Rattle.cell_names.specs.declared.frame.Frame.TheVariants.{InCall, InLoop}
+use Rattle.cell_names.specs.declared.frame.NameFrame.{NameFrame}
+use Rattle.cell_names.specs.declared.frame.NameFrame.TheVariants.{InCall, InLoop}
 use Rattle.cell_names.specs.declared.frame.Point.{Point}
 use Rattle.cell_names.specs.declared.frame.Point.TheVariants.{Entry, Then, Else, Body, Post, Iterate, Fix, Exit, Leap}
 use Rattle.cell_names.specs.Paths.{CellName}
 use Rattle.batch_meaning.proofs.Procedures.{procedure_from}
-use Rattle.plain_values.proofs.Members.{Member}
+use Rattle.base_values.proofs.Members.{Member}
 use Rattle.batch_meaning.proofs.Places.{found_member}
 use Rattle.cell_rows.specs.Blocks.{iterate_at}
-use Rattle.cell_rows.specs.Names.{Scope, scope_of, name, Mark, mark, At, Algebra, Place, number, breaks, break_numbers, place_of, item, span, body_span, behind_it, inside, level_of, last, leaves, AllFine, start_of, in_call, in_loop, iterate_point, iterate_mark, round_place, statement, follow, when, branch_mark, post_mark, next_mark, fix_of, fix_mark, exit_of, exit_mark, leap_of, leap_mark, mark_at, mark_of, is_entry}
+use Rattle.cell_rows.specs.Names.{Scope, scope_of, name, Mark, mark, At, Algebra, PathBlock, number, breaks, break_numbers, place_of, item, span, body_span, behind_it, inside, level_of, last, leaves, AllFine, start_of, in_call, in_loop, iterate_point, iterate_mark, round_place, statement, follow, when, branch_mark, post_mark, next_mark, fix_of, fix_mark, exit_of, exit_mark, leap_of, leap_mark, mark_at, mark_of, is_entry}
 use Rattle.cell_rows.specs.Rows as R
 use Rattle.cell_rows.specs.Rows.{next_operation, Unary, Assumes, Enters, Exits, Binary, JoinsBoth, Leaves, Widens, Row, Init, One, Two, Fixed as FixedRow, Joins, last_point, leave_points, joined_point, branch_row, post_row, next_row, fix_row, exit_row, leap_row, joins_row, loop_row, row_at, row}
 use Rattle.cell_rows.specs.Cells.{Cell, cell, plain, with_one, joined_to, block, values, unary, binary, index_if, one_round, fix_value, leap_value}
@@ -25,15 +25,15 @@ use Rattle.cell_rows.proofs.Levels.{Known, branch, known_before, known_last, kno
 use Rattle.cell_rows.proofs.Lookup.{Fine, Stands, part_of, stated, fine, at_known, from_some}
 use Rattle.cell_rows.proofs.Checked.{distinct_part, break_part}
 use Rattle.cell_rows.proofs.BatchTie.{breaks_points, breaks_numbers, place_is, span_from, subs, fix_index, joined_all, last_value, leaves_value, value_of, got, leaving_count, with_over, state_of}
-use Rattle.plain_values.proofs.Lists.{get_some}
-use Rattle.plain_values.proofs.Cases.{less_test, less_of}
+use Rattle.base_values.proofs.Lists.{get_some}
+use Rattle.base_values.proofs.Cases.{less_test, less_of}
 
 pub mul_less : (k n t : ℕ) → k < n → k * t + t ≤ n * t
 mul_less k zero t h = absurd (omega arith)
 mul_less zero (suc n) t h = omega (arith, suc-mul n t)
 mul_less (suc k) (suc n) t h = omega (arith, suc-mul k t, suc-mul n t, mul_less k n t (omega arith))
 
-module _ {S : Type 0} (dom : Operations S) (engine : Engine) (program : List Routine) (all : AllFine program) where
+module _ {S : Type 0} (dom : Operations S) (engine : LoopOptions) (program : List Routine) (all : AllFine program) where
   abbrev N : ℕ
   N = engine.budget
 
@@ -44,12 +44,12 @@ module _ {S : Type 0} (dom : Operations S) (engine : Engine) (program : List Rou
   M = Mark (Cell S)
 
   abbrev P : Type 0
-  P = Place engine A
+  P = PathBlock engine A
 
   abbrev pub at : CellName → Option M
   at = mark_of engine A program
 
-  abbrev pub to : List Frame → Option P
+  abbrev pub to : List NameFrame → Option P
   to = follow engine A program
 
   -- A name has this mark, below another one.
@@ -69,14 +69,14 @@ module _ {S : Type 0} (dom : Operations S) (engine : Engine) (program : List Rou
     pub below_too : Below b y m
     pub value : m.value ≡ binary dom engine op x.value y.value
 
-  pub record Fixes (n : ℕ) (z : List ℕ) (w : List Frame) (p : Point) (m : M) : Type 0 where
-    pub marks_of : List ℤ
+  pub record Fixes (n : ℕ) (z : List ℕ) (w : List NameFrame) (p : Point) (m : M) : Type 0 where
+    pub thresholds_of : List ℤ
     pub body : Value S → Value S
     pub start : Value S
-    pub iterates : (i : ℕ) → i ≤ N → (x : M) × Below (name w (iterate_point engine A n p i)) x m × (x.value.value ≡ iterate_at dom engine marks_of body start i)
-    pub value : m.value ≡ fix dom engine marks_of body (Over n z) start
+    pub iterates : (i : ℕ) → i ≤ N → (x : M) × Below (name w (iterate_point engine A n p i)) x m × (x.value.value ≡ iterate_at dom engine thresholds_of body start i)
+    pub value : m.value ≡ fix dom engine thresholds_of body (Over n z) start
 
-  pub record Joined (stays : Bool) (l : CellName) (n : ℕ) (w : List Frame) (p : Point) (m : M) : Type 0 where
+  pub record Joined (stays : Bool) (l : CellName) (n : ℕ) (w : List NameFrame) (p : Point) (m : M) : Type 0 where
     pub left : M
     pub below : Below l left m
     pub rounds : (k : ℕ) → k < N → (x : M) × Below (name (InLoop n k ∷ w) p) x m × ((s : S) → left.value.value ≡ State s → left.value.index ≡ k → m.value ≡ cell (lift2 dom.join left.value.value x.value.value) (index_if dom engine stays left.value.index))
@@ -95,12 +95,12 @@ module _ {S : Type 0} (dom : Operations S) (engine : Engine) (program : List Rou
     both : (r : Row) (m : M) → Holds r m → Tied (Some r) (Some m)
 
   -- A statement that a path leads to.
-  pub record Led (w : List Frame) (b : P) (y : M) (d : Code) : Type 0 where
+  pub record Led (w : List NameFrame) (b : P) (y : M) (d : Code) : Type 0 where
     pub leads : to w ≡ Some b
     pub fine : Fine engine A b
     pub stands : Stands engine A b y d
 
-  tied_statement : (w : List Frame) (n : ℕ) (g : P → M → Code → Option Row) (h : P → M → Code → Option M) → ((b : P) (y : M) (d : Code) → Led w b y d → n ≡ number d → Tied (g b y d) (h b y d)) → Tied (statement engine A (to w) n g) (statement engine A (to w) n h)
+  tied_statement : (w : List NameFrame) (n : ℕ) (g : P → M → Code → Option Row) (h : P → M → Code → Option M) → ((b : P) (y : M) (d : Code) → Led w b y d → n ≡ number d → Tied (g b y d) (h b y d)) → Tied (statement engine A (to w) n g) (statement engine A (to w) n h)
   tied_statement w n g h f = go (to w) refl
     where
       inner : (b : P) → to w ≡ Some b → (q : Option (At (Cell S))) → find n (level_of engine A b) ≡ q → Tied (if_some q (λ x. g b x.before x.code)) (if_some q (λ x. h b x.before x.code))
@@ -114,28 +114,28 @@ module _ {S : Type 0} (dom : Operations S) (engine : Engine) (program : List Rou
       go None e = neither
       go (Some b) e = inner b e (find n (level_of engine A b)) refl
 
-  known_input : (w : List Frame) (b : P) (y m : M) → to w ≡ Some b → Fine engine A b → Known engine A b.scope b.sites b.code b.first y → y.rank < m.rank → Below (name w y.point) y m
+  known_input : (w : List NameFrame) (b : P) (y m : M) → to w ≡ Some b → Fine engine A b → Known engine A b.scope b.sites b.code b.first y → y.rank < m.rank → Below (name w y.point) y m
   known_input w b y m e f k l = record { is = ap (λ o. if_some o (λ b. mark_at engine A b y.point)) e ∙ at_known engine A b f y k; lower = l }
 
-  stands_known : (w : List Frame) (b : P) (y : M) (d : Code) → Led w b y d → Known engine A b.scope b.sites b.code b.first y
+  stands_known : (w : List NameFrame) (b : P) (y : M) (d : Code) → Led w b y d → Known engine A b.scope b.sites b.code b.first y
   stands_known w b y d l = (known_before engine A b.scope b.sites b.code b.first).at _ l.stands.there
 
-  front : (w : List Frame) (b : P) (y m : M) (d : Code) → Led w b y d → y.rank < m.rank → Below (name w y.point) y m
+  front : (w : List NameFrame) (b : P) (y m : M) (d : Code) → Led w b y d → y.rank < m.rank → Below (name w y.point) y m
   front w b y m d l h = known_input w b y m l.leads l.fine (stands_known w b y d l) h
 
-  pub led_to : {X : Type 0} (w : List Frame) (b : P) (y : M) (d : Code) → Led w b y d → (g : P → M → Code → Option X) → statement engine A (to w) (number d) g ≡ g b y d
+  pub led_to : {X : Type 0} (w : List NameFrame) (b : P) (y : M) (d : Code) → Led w b y d → (g : P → M → Code → Option X) → statement engine A (to w) (number d) g ≡ g b y d
   led_to w b y d l g = ap (λ o. statement engine A o (number d) g) l.leads ∙ stated engine A b y d l.fine l.stands g
 
-  pub front_found : (w : List Frame) (b : P) (y : M) (d : Code) → Led w b y d → at (name w y.point) ≡ Some y
+  pub front_found : (w : List NameFrame) (b : P) (y : M) (d : Code) → Led w b y d → at (name w y.point) ≡ Some y
   front_found w b y d l = (front w b y (mark Entry (suc y.rank) y.value) d l (omega arith)).is
 
-  pub first_end : (w : List Frame) (b : P) → to w ≡ Some b → b.first.point ≡ Entry → at (name w (last_point b.code Entry)) ≡ Some (last engine A b.scope b.sites b.code b.first)
+  pub first_end : (w : List NameFrame) (b : P) → to w ≡ Some b → b.first.point ≡ Entry → at (name w (last_point b.code Entry)) ≡ Some (last engine A b.scope b.sites b.code b.first)
   first_end w b e s =
       let u : M = last engine A b.scope b.sites b.code b.first in
       let k = known_input w b u (mark Entry (suc u.rank) u.value) e (fine engine A program all w b e) (known_last engine A b.scope b.sites b.code b.first) (omega arith) in
       subst (λ (p : Point). at (name w p) ≡ Some u) (last_is engine A b.scope b.sites b.code b.first ∙ ap (last_point b.code) s) k.is
 
-  tied_branch : (h : Bool) (w : List Frame) (b : P) (y : M) (d : Code) → Led w b y d → Tied (branch_row engine A w h b y d) (branch_mark engine A h b y d)
+  tied_branch : (h : Bool) (w : List NameFrame) (b : P) (y : M) (d : Code) → Led w b y d → Tied (branch_row engine A w h b y d) (branch_mark engine A h b y d)
   tied_branch h w b y Stop l = neither
   tied_branch h w b y (Simple n effect r) l = neither
   tied_branch h w b y (If n guard t e r) l = both _ _ (record { x = y; below = front w b y _ (If n guard t e r) l (omega arith); value = refl })
@@ -151,7 +151,7 @@ module _ {S : Type 0} (dom : Operations S) (engine : Engine) (program : List Rou
       go false = refl
 
   -- The names of a loop.
-  module _ (w : List Frame) (b : P) (n : ℕ) (guard : Guard) (body r : Code) (y : M) (l : Led w b y (While n guard body r)) where
+  module _ (w : List NameFrame) (b : P) (n : ℕ) (guard : Guard) (body r : Code) (y : M) (l : Led w b y (While n guard body r)) where
     abbrev pub t : ℕ
     t = span engine (body_span engine b.scope) body + 2
 
@@ -188,14 +188,14 @@ module _ {S : Type 0} (dom : Operations S) (engine : Engine) (program : List Rou
     pub end_below : (k : ℕ) → k < N → (m : M) → y.rank + k * t + t ≤ m.rank → Below (name (InLoop n k ∷ w) (last_point body Body)) (end k) m
     end_below k h m o = subst (λ (p : Point). Below (name (InLoop n k ∷ w) p) (end k) m) (last_is engine A b.scope b.sites body (turn k).first) (round_below k h (end k) m (known_last engine A b.scope b.sites body (turn k).first) o)
 
-    pub iterate_is : (k : ℕ) → (it k).value.value ≡ iterate_at dom engine b.scope.marks (one_round dom engine b.scope b.sites guard body) y.value.value k
+    pub iterate_is : (k : ℕ) → (it k).value.value ≡ iterate_at dom engine b.scope.thresholds (one_round dom engine b.scope b.sites guard body) y.value.value k
     iterate_is zero = refl
     iterate_is (suc k) = refl
 
     tied_next : (k : ℕ) → Tied (next_row engine A w k b y (While n guard body r)) (next_mark engine A k b y (While n guard body r))
     tied_next k = go (nat_lt k N) refl
       where
-        go : (q : Bool) → nat_lt k N ≡ q → Tied (when engine A q (Two (next_operation engine b.scope.marks k) (name w (iterate_point engine A n y.point k)) (name (InLoop n k ∷ w) (last_point body Body)))) (when engine A q (it (suc k)))
+        go : (q : Bool) → nat_lt k N ≡ q → Tied (when engine A q (Two (next_operation engine b.scope.thresholds k) (name w (iterate_point engine A n y.point k)) (name (InLoop n k ∷ w) (last_point body Body)))) (when engine A q (it (suc k)))
         go false e = neither
         go true e =
             let h = less_of k N e in
@@ -204,9 +204,9 @@ module _ {S : Type 0} (dom : Operations S) (engine : Engine) (program : List Rou
               y = end k;
               below = iterate_below k (it (suc k)) (omega arith) (omega (arith, suc-mul k t));
               below_too = end_below k h (it (suc k)) (omega (arith, suc-mul k t));
-              value = ap plain (ap (λ v. lift2 (next_of dom engine b.scope.marks k) (iterate_at dom engine b.scope.marks (one_round dom engine b.scope b.sites guard body) y.value.value k) v)
+              value = ap plain (ap (λ v. lift2 (next_of dom engine b.scope.thresholds k) (iterate_at dom engine b.scope.thresholds (one_round dom engine b.scope b.sites guard body) y.value.value k) v)
                   (ap (λ v. (block dom engine b.scope b.sites body (lift (dom.assume guard true) v)).value) (sym (iterate_is k)) ∙ sym (last_value dom engine (main_layout program) b.scope b.sites body (turn k).first))
-                  ∙ ap (λ v. lift2 (next_of dom engine b.scope.marks k) v (end k).value.value) (sym (iterate_is k))) ∙ next_is b.scope.marks k (it k) (end k);
+                  ∙ ap (λ v. lift2 (next_of dom engine b.scope.thresholds k) v (end k).value.value) (sym (iterate_is k))) ∙ next_is b.scope.thresholds k (it k) (end k);
             })
 
     abbrev pub fixed : M
@@ -214,7 +214,7 @@ module _ {S : Type 0} (dom : Operations S) (engine : Engine) (program : List Rou
 
     tied_fix : Tied (fix_row engine A w b y (While n guard body r)) (fix_mark engine A b y (While n guard body r))
     tied_fix = both (FixedRow n b.sites w y.point) fixed (record {
-      marks_of = b.scope.marks;
+      thresholds_of = b.scope.thresholds;
       body = one_round dom engine b.scope b.sites guard body;
       start = y.value.value;
       iterates = λ i h. (it i, iterate_below i fixed h (omega (arith, mul-le-mul_right t h)), iterate_is i);
@@ -270,8 +270,8 @@ module _ {S : Type 0} (dom : Operations S) (engine : Engine) (program : List Rou
 
     out_value : (k i : ℕ) (u : M) (s : S) → slice_get (outs k) i ≡ Some u → f.value ≡ State s → f.index ≡ k → slice_get leaving i ≡ Some u.value.value
     out_value k i u s e g j =
-        let x = fix_index dom engine b.scope.marks (one_round dom engine b.scope b.sites guard body) n b.sites y.value.value s g in
-        let same : (it k).value.value ≡ f.value = iterate_is k ∙ ap (λ q. iterate_at dom engine b.scope.marks (one_round dom engine b.scope b.sites guard body) y.value.value q) (sym j) ∙ x.1 ∙ sym g in
+        let x = fix_index dom engine b.scope.thresholds (one_round dom engine b.scope b.sites guard body) n b.sites y.value.value s g in
+        let same : (it k).value.value ≡ f.value = iterate_is k ∙ ap (λ q. iterate_at dom engine b.scope.thresholds (one_round dom engine b.scope b.sites guard body) y.value.value q) (sym j) ∙ x.1 ∙ sym g in
         ap (λ v. slice_get (block dom engine b.scope b.sites body (lift (dom.assume guard true) v)).leaving i) (sym same)
         ∙ ap (λ xs. slice_get xs i) (sym (leaves_value dom engine (main_layout program) b.scope b.sites body (turn k).first))
         ∙ slice_get-map (value_of dom engine (main_layout program) b.scope b.sites) (outs k) i
@@ -288,7 +288,7 @@ module _ {S : Type 0} (dom : Operations S) (engine : Engine) (program : List Rou
             subst (λ (q : Point). Below (name (InLoop n k ∷ w) q) u.0 m) u.2 (round_below k hk u.0 m ((known_leaves engine A b.scope b.sites body (turn k).first).at u.0 u.3) low),
             (λ s g j. let a = state_of dom engine (dom.assume guard false) i f.value leaving s g in v ∙ ap (λ o. cell (with_one dom engine (joined_to dom engine i without leaving) o) (index_if dom engine stays f.index)) (out_value k i u.0 a.0 u.1 a.1 j)),
           );
-      index = λ s g. let a = state_of dom engine (dom.assume guard false) i f.value leaving s g in (fix_index dom engine b.scope.marks (one_round dom engine b.scope b.sites guard body) n b.sites y.value.value a.0 a.1).0;
+      index = λ s g. let a = state_of dom engine (dom.assume guard false) i f.value leaving s g in (fix_index dom engine b.scope.thresholds (one_round dom engine b.scope b.sites guard body) n b.sites y.value.value a.0 a.1).0;
       over = λ j x g. v ∙ ap (λ q. cell q (index_if dom engine stays f.index)) (ap (λ q. with_one dom engine q (slice_get leaving i)) g ∙ with_over dom engine j x (slice_get leaving i) ∙ sym g);
     }
 
@@ -311,7 +311,7 @@ module _ {S : Type 0} (dom : Operations S) (engine : Engine) (program : List Rou
         placed None = neither
         placed (Some i) = go i (nat_lt (suc i) (breaks body)) refl
 
-    behind_is : (after_it : M) → after_it.value ≡ plain (behind dom engine guard (block dom engine b.scope b.sites body) (head_of dom engine b.scope.marks b.sites n guard (block dom engine b.scope b.sites body) y.value.value).value) → after_it.value ≡ plain (joined dom engine without leaving)
+    behind_is : (after_it : M) → after_it.value ≡ plain (behind dom engine guard (block dom engine b.scope b.sites body) (head_of dom engine b.scope.thresholds b.sites n guard (block dom engine b.scope b.sites body) y.value.value).value) → after_it.value ≡ plain (joined dom engine without leaving)
     behind_is m e = e
 
     tied_behind : Tied (loop_row engine A w n guard body (breaks body)) (Some (behind_it engine A b.scope b.sites (While n guard body r) y))
@@ -331,7 +331,7 @@ module _ {S : Type 0} (dom : Operations S) (engine : Engine) (program : List Rou
         go (suc i) e = tied_joins false i m (omega arith) (omega arith) (value ∙ ap (λ k. plain (joined_to dom engine k without leaving)) (count ∙ e))
 
   -- The statements of a block.
-  tied_next_at : (k : ℕ) (w : List Frame) (b : P) (y : M) (d : Code) → Led w b y d → Tied (next_row engine A w k b y d) (next_mark engine A k b y d)
+  tied_next_at : (k : ℕ) (w : List NameFrame) (b : P) (y : M) (d : Code) → Led w b y d → Tied (next_row engine A w k b y d) (next_mark engine A k b y d)
   tied_next_at k w b y Stop l = neither
   tied_next_at k w b y (Simple n effect r) l = neither
   tied_next_at k w b y (If n guard t e r) l = neither
@@ -339,7 +339,7 @@ module _ {S : Type 0} (dom : Operations S) (engine : Engine) (program : List Rou
   tied_next_at k w b y (Call n call q r) l = neither
   tied_next_at k w b y (Break n r) l = neither
 
-  tied_fix_at : (w : List Frame) (b : P) (y : M) (d : Code) → Led w b y d → Tied (fix_row engine A w b y d) (fix_mark engine A b y d)
+  tied_fix_at : (w : List NameFrame) (b : P) (y : M) (d : Code) → Led w b y d → Tied (fix_row engine A w b y d) (fix_mark engine A b y d)
   tied_fix_at w b y Stop l = neither
   tied_fix_at w b y (Simple n effect r) l = neither
   tied_fix_at w b y (If n guard t e r) l = neither
@@ -347,7 +347,7 @@ module _ {S : Type 0} (dom : Operations S) (engine : Engine) (program : List Rou
   tied_fix_at w b y (Call n call q r) l = neither
   tied_fix_at w b y (Break n r) l = neither
 
-  tied_exit_at : (w : List Frame) (b : P) (y : M) (d : Code) → Led w b y d → Tied (exit_row engine A w b y d) (exit_mark engine A b y d)
+  tied_exit_at : (w : List NameFrame) (b : P) (y : M) (d : Code) → Led w b y d → Tied (exit_row engine A w b y d) (exit_mark engine A b y d)
   tied_exit_at w b y Stop l = neither
   tied_exit_at w b y (Simple n effect r) l = neither
   tied_exit_at w b y (If n guard t e r) l = neither
@@ -355,7 +355,7 @@ module _ {S : Type 0} (dom : Operations S) (engine : Engine) (program : List Rou
   tied_exit_at w b y (Call n call q r) l = neither
   tied_exit_at w b y (Break n r) l = neither
 
-  tied_leap_at : (i : ℕ) (w : List Frame) (b : P) (y : M) (d : Code) → Led w b y d → Tied (leap_row engine A w i b y d) (leap_mark engine A i b y d)
+  tied_leap_at : (i : ℕ) (w : List NameFrame) (b : P) (y : M) (d : Code) → Led w b y d → Tied (leap_row engine A w i b y d) (leap_mark engine A i b y d)
   tied_leap_at i w b y Stop l = neither
   tied_leap_at i w b y (Simple n effect r) l = neither
   tied_leap_at i w b y (If n guard t e r) l = neither
@@ -363,7 +363,7 @@ module _ {S : Type 0} (dom : Operations S) (engine : Engine) (program : List Rou
   tied_leap_at i w b y (Call n call q r) l = neither
   tied_leap_at i w b y (Break n r) l = neither
 
-  tied_call : (w : List Frame) (b : P) (n : ℕ) (call : Invoke) (q : ℕ) (r : Code) (y : M) → Led w b y (Call n call q r) → Tied (post_row engine A w b y (Call n call q r)) (post_mark engine A b y (Call n call q r))
+  tied_call : (w : List NameFrame) (b : P) (n : ℕ) (call : Invoke) (q : ℕ) (r : Code) (y : M) → Led w b y (Call n call q r) → Tied (post_row engine A w b y (Call n call q r)) (post_mark engine A b y (Call n call q r))
   tied_call w b n call q r y l =
       let h : q < length b.scope.earlier = part_of engine A b y (Call n call q r) l.fine l.stands in
       let p = from_some b.scope.earlier q h in
@@ -389,7 +389,7 @@ module _ {S : Type 0} (dom : Operations S) (engine : Engine) (program : List Rou
         value = ap (λ v. plain (lift2 (dom.leave call.returning) y.value.value v)) value;
       }))
 
-  tied_if : (w : List Frame) (b : P) (n : ℕ) (guard : Guard) (t e r : Code) (y : M) → Led w b y (If n guard t e r) → Tied (post_row engine A w b y (If n guard t e r)) (post_mark engine A b y (If n guard t e r))
+  tied_if : (w : List NameFrame) (b : P) (n : ℕ) (guard : Guard) (t e r : Code) (y : M) → Led w b y (If n guard t e r) → Tied (post_row engine A w b y (If n guard t e r)) (post_mark engine A b y (If n guard t e r))
   tied_if w b n guard t e r y l =
       let m : M = behind_it engine A b.scope b.sites (If n guard t e r) y in
       let s = (subs engine A b.scope b.sites b.code b.first).at _ l.stands.there in
@@ -412,7 +412,7 @@ module _ {S : Type 0} (dom : Operations S) (engine : Engine) (program : List Rou
             ∙ ap (λ v. plain (lift2 dom.join ut.value.value v)) (sym (last_value dom engine (main_layout program) b.scope b.sites e xe));
       })
 
-  tied_post : (w : List Frame) (b : P) (y : M) (d : Code) → Led w b y d → Tied (post_row engine A w b y d) (post_mark engine A b y d)
+  tied_post : (w : List NameFrame) (b : P) (y : M) (d : Code) → Led w b y d → Tied (post_row engine A w b y d) (post_mark engine A b y d)
   tied_post w b y Stop l = absurd (part_of engine A b y Stop l.fine l.stands)
   tied_post w b y (Simple n effect r) l = both _ _ (record { x = y; below = front w b y _ (Simple n effect r) l (omega arith); value = refl })
   tied_post w b y (If n guard t e r) l = tied_if w b n guard t e r y l
@@ -440,7 +440,7 @@ module _ {S : Type 0} (dom : Operations S) (engine : Engine) (program : List Rou
       go None = refl
       go (Some x) = refl
 
-  tied_within : (p : Point) (row : Option Row) (w : List Frame) (n : ℕ) (g : P → M → Code → Option Row) (h : P → M → Code → Option P) → statement engine A (to w) n g ≡ row → ((b : P) (y : M) (d : Code) → Led w b y d → n ≡ number d → Tied (g b y d) (if_some (h b y d) (λ c. mark_at engine A c p))) → Tied row (if_some (statement engine A (to w) n h) (λ c. mark_at engine A c p))
+  tied_within : (p : Point) (row : Option Row) (w : List NameFrame) (n : ℕ) (g : P → M → Code → Option Row) (h : P → M → Code → Option P) → statement engine A (to w) n g ≡ row → ((b : P) (y : M) (d : Code) → Led w b y d → n ≡ number d → Tied (g b y d) (if_some (h b y d) (λ c. mark_at engine A c p))) → Tied row (if_some (statement engine A (to w) n h) (λ c. mark_at engine A c p))
   tied_within p row w n g h e f =
       subst (λ o. Tied row o) (then_statement (to w) n h (λ c. mark_at engine A c p))
       (subst (λ (o : Option Row). Tied o (statement engine A (to w) n (λ b y d. if_some (h b y d) (λ c. mark_at engine A c p)))) e
@@ -454,7 +454,7 @@ module _ {S : Type 0} (dom : Operations S) (engine : Engine) (program : List Rou
   body_start [] z x e = neither
   body_start (c ∷ earlier) z x e = subst (λ (p : Point). Tied None (if is_entry engine A p then None else Some x)) (sym e) neither
 
-  tied_enter : (n : ℕ) (w : List Frame) (b : P) (y : M) (d : Code) → Led w b y d → Tied (R.enter_row engine A w b n y d) (if_some (in_call engine A b n y d) (λ c. mark_at engine A c Entry))
+  tied_enter : (n : ℕ) (w : List NameFrame) (b : P) (y : M) (d : Code) → Led w b y d → Tied (R.enter_row engine A w b n y d) (if_some (in_call engine A b n y d) (λ c. mark_at engine A c Entry))
   tied_enter n w b y Stop l = neither
   tied_enter n w b y (Simple m effect r) l = neither
   tied_enter n w b y (If m guard t e r) l = neither
@@ -484,7 +484,7 @@ module _ {S : Type 0} (dom : Operations S) (engine : Engine) (program : List Rou
   no_entry n k b y (Call m call q r) = neither
   no_entry n k b y (Break m r) = neither
 
-  tied_turn : (n k : ℕ) (w : List Frame) (b : P) (y : M) (d : Code) → Led w b y d → n ≡ number d → Tied (R.turn_row engine A w b n k y d) (if_some (in_loop engine A b n k y d) (λ c. mark_at engine A c Body))
+  tied_turn : (n k : ℕ) (w : List NameFrame) (b : P) (y : M) (d : Code) → Led w b y d → n ≡ number d → Tied (R.turn_row engine A w b n k y d) (if_some (in_loop engine A b n k y d) (λ c. mark_at engine A c Body))
   tied_turn n k w b y Stop l e = neither
   tied_turn n k w b y (Simple m effect r) l e = neither
   tied_turn n k w b y (If m guard t x r) l e = neither
@@ -499,7 +499,7 @@ module _ {S : Type 0} (dom : Operations S) (engine : Engine) (program : List Rou
   tied_turn n k w b y (Call m call q r) l e = neither
   tied_turn n k w b y (Break m r) l e = neither
 
-  tied_none : (w : List Frame) → Tied None (if_some (to w) (λ b. None))
+  tied_none : (w : List NameFrame) → Tied None (if_some (to w) (λ b. None))
   tied_none w = go (to w)
     where
       go : (o : Option P) → Tied None (if_some o (λ b. None))
@@ -507,7 +507,7 @@ module _ {S : Type 0} (dom : Operations S) (engine : Engine) (program : List Rou
       go (Some b) = neither
 
   -- Every name.
-  pub tied : (w : List Frame) (p : Point) → Tied (row_at engine A program w p) (at (name w p))
+  pub tied : (w : List NameFrame) (p : Point) → Tied (row_at engine A program w p) (at (name w p))
   tied [] Entry = entry_start program [] (mark Entry 0 (plain (State (dom.init (main_layout program))))) (Init (main_layout program)) refl refl
   tied (InCall n ∷ w) Entry = tied_within Entry _ w n (λ b. R.enter_row engine A w b n) (λ b. in_call engine A b n) refl (λ b y d l e. tied_enter n w b y d l)
   tied (InLoop n k ∷ w) Entry = tied_within Entry None w n no_row (λ b. in_loop engine A b n k) (none_statement (to w) n) (λ b y d l e. no_entry n k b y d)

@@ -3,15 +3,15 @@ use Rattle.std.proofs.Common.{◌≡◌, ℕ, zero, suc, ◌+◌, ◌*◌, ◌<�
 use Rattle.std.proofs.Math.Nat.{suc-mul, mul-le-mul_right}
 use Rattle.imp_slots.specs.Plain.{Guard, Invoke, Code, Stop, Simple, If, While, Call, Break, Routine}
 use Rattle.imp_slots.specs.Fits.{Distinct}
-use Rattle.batch_meaning.specs.Batch.{Engine}
+use Rattle.batch_meaning.specs.Batch.{LoopOptions}
 use Rattle.batch_meaning.specs.Places.{if_some, from}
-use Rattle.cell_names.specs.declared.frame.Frame.{Frame}
-use Rattle.cell_names.specs.declared.frame.Frame.TheVariants.{InCall, InLoop}
+use Rattle.cell_names.specs.declared.frame.NameFrame.{NameFrame}
+use Rattle.cell_names.specs.declared.frame.NameFrame.TheVariants.{InCall, InLoop}
 use Rattle.cell_names.specs.declared.frame.Point.{Point}
 use Rattle.cell_names.specs.declared.frame.Point.TheVariants.{Entry, Then, Else, Body, Post, Iterate, Fix, Exit, Leap}
-use Rattle.plain_values.proofs.Members.{keys}
-use Rattle.plain_values.proofs.Cases.{less_of}
-use Rattle.cell_rows.specs.Names.{Scope, scope_of, name, mark, Place, bare, number, breaks, break_numbers, place_of, item, branch_point, span, body_span, last, start_of, in_call, iterate_point, when}
+use Rattle.base_values.proofs.Members.{keys}
+use Rattle.base_values.proofs.Cases.{less_of}
+use Rattle.cell_rows.specs.Names.{Scope, scope_of, name, mark, PathBlock, bare, number, breaks, break_numbers, place_of, item, branch_point, span, body_span, last, start_of, in_call, iterate_point, when}
 use Rattle.cell_rows.specs.Rows as R
 use Rattle.cell_rows.specs.Rows.{next_operation, Row, Init, One, Two, Fixed as FixedRow, Joins, last_point, leave_points, joined_point, branch_row, post_row, next_row, fix_row, exit_row, leap_row, enter_row, turn_row, joins_row, loop_row}
 use Rattle.cell_rows.specs.Total.{spread, offset, base, total_rank, or_zero, front_of}
@@ -20,7 +20,7 @@ use Rattle.cell_rows.proofs.Levels.{known_rank, known_last, last_is}
 use Rattle.cell_rows.proofs.Tied.{mul_less}
 use Rattle.cell_rows.proofs.TotalRank.{U, Good, Whole, by_it, after_off, into_off, last_off, within_body, spread_from, iterate_off, round_base, end_off, leave_off, fix_off, exit_off, leap_off, behind_off}
 
-module _ (engine : Engine) (program : List Routine) (once : Distinct (keys (spread engine program))) where
+module _ (engine : LoopOptions) (program : List Routine) (once : Distinct (keys (spread engine program))) where
   abbrev N : ℕ
   N = engine.budget
 
@@ -36,7 +36,7 @@ module _ (engine : Engine) (program : List Routine) (once : Distinct (keys (spre
   LowerIn (Some r) m = Lower r m
 
   -- A statement with the place that its rows see.
-  module _ (b : Place engine bare) (y : U engine program once) (w : List Frame) (whole : Whole engine program once b.scope.earlier) where
+  module _ (b : PathBlock engine bare) (y : U engine program once) (w : List NameFrame) (whole : Whole engine program once b.scope.earlier) where
     abbrev pub G : Code → Type 0
     G d = Good engine program once b.scope (number d, record { before = y; code = d })
 
@@ -63,7 +63,7 @@ module _ (engine : Engine) (program : List Routine) (once : Distinct (keys (spre
       pub low_next : (k : ℕ) → LowerIn (next_row engine bare w k b y (While n guard body r)) (bw + offset engine program (Iterate n (suc k)))
       low_next k = go (nat_lt k N) refl
         where
-          go : (q : Bool) → nat_lt k N ≡ q → LowerIn (when engine bare q (Two (next_operation engine b.scope.marks k) (name w (iterate_point engine bare n y.point k)) (name (InLoop n k ∷ w) (last_point body Body)))) (bw + offset engine program (Iterate n (suc k)))
+          go : (q : Bool) → nat_lt k N ≡ q → LowerIn (when engine bare q (Two (next_operation engine b.scope.thresholds k) (name w (iterate_point engine bare n y.point k)) (name (InLoop n k ∷ w) (last_point body Body)))) (bw + offset engine program (Iterate n (suc k)))
           go false e = tt
           go true e =
               let h : k < N = less_of k N e in
@@ -192,7 +192,7 @@ module _ (engine : Engine) (program : List Routine) (once : Distinct (keys (spre
     low_enter n (While m guard t r) e g = tt
     low_enter n (Call m call q r) e g = go (in_call engine bare b n y (Call m call q r))
       where
-        go : (o : Option (Place engine bare)) → LowerIn (if_some o (λ d. Some (One (R.Enters call.entering) (name w y.point)))) (base engine program (InCall n ∷ w) + 0)
+        go : (o : Option (PathBlock engine bare)) → LowerIn (if_some o (λ d. Some (One (R.Enters call.entering) (name w y.point)))) (base engine program (InCall n ∷ w) + 0)
         go None = tt
         go (Some c) =
             let k = call_base m call q r g in

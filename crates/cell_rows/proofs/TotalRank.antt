@@ -2,22 +2,22 @@
 use Rattle.std.proofs.Common.{◌≡◌, ℕ, zero, suc, ◌+◌, ◌*◌, ◌<◌, ◌≤◌, List, [], ◌∷◌, length, map, Option, Some, Bool, true, false, if◌then◌else◌, refl, sym, ap, ◌∙◌, arith, nat_lt, slice_get}
 use Rattle.imp_slots.specs.Plain.{Guard, Code, Stop, Simple, If, While, Call, Break, Routine}
 use Rattle.imp_slots.specs.Fits.{Distinct}
-use Rattle.batch_meaning.specs.Batch.{Engine}
+use Rattle.batch_meaning.specs.Batch.{LoopOptions}
 use Rattle.batch_meaning.specs.Places.{if_some, from}
-use Rattle.cell_names.specs.declared.frame.Frame.{Frame}
-use Rattle.cell_names.specs.declared.frame.Frame.TheVariants.{InLoop}
+use Rattle.cell_names.specs.declared.frame.NameFrame.{NameFrame}
+use Rattle.cell_names.specs.declared.frame.NameFrame.TheVariants.{InLoop}
 use Rattle.cell_names.specs.declared.frame.Point.{Point}
 use Rattle.cell_names.specs.declared.frame.Point.TheVariants.{Entry, Body, Post, Iterate, Fix, Exit, Leap}
-use Rattle.plain_values.proofs.Cases.{by_test, less_test}
-use Rattle.plain_values.proofs.Members.{Member, here, there, in_left, in_right, Each, each_more, each_both, none_there, keys}
+use Rattle.base_values.proofs.Cases.{by_test, less_test}
+use Rattle.base_values.proofs.Members.{Member, here, there, in_left, in_right, Each, each_more, each_both, none_there, keys}
 use Rattle.batch_meaning.proofs.Places.{found}
-use Rattle.cell_rows.specs.Names.{Scope, scope_of, Mark, mark, At, Place, bare, number, breaks, break_numbers, place_of, span, cost, body_span, behind_it, inside, entry, last, leaves, branch_mark, post_mark, next_mark, fix_mark, exit_mark, leap_mark, iterate_point, when}
+use Rattle.cell_rows.specs.Names.{Scope, scope_of, Mark, mark, At, PathBlock, bare, number, breaks, break_numbers, place_of, span, cost, body_span, behind_it, inside, entry, last, leaves, branch_mark, post_mark, next_mark, fix_mark, exit_mark, leap_mark, iterate_point, when}
 use Rattle.cell_rows.specs.Rows.{last_point, leave_points}
 use Rattle.cell_rows.specs.Total.{Spread, spread_of, entries, spread, stand, by_number, or_zero, offset, turn_of, base}
 use Rattle.cell_rows.proofs.Levels.{last_is, leaves_are, known_last, known_leaves, known_rank, point_of}
 use Rattle.cell_rows.proofs.BatchTie.{got}
 
-module _ (engine : Engine) (program : List Routine) (once : Distinct (keys (spread engine program))) where
+module _ (engine : LoopOptions) (program : List Routine) (once : Distinct (keys (spread engine program))) where
   abbrev N : ℕ
   N = engine.budget
 
@@ -42,7 +42,7 @@ module _ (engine : Engine) (program : List Routine) (once : Distinct (keys (spre
     abbrev pub Within : List (ℕ × At (Unit {0})) → Type 0
     Within xs = (p : ℕ × At (Unit {0})) → Member p xs → Member (spread_of e p) (spread engine program)
 
-    pub by_it : {X : Type 0} (y : U) (d : Code) → Member (spread_of e (E y d)) (spread engine program) → (g : Place engine bare → U → Code → Option X) → by_number engine program (number d) g ≡ g (stand engine program (record { scope = e; at = record { before = y; code = d } })) y d
+    pub by_it : {X : Type 0} (y : U) (d : Code) → Member (spread_of e (E y d)) (spread engine program) → (g : PathBlock engine bare → U → Code → Option X) → by_number engine program (number d) g ≡ g (stand engine program (record { scope = e; at = record { before = y; code = d } })) y d
     by_it y d m g = ap (λ o. if_some o (λ u. g (stand engine program u) u.at.before u.at.code)) (found (spread_of e (E y d)) (spread engine program) once m)
 
     pub after_off : (y : U) (d : Code) → Member (spread_of e (E y d)) (spread engine program) → IsOff (after_it d y)
@@ -161,7 +161,7 @@ module _ (engine : Engine) (program : List Routine) (once : Distinct (keys (spre
     iterate_off zero h = g.off ∙ omega arith
     iterate_off (suc i) h = ap (or_zero engine program) (by_it e y (While n guard body r) g.among (next_mark engine bare i) ∙ ap (λ q. when engine bare q (mark (Iterate n (suc i)) (y.rank + suc i * t) tt)) (less_test i N (omega arith)))
 
-    pub round_base : (w : List Frame) (k : ℕ) → base engine program (InLoop n k ∷ w) ≡ base engine program w + suc (y.rank + k * t)
+    pub round_base : (w : List NameFrame) (k : ℕ) → base engine program (InLoop n k ∷ w) ≡ base engine program w + suc (y.rank + k * t)
     round_base w k = ap (λ j. base engine program w + suc j) (ap (or_zero engine program) (by_it e y (While n guard body r) g.among (turn_of engine program k)))
 
     pub end_off : offset engine program (last_point body Body) ≤ span engine (body_span engine e) body

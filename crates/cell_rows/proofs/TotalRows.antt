@@ -7,19 +7,19 @@ use Rattle.imp_slots.specs.Plain.{Guard, Code, Stop, Simple, If, While, Call, Br
 use Rattle.imp_slots.specs.Fits.{Distinct}
 use Rattle.domain_laws.specs.Operations.{Operations}
 use Rattle.batch_meaning.specs.Values.{Value, State, Over}
-use Rattle.batch_meaning.specs.Batch.{Engine}
+use Rattle.batch_meaning.specs.Batch.{LoopOptions}
 use Rattle.batch_meaning.specs.Places.{find, if_some}
-use Rattle.cell_names.specs.declared.frame.Frame.{Frame}
-use Rattle.cell_names.specs.declared.frame.Frame.TheVariants.{InCall, InLoop}
+use Rattle.cell_names.specs.declared.frame.NameFrame.{NameFrame}
+use Rattle.cell_names.specs.declared.frame.NameFrame.TheVariants.{InCall, InLoop}
 use Rattle.cell_names.specs.declared.frame.Point.{Point}
 use Rattle.cell_names.specs.declared.frame.Point.TheVariants.{Entry, Then, Else, Body, Post, Iterate, Fix, Exit, Leap}
 use Rattle.cell_names.specs.Paths.{CellName}
-use Rattle.plain_values.proofs.Members.{here, there, Each, each_more, each_both, none_there, keys}
-use Rattle.plain_values.proofs.Cases.{less_of}
+use Rattle.base_values.proofs.Members.{here, there, Each, each_more, each_both, none_there, keys}
+use Rattle.base_values.proofs.Cases.{less_of}
 use Rattle.batch_meaning.proofs.Places.{found_member}
-use Rattle.demand_order.specs.Asking.{SameRow, Rows, AreRows, value_of, inputs_of}
-use Rattle.demand_order.proofs.Stable.{stable}
-use Rattle.cell_rows.specs.Names.{Scope, scope_of, IsSame, name, Mark, mark, At, Place, bare, AllFine, Nested, number, break_numbers, inside, behind_it, entry, iterate_point}
+use Rattle.daig_order.specs.Asking.{SameRow, Rows, AreRows, value_of, inputs_of}
+use Rattle.daig_order.proofs.Stable.{stable}
+use Rattle.cell_rows.specs.Names.{Scope, scope_of, IsSame, name, Mark, mark, At, PathBlock, bare, AllFine, Nested, number, break_numbers, inside, behind_it, entry, iterate_point}
 use Rattle.cell_rows.specs.Rows.{Row, Init, One, Two, Fixed as FixedRow, Joins, sites_of, branch_row, post_row, next_row, fix_row, exit_row, leap_row, enter_row, turn_row}
 use Rattle.cell_rows.specs.Targets.{Text, deeper, texts}
 use Rattle.cell_rows.specs.Cells.{Cell, table, asks_row, operation_row, most_row, by_row, nothing, right_of, wants_first, row_of_name, value_of_name}
@@ -42,7 +42,7 @@ find_map {A} {B} f n (x ∷ xs) = go (n == x.0) (find_map f n xs)
     go true e = refl
     go false e = e
 
-module _ (engine : Engine) where
+module _ (engine : LoopOptions) where
   -- What both tables have of a statement.
   record Strip : Type 0 where
     scope : Scope
@@ -146,14 +146,14 @@ module _ (engine : Engine) where
     abbrev spread_is : Distinct (keys (spread engine program))
     spread_is = spread_once program once
 
-    abbrev stand_at : List Frame → Spread → Place engine bare
+    abbrev stand_at : List NameFrame → Spread → PathBlock engine bare
     stand_at w u = record { scope = u.scope; sites = sites_of w; code = u.at.code; first = mark Entry 0 tt }
 
-    abbrev by_spread : List Frame → ℕ → (Place engine bare → Mark (Unit {0}) → Code → Option Row) → Option Row
+    abbrev by_spread : List NameFrame → ℕ → (PathBlock engine bare → Mark (Unit {0}) → Code → Option Row) → Option Row
     by_spread w n g = if_some (find n (spread engine program)) (λ u. g (stand_at w u) u.at.before u.at.code)
 
     -- rows by either table
-    same_tables : (w : List Frame) (n : ℕ) (g : Place engine bare → Mark (Unit {0}) → Code → Option Row) → Reads engine program once g → by_text engine program w n g ≡ by_spread w n g
+    same_tables : (w : List NameFrame) (n : ℕ) (g : PathBlock engine bare → Mark (Unit {0}) → Code → Option Row) → Reads engine program once g → by_text engine program w n g ≡ by_spread w n g
     same_tables w n g h =
         let sf = λ (v : Flat). strip_flat_of v in
         from_flat (find n (flat program)) ∙ ap stripped (sym (find_map strip_flat_of n (flat program)) ∙ ap (find n) (sym (strips program)) ∙ find_map strip_spread_of n (spread engine program)) ∙ to_spread (find n (spread engine program))
@@ -178,7 +178,7 @@ module _ (engine : Engine) where
     abbrev GoodAt : Spread → Type 0
     GoodAt u = Good engine program spread_is u.scope (number u.at.code, u.at)
 
-    low_statement : (w : List Frame) (n m : ℕ) (g : Place engine bare → Mark (Unit {0}) → Code → Option Row) → Reads engine program once g → ((u : Spread) → n ≡ number u.at.code → GoodAt u → Whole engine program spread_is u.scope.earlier → BreaksOnce u.at.code → LowerIn engine program spread_is (g (stand_at w u) u.at.before u.at.code) m) → LowerIn engine program spread_is (by_text engine program w n g) m
+    low_statement : (w : List NameFrame) (n m : ℕ) (g : PathBlock engine bare → Mark (Unit {0}) → Code → Option Row) → Reads engine program once g → ((u : Spread) → n ≡ number u.at.code → GoodAt u → Whole engine program spread_is u.scope.earlier → BreaksOnce u.at.code → LowerIn engine program spread_is (g (stand_at w u) u.at.before u.at.code) m) → LowerIn engine program spread_is (by_text engine program w n g) m
     low_statement w n m g h f = subst (λ (o : Option Row). LowerIn engine program spread_is o m) (sym (same_tables w n g h)) (go (find n (spread engine program)) refl)
       where
         go : (o : Option Spread) → find n (spread engine program) ≡ o → LowerIn engine program spread_is (if_some o (λ u. g (stand_at w u) u.at.before u.at.code)) m
@@ -191,7 +191,7 @@ module _ (engine : Engine) where
     breaks_of : (d : Code) → BreaksOnce d → (n : ℕ) (guard : Guard) (body r : Code) → d ≡ While n guard body r → Distinct (break_numbers body)
     breaks_of d h n guard body r e = subst BreaksOnce e h
 
-    next_low : (b : Place engine bare) (y : U engine program spread_is) (w : List Frame) (whole : Whole engine program spread_is b.scope.earlier) (k : ℕ) (d : Code) → G engine program spread_is b y w whole d → BreaksOnce d → LowerIn engine program spread_is (next_row engine bare w k b y d) (base engine program w + offset engine program (Iterate (number d) (suc k)))
+    next_low : (b : PathBlock engine bare) (y : U engine program spread_is) (w : List NameFrame) (whole : Whole engine program spread_is b.scope.earlier) (k : ℕ) (d : Code) → G engine program spread_is b y w whole d → BreaksOnce d → LowerIn engine program spread_is (next_row engine bare w k b y d) (base engine program w + offset engine program (Iterate (number d) (suc k)))
     next_low b y w whole k Stop g h = tt
     next_low b y w whole k (Simple n effect r) g h = tt
     next_low b y w whole k (If n guard t f r) g h = tt
@@ -199,7 +199,7 @@ module _ (engine : Engine) where
     next_low b y w whole k (Call n call q r) g h = tt
     next_low b y w whole k (Break n r) g h = tt
 
-    fix_low : (b : Place engine bare) (y : U engine program spread_is) (w : List Frame) (whole : Whole engine program spread_is b.scope.earlier) (d : Code) → G engine program spread_is b y w whole d → BreaksOnce d → LowerIn engine program spread_is (fix_row engine bare w b y d) (base engine program w + offset engine program (Fix (number d)))
+    fix_low : (b : PathBlock engine bare) (y : U engine program spread_is) (w : List NameFrame) (whole : Whole engine program spread_is b.scope.earlier) (d : Code) → G engine program spread_is b y w whole d → BreaksOnce d → LowerIn engine program spread_is (fix_row engine bare w b y d) (base engine program w + offset engine program (Fix (number d)))
     fix_low b y w whole Stop g h = tt
     fix_low b y w whole (Simple n effect r) g h = tt
     fix_low b y w whole (If n guard t f r) g h = tt
@@ -207,7 +207,7 @@ module _ (engine : Engine) where
     fix_low b y w whole (Call n call q r) g h = tt
     fix_low b y w whole (Break n r) g h = tt
 
-    exit_low : (b : Place engine bare) (y : U engine program spread_is) (w : List Frame) (whole : Whole engine program spread_is b.scope.earlier) (d : Code) → G engine program spread_is b y w whole d → BreaksOnce d → LowerIn engine program spread_is (exit_row engine bare w b y d) (base engine program w + offset engine program (Exit (number d)))
+    exit_low : (b : PathBlock engine bare) (y : U engine program spread_is) (w : List NameFrame) (whole : Whole engine program spread_is b.scope.earlier) (d : Code) → G engine program spread_is b y w whole d → BreaksOnce d → LowerIn engine program spread_is (exit_row engine bare w b y d) (base engine program w + offset engine program (Exit (number d)))
     exit_low b y w whole Stop g h = tt
     exit_low b y w whole (Simple n effect r) g h = tt
     exit_low b y w whole (If n guard t f r) g h = tt
@@ -215,7 +215,7 @@ module _ (engine : Engine) where
     exit_low b y w whole (Call n call q r) g h = tt
     exit_low b y w whole (Break n r) g h = tt
 
-    leap_low : (b : Place engine bare) (y : U engine program spread_is) (w : List Frame) (whole : Whole engine program spread_is b.scope.earlier) (k : ℕ) (d : Code) → G engine program spread_is b y w whole d → BreaksOnce d → LowerIn engine program spread_is (leap_row engine bare w k b y d) (base engine program w + offset engine program (Leap (number d) k))
+    leap_low : (b : PathBlock engine bare) (y : U engine program spread_is) (w : List NameFrame) (whole : Whole engine program spread_is b.scope.earlier) (k : ℕ) (d : Code) → G engine program spread_is b y w whole d → BreaksOnce d → LowerIn engine program spread_is (leap_row engine bare w k b y d) (base engine program w + offset engine program (Leap (number d) k))
     leap_low b y w whole k Stop g h = tt
     leap_low b y w whole k (Simple n effect r) g h = tt
     leap_low b y w whole k (If n guard t f r) g h = tt
@@ -223,7 +223,7 @@ module _ (engine : Engine) where
     leap_low b y w whole k (Call n call q r) g h = tt
     leap_low b y w whole k (Break n r) g h = tt
 
-    turn_low : (n k : ℕ) (b : Place engine bare) (y : U engine program spread_is) (w : List Frame) (whole : Whole engine program spread_is b.scope.earlier) (d : Code) → n ≡ number d → G engine program spread_is b y w whole d → BreaksOnce d → LowerIn engine program spread_is (turn_row engine bare w b n k y d) (base engine program (InLoop n k ∷ w) + 0)
+    turn_low : (n k : ℕ) (b : PathBlock engine bare) (y : U engine program spread_is) (w : List NameFrame) (whole : Whole engine program spread_is b.scope.earlier) (d : Code) → n ≡ number d → G engine program spread_is b y w whole d → BreaksOnce d → LowerIn engine program spread_is (turn_row engine bare w b n k y d) (base engine program (InLoop n k ∷ w) + 0)
     turn_low n k b y w whole Stop e g h = tt
     turn_low n k b y w whole (Simple m effect r) e g h = tt
     turn_low n k b y w whole (If m guard t f r) e g h = tt
@@ -232,13 +232,13 @@ module _ (engine : Engine) where
     turn_low n k b y w whole (Call m call q r) e g h = tt
     turn_low n k b y w whole (Break m r) e g h = tt
 
-    abbrev RankOf : List Frame → Point → ℕ
+    abbrev RankOf : List NameFrame → Point → ℕ
     RankOf w p = total_rank engine program (name w p)
 
-    at_point : (w : List Frame) (P : ℕ → Point) (n m : ℕ) (o : Option Row) → n ≡ m → LowerIn engine program spread_is o (base engine program w + offset engine program (P m)) → LowerIn engine program spread_is o (RankOf w (P n))
+    at_point : (w : List NameFrame) (P : ℕ → Point) (n m : ℕ) (o : Option Row) → n ≡ m → LowerIn engine program spread_is o (base engine program w + offset engine program (P m)) → LowerIn engine program spread_is o (RankOf w (P n))
     at_point w P n m o e l = subst (λ k. LowerIn engine program spread_is o (base engine program w + offset engine program (P k))) (sym e) l
 
-    pub lower_all : (w : List Frame) (p : Point) → LowerIn engine program spread_is (flat_row engine program w p) (RankOf w p)
+    pub lower_all : (w : List NameFrame) (p : Point) → LowerIn engine program spread_is (flat_row engine program w p) (RankOf w p)
     lower_all [] Entry = tt
     lower_all (InCall n ∷ w) Entry = low_statement w n _ (λ b. enter_row engine bare w b n) (enter_reads engine program once w n) (λ u e g h k. low_enter engine program spread_is (stand_at w u) u.at.before w h n u.at.code e g)
     lower_all (InLoop n k ∷ w) Entry = tt
@@ -254,7 +254,7 @@ module _ (engine : Engine) where
     lower_all w (Exit n) = low_statement w n _ (exit_row engine bare w) (exit_reads engine program once w) (λ u e g h j. at_point w Exit n (number u.at.code) _ e (exit_low (stand_at w u) u.at.before w h u.at.code g j))
     lower_all w (Leap n k) = low_statement w n _ (leap_row engine bare w k) (leap_reads engine program once w k) (λ u e g h j. at_point w (λ n. Leap n k) n (number u.at.code) _ e (leap_low (stand_at w u) u.at.before w h k u.at.code g j))
 
-module _ {S : Type 0} (dom : Operations S) (engine : Engine) (program : List Routine) (fine : AllFine program) (once : Distinct (keys (flat program))) (same : CellName → CellName → Bool) (is : IsSame same) where
+module _ {S : Type 0} (dom : Operations S) (engine : LoopOptions) (program : List Routine) (fine : AllFine program) (once : Distinct (keys (flat program))) (same : CellName → CellName → Bool) (is : IsSame same) where
   abbrev B : ℕ
   B = engine.budget
 

@@ -1,9 +1,9 @@
 -- A function that solves the rows of the names of a class is the table's value on them.
 use Rattle.std.proofs.Common.{◌≡◌, ℕ, zero, suc, ◌<◌, List, [], ◌∷◌, ◌++◌, map, Option, Some, refl, sym, ap, ◌∙◌, arith, Bool, true}
-use Rattle.demand_order.specs.Asking.{Rows, AreRows, gather, value_of, inputs_of}
-use Rattle.demand_order.proofs.AskingProofs.{by_option, gather-none, gather-some, value-is}
+use Rattle.daig_order.specs.Asking.{Rows, AreRows, gather, value_of, inputs_of}
+use Rattle.daig_order.proofs.AskingProofs.{by_option, gather-none, gather-some, value-is}
 use Rattle.std.proofs.lemmas.Bool.{or_left, or_right}
-use Rattle.demand_order.specs.Order.{member}
+use Rattle.daig_order.specs.Order.{member}
 
 abbrev pub All : {A : Type 0} → (A → Type 0) → List A → Type 0
 All P [] = Unit {0}

@@ -6,21 +6,21 @@ use Rattle.imp_syntax.specs.declared.edit.Location.{Location}
 use Rattle.imp_syntax.specs.declared.edit.Location.TheVariants.{Before, After, Head, End}
 use Rattle.imp_slots.specs.Plain.{Invoke, Code, Stop, Simple, If, While, Call, Break, Routine, code_numbers}
 use Rattle.imp_slots.specs.Fits.{Distinct, IsChecked}
-use Rattle.program_chains.specs.Chains.{calls_to, extended, through, chains_within, chains, ends_in, ending_in, selected, has, holder_from, holder, named_from, named, has_while, is_while}
-use Rattle.analysis_words.specs.declared.refusal.Refusal.{Refusal}
-use Rattle.analysis_words.specs.declared.refusal.Refusal.TheVariants.{NoProcedure, NoStatement}
+use Rattle.imp_chains.specs.Chains.{calls_to, extended, through, chains_within, chains, ends_in, ending_in, selected, has, holder_from, holder, named_from, named, has_while, is_while}
+use Rattle.imp_words.specs.declared.refusal.QueryRefusal.{QueryRefusal}
+use Rattle.imp_words.specs.declared.refusal.QueryRefusal.TheVariants.{NoProcedure, NoStatement}
 use Rattle.batch_meaning.specs.Answers.{Found, In, Misses, found_or, found_loop, procedure_of}
 use Rattle.batch_meaning.specs.Places.{find, if_some, from}
 use Rattle.cell_names.specs.declared.frame.Point.{Point}
 use Rattle.cell_names.specs.declared.frame.Point.TheVariants.{Entry, Then, Else, Body, Post, Fix}
-use Rattle.plain_values.proofs.Cases.{by_test}
+use Rattle.base_values.proofs.Cases.{by_test}
 use Rattle.batch_meaning.proofs.Procedures.{look_get, from_look, from_behind, from_from, from_self}
-use Rattle.plain_values.proofs.Members.{Member, here, there, in_left, in_right, keys, either, in_map}
+use Rattle.base_values.proofs.Members.{Member, here, there, in_left, in_right, keys, either, in_map}
 use Rattle.batch_meaning.proofs.Places.{found, found_member, find_key}
 use Rattle.cell_rows.specs.Names.{CallsBelow, AllFine}
 use Rattle.cell_rows.specs.Rows.{last_point}
 use Rattle.cell_rows.specs.Flat.{Flat, flat_of, flat}
-use Rattle.cell_rows.specs.Targets.{Text, text, deeper, texts, Step, Go, takes, callee_of, is_loop, way_of, way_in, way, Target, to_point, target_in, target, all_targets, targets}
+use Rattle.cell_rows.specs.Targets.{Text, text, deeper, texts, TargetStep, Go, takes, callee_of, is_loop, way_of, way_in, way, Target, to_point, target_in, target, all_targets, targets}
 use Rattle.cell_rows.proofs.Lookup.{fine_from}
 use Rattle.cell_rows.proofs.Arriving.{keys_texts}
 use Rattle.cell_rows.proofs.FlatOnce.{all_fine, flat_once, once_reversed}
@@ -190,7 +190,7 @@ flat_behind (b ∷ ps) q x m =
     (λ e m. m)
     (λ e m. in_right (map (flat_of b ps) (texts b.code Entry)) (flat_behind ps q x m))) m
 
-found_some : (r : Refusal) (o : Option ℕ) (p : ℕ) → found_or r o ≡ In p → o ≡ Some p
+found_some : (r : QueryRefusal) (o : Option ℕ) (p : ℕ) → found_or r o ≡ In p → o ≡ Some p
 found_some r None p e = absurd cc
 found_some r (Some q) p e = let i : q ≡ p = cc in ap Some i
 
@@ -222,7 +222,7 @@ module _ (program : List Routine) (checked : IsChecked program) where
       ]
 
   pub record HasWay (z : List ℕ) (p : ℕ) : Type 0 where
-    steps : List Step
+    steps : List TargetStep
     is : way back z ≡ Some (way_of steps (from back p))
 
   go_on : (p n : ℕ) (z : List ℕ) (j : ℕ) (r : Routine) → slice_get program j ≡ Some r → Member n (calls_to p r.code) → HasWay z j → HasWay (n ∷ z) p

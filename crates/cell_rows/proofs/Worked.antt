@@ -6,16 +6,16 @@ use Rattle.imp_syntax.specs.declared.words.Relation.TheVariants.{Less, Equal}
 use Rattle.imp_syntax.specs.declared.edit.Location.{Location}
 use Rattle.imp_syntax.specs.declared.edit.Location.TheVariants.{Before, After, Head, End}
 use Rattle.imp_slots.specs.Plain.{Layout, Term, Literal, Slot, Binary, Guard, Compare, Skip, SetInt, Act, DoBreak, Does, Invoke, Code, Stop, Simple, If, While, Call, Break, Routine}
-use Rattle.analysis_words.specs.declared.verdict.Verdict.TheVariants.{May}
+use Rattle.imp_words.specs.declared.verdict.Verdict.TheVariants.{May}
 use Rattle.domain_laws.specs.Operations.{Operations}
-use Rattle.analysis_words.specs.declared.refusal.Refusal.TheVariants.{LongString, NoProcedure, NoStatement, WrongStatement, NoChain}
+use Rattle.imp_words.specs.declared.refusal.QueryRefusal.TheVariants.{LongString, NoProcedure, NoStatement, WrongStatement, NoChain}
 use Rattle.batch_meaning.specs.Values.{State, Over}
-use Rattle.batch_meaning.specs.Batch.{Engine}
+use Rattle.batch_meaning.specs.Batch.{LoopOptions}
 use Rattle.batch_meaning.specs.Answers.{In, Found, Misses, Answers, Refuses, answer, procedure_of}
-use Rattle.demand_order.specs.Order.{System, fill_all, fill, visit}
-use Rattle.demand_order.specs.Asking.{Rows, gather}
-use Rattle.cell_names.specs.declared.frame.Frame.{Frame}
-use Rattle.cell_names.specs.declared.frame.Frame.TheVariants.{InCall, InLoop}
+use Rattle.daig_order.specs.Order.{System, fill_all, fill, visit}
+use Rattle.daig_order.specs.Asking.{Rows, gather}
+use Rattle.cell_names.specs.declared.frame.NameFrame.{NameFrame}
+use Rattle.cell_names.specs.declared.frame.NameFrame.TheVariants.{InCall, InLoop}
 use Rattle.cell_names.specs.declared.frame.Point.{Point}
 use Rattle.cell_names.specs.declared.frame.Point.TheVariants.{Entry, Then, Else, Body, Post, Iterate, Fix, Exit, Leap}
 use Rattle.cell_names.specs.Paths.{CellName}
@@ -76,20 +76,20 @@ same_range l r = false
 abbrev ranges : Operations Range
 ranges = record { init = λ l. From 0 0; post = post_range; assume = assume_range; join = join_range; widen = widen_range; enter = λ e s. s; leave = λ r s d. d; shed = λ s. s; check = λ a s. May; same = same_range; dead = λ s. false; text = λ l s. []; fits = λ s ls. true }
 
-abbrev plain_engine : ℕ → ℕ → Engine
+abbrev plain_engine : ℕ → ℕ → LoopOptions
 plain_engine budget delay = record { budget = budget; widening = record { delay = delay; thresholds = false } }
 
-abbrev marks_engine : ℕ → Engine
-marks_engine budget = record { budget = budget; widening = record { delay = 0; thresholds = true } }
+abbrev thresholds_engine : ℕ → LoopOptions
+thresholds_engine budget = record { budget = budget; widening = record { delay = 0; thresholds = true } }
 
 -- ---- how many cells a query fills
 
-abbrev same_frame : Frame → Frame → Bool
+abbrev same_frame : NameFrame → NameFrame → Bool
 same_frame (InCall a) (InCall b) = a == b
 same_frame (InLoop a k) (InLoop b j) = (a == b) && (k == j)
 same_frame x y = false
 
-abbrev same_path : List Frame → List Frame → Bool
+abbrev same_path : List NameFrame → List NameFrame → Bool
 same_path [] [] = true
 same_path (x ∷ xs) (y ∷ ys) = same_frame x y && same_path xs ys
 same_path xs ys = false
@@ -109,7 +109,7 @@ same_point x y = false
 abbrev same_name : CellName → CellName → Bool
 same_name x y = same_point x.point y.point && same_path x.path y.path
 
-module _ (engine : Engine) (program : List Routine) where
+module _ (engine : LoopOptions) (program : List Routine) where
   abbrev cells : CellName → Cell Range
   cells = value_of_name ranges engine (reverse program)
 
@@ -172,12 +172,12 @@ delayed_cost = refl
 delayed_over : answer ranges (plain_engine 3 2) counting (After 3) [] ≡ Answers (Over 3 [])
 delayed_over = refl
 
-marks_after : answer ranges (marks_engine 100) counting (After 3) [] ≡ Answers (State (From 10 10))
-marks_after = refl
+thresholds_after : answer ranges (thresholds_engine 100) counting (After 3) [] ≡ Answers (State (From 10 10))
+thresholds_after = refl
 
-marks_cost : filled (marks_engine 100) counting (After 3) [] ≡ 14
+thresholds_cost : filled (thresholds_engine 100) counting (After 3) [] ≡ 14
 unfolding gather fill visit
-marks_cost = refl
+thresholds_cost = refl
 
 no_loop : answer ranges (plain_engine 4 0) counting (Head 1) [] ≡ Refuses WrongStatement
 no_loop = refl
@@ -196,16 +196,16 @@ long_string = refl
 abbrev leaving : List Routine
 leaving = main_of (While 1 (Compare Equal (Literal 0) (Literal 0)) (Simple 2 (SetInt 0 up) (If 3 (Compare Equal (Slot 0) (Literal 5)) (Break 4 Stop) Stop Stop)) Stop) ∷ []
 
-leaving_after : answer ranges (marks_engine 100) leaving (After 1) [] ≡ Answers (State (From 5 5))
+leaving_after : answer ranges (thresholds_engine 100) leaving (After 1) [] ≡ Answers (State (From 5 5))
 leaving_after = refl
 
-leaving_inside : answer ranges (marks_engine 100) leaving (Before 4) [] ≡ Answers (State (From 5 5))
+leaving_inside : answer ranges (thresholds_engine 100) leaving (Before 4) [] ≡ Answers (State (From 5 5))
 leaving_inside = refl
 
-behind_break : answer ranges (marks_engine 100) leaving (After 4) [] ≡ Answers (State Empty)
+behind_break : answer ranges (thresholds_engine 100) leaving (After 4) [] ≡ Answers (State Empty)
 behind_break = refl
 
-leaving_cost : filled (marks_engine 100) leaving (After 1) [] ≡ 32
+leaving_cost : filled (thresholds_engine 100) leaving (After 1) [] ≡ 32
 unfolding gather fill visit
 leaving_cost = refl
 

@@ -3,11 +3,11 @@ use Rattle.std.specs.Prelude.{ℕ, zero, suc, List, [], ◌∷◌, length, Optio
 use Rattle.imp_slots.specs.Plain.{Layout, Guard, DoBreak, Does, Code, Stop, Simple, If, While, Call, Break, Routine}
 use Rattle.domain_laws.specs.Operations.{Operations}
 use Rattle.batch_meaning.specs.Values.{Value, State, Over, lift, lift2}
-use Rattle.batch_meaning.specs.Batch.{Engine, Passed, Fixed, settle, fix, head_of, behind, batch, calls_of}
+use Rattle.batch_meaning.specs.Batch.{LoopOptions, Passed, Fixed, settle, fix, head_of, behind, batch, calls_of}
 use Rattle.batch_meaning.specs.Places.{main_layout}
-use Rattle.demand_order.specs.Asking.{Rows}
-use Rattle.cell_names.specs.declared.frame.Frame.{Frame}
-use Rattle.cell_names.specs.declared.frame.Frame.TheVariants.{InLoop}
+use Rattle.daig_order.specs.Asking.{Rows}
+use Rattle.cell_names.specs.declared.frame.NameFrame.{NameFrame}
+use Rattle.cell_names.specs.declared.frame.NameFrame.TheVariants.{InLoop}
 use Rattle.cell_names.specs.declared.frame.Point.{Point}
 use Rattle.cell_names.specs.Paths.{CellName}
 use Rattle.cell_rows.specs.Blocks.{iterate_at, round}
@@ -25,7 +25,7 @@ cell v k = record { value = v; index = k }
 abbrev pub plain : {S : Type 0} → Value S → Cell S
 plain v = cell v 0
 
-module _ {S : Type 0} (dom : Operations S) (engine : Engine) where
+module _ {S : Type 0} (dom : Operations S) (engine : LoopOptions) where
   -- A value joined with the first i of these.
   abbrev pub with_one : Value S → Option (Value S) → Value S
   with_one v None = v
@@ -40,26 +40,26 @@ module _ {S : Type 0} (dom : Operations S) (engine : Engine) where
     calls = calls_of dom engine scope.earlier z
 
     abbrev pub block : Code → Value S → Passed S
-    block = batch dom engine scope.marks z calls
+    block = batch dom engine scope.thresholds z calls
 
     -- The value behind the first statement of this code.
     abbrev pub after_value : Code → Value S → Value S
     after_value Stop a = a
     after_value (Simple n effect r) a = lift (dom.post (Does effect)) a
     after_value (If n guard t e r) a = lift2 dom.join (block t (lift (dom.assume guard true) a)).value (block e (lift (dom.assume guard false) a)).value
-    after_value (While n guard b r) a = behind dom engine guard (block b) (head_of dom engine scope.marks z n guard (block b) a).value
+    after_value (While n guard b r) a = behind dom engine guard (block b) (head_of dom engine scope.thresholds z n guard (block b) a).value
     after_value (Call n call q r) a = lift2 (dom.leave call.returning) a (calls n q (lift (dom.enter call.entering) a))
     after_value (Break n r) a = lift (dom.post DoBreak) a
 
     abbrev pub one_round : Guard → Code → Value S → Value S
-    one_round = round dom engine scope.marks z calls
+    one_round = round dom engine scope.thresholds z calls
 
     abbrev pub iterate_value : Guard → Code → ℕ → Cell S → Cell S
     iterate_value guard body zero a = a
-    iterate_value guard body (suc k) a = plain (iterate_at dom engine scope.marks (one_round guard body) a.value (suc k))
+    iterate_value guard body (suc k) a = plain (iterate_at dom engine scope.thresholds (one_round guard body) a.value (suc k))
 
     abbrev pub fix_value : ℕ → Guard → Code → Cell S → Cell S
-    fix_value n guard body a = fix dom engine scope.marks (one_round guard body) (Over n z) a.value
+    fix_value n guard body a = fix dom engine scope.thresholds (one_round guard body) (Over n z) a.value
 
     abbrev pub leap_value : ℕ → Guard → Code → ℕ → Cell S → Cell S
     leap_value n guard body i a =
@@ -87,7 +87,7 @@ module _ {S : Type 0} (dom : Operations S) (engine : Engine) where
   abbrev pub binary : Binary → Cell S → Cell S → Cell S
   binary JoinsBoth a b = plain (lift2 dom.join a.value b.value)
   binary (Leaves returning) a b = plain (lift2 (dom.leave returning) a.value b.value)
-  binary (Widens marks) a b = plain (lift2 (dom.widen marks) a.value b.value)
+  binary (Widens thresholds) a b = plain (lift2 (dom.widen thresholds) a.value b.value)
 
   -- Whether another iterate is wanted: `left` of the budget, the last iterate that was read, and the values of those behind it.
   abbrev pub again : S → Value S → (S → Bool) → Bool
@@ -122,7 +122,7 @@ module _ {S : Type 0} (dom : Operations S) (engine : Engine) where
   ends_first over (v ∷ vs) = ends_at over v.value vs
 
   -- The next input of a row, by the values of those so far.
-  abbrev pub right_of : ℕ → List Frame → Point → Value S → ℕ → Option CellName
+  abbrev pub right_of : ℕ → List NameFrame → Point → Value S → ℕ → Option CellName
   right_of n w p (Over m z) k = None
   right_of n w p (State s) k = if nat_lt k engine.budget then Some (name (InLoop n k ∷ w) p) else None
 

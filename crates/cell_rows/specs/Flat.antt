@@ -1,13 +1,13 @@
 -- The rows by a table of the program's statements, which no path is followed through.
 use Rattle.std.specs.Prelude.{ℕ, zero, suc, List, [], ◌∷◌, ◌++◌, map, Option, Some, None, Bool, true, false}
 use Rattle.imp_slots.specs.Plain.{Code, Routine}
-use Rattle.batch_meaning.specs.Batch.{Engine}
+use Rattle.batch_meaning.specs.Batch.{LoopOptions}
 use Rattle.batch_meaning.specs.Places.{find, if_some, main_layout}
-use Rattle.cell_names.specs.declared.frame.Frame.{Frame}
-use Rattle.cell_names.specs.declared.frame.Frame.TheVariants.{InCall, InLoop}
+use Rattle.cell_names.specs.declared.frame.NameFrame.{NameFrame}
+use Rattle.cell_names.specs.declared.frame.NameFrame.TheVariants.{InCall, InLoop}
 use Rattle.cell_names.specs.declared.frame.Point.{Point}
 use Rattle.cell_names.specs.declared.frame.Point.TheVariants.{Entry, Then, Else, Body, Post, Iterate, Fix, Exit, Leap}
-use Rattle.cell_rows.specs.Names.{Mark, mark, Place, bare, scope_of}
+use Rattle.cell_rows.specs.Names.{Mark, mark, PathBlock, bare, scope_of}
 use Rattle.cell_rows.specs.Rows.{Row, Init, sites_of, branch_row, post_row, next_row, fix_row, exit_row, leap_row, enter_row, turn_row}
 use Rattle.cell_rows.specs.Targets.{Text, texts}
 
@@ -15,19 +15,19 @@ use Rattle.cell_rows.specs.Targets.{Text, texts}
 -- into a branch, into round k of a loop of this number, the iterate behind the k-th, where they stop, behind the loop by
 -- its condition, with a break, and behind the statement.
 pub record RowsAt (G : Type 0) : Type 0 where
-  pub enter : List Frame → ℕ → G
-  pub branch : List Frame → Bool → G
-  pub turn : List Frame → ℕ → ℕ → G
-  pub next : List Frame → ℕ → G
-  pub fix : List Frame → G
-  pub exit : List Frame → G
-  pub leap : List Frame → ℕ → G
-  pub post : List Frame → G
+  pub enter : List NameFrame → ℕ → G
+  pub branch : List NameFrame → Bool → G
+  pub turn : List NameFrame → ℕ → ℕ → G
+  pub next : List NameFrame → ℕ → G
+  pub fix : List NameFrame → G
+  pub exit : List NameFrame → G
+  pub leap : List NameFrame → ℕ → G
+  pub post : List NameFrame → G
 
 -- The row of a name, by its last frame and the statement of its point: `start` is that of the start of main, and `by`
 -- looks a statement up by its number.
-module _ {G : Type 0} (start : Row) (by : List Frame → ℕ → G → Option Row) (rows : RowsAt G) where
-  abbrev pub row_by : List Frame → Point → Option Row
+module _ {G : Type 0} (start : Row) (by : List NameFrame → ℕ → G → Option Row) (rows : RowsAt G) where
+  abbrev pub row_by : List NameFrame → Point → Option Row
   row_by [] Entry = Some start
   row_by (InCall n ∷ w) Entry = by w n (rows.enter w n)
   row_by (InLoop n k ∷ w) Entry = None
@@ -57,15 +57,15 @@ abbrev pub flat : List Routine → List (ℕ × Flat)
 flat [] = []
 flat (r ∷ earlier) = map (flat_of r earlier) (texts r.code Entry) ++ flat earlier
 
-module _ (engine : Engine) (program : List Routine) where
+module _ (engine : LoopOptions) (program : List Routine) where
   -- A place that has what rows look at.
-  abbrev pub stand_in : List Frame → Flat → Place engine bare
+  abbrev pub stand_in : List NameFrame → Flat → PathBlock engine bare
   stand_in w u = record { scope = scope_of engine bare u.routine u.earlier; sites = sites_of w; code = u.text.code; first = mark Entry 0 tt }
 
-  abbrev pub by_text : List Frame → ℕ → (Place engine bare → Mark (Unit {0}) → Code → Option Row) → Option Row
+  abbrev pub by_text : List NameFrame → ℕ → (PathBlock engine bare → Mark (Unit {0}) → Code → Option Row) → Option Row
   by_text w n g = if_some (find n (flat program)) (λ u. g (stand_in w u) (mark u.text.front 0 tt) u.text.code)
 
-  abbrev pub rows_of_text : RowsAt (Place engine bare → Mark (Unit {0}) → Code → Option Row)
+  abbrev pub rows_of_text : RowsAt (PathBlock engine bare → Mark (Unit {0}) → Code → Option Row)
   rows_of_text = record {
     enter = λ w n b. enter_row engine bare w b n;
     branch = branch_row engine bare;
@@ -78,5 +78,5 @@ module _ (engine : Engine) (program : List Routine) where
   }
 
   -- The row of a name: by its last frame and the text of the statement of its point.
-  abbrev pub flat_row : List Frame → Point → Option Row
+  abbrev pub flat_row : List NameFrame → Point → Option Row
   flat_row w p = row_by (Init (main_layout program)) by_text rows_of_text w p

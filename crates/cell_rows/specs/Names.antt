@@ -2,28 +2,28 @@
 use Rattle.std.specs.Prelude.{◌≡◌, ℕ, zero, suc, ◌+◌, ◌*◌, ℤ, List, [], ◌∷◌, ◌++◌, length, Option, Some, None, Bool, true, false, if◌then◌else◌, ◌==◌, ◌<◌, nat_lt}
 use Rattle.imp_slots.specs.Plain.{Guard, Entering, Code, Stop, Simple, If, While, Call, Break, Routine}
 use Rattle.imp_slots.specs.Fits.{Distinct}
-use Rattle.program_chains.specs.Marks.{marks}
-use Rattle.batch_meaning.specs.Batch.{Engine}
+use Rattle.imp_chains.specs.Thresholds.{thresholds}
+use Rattle.batch_meaning.specs.Batch.{LoopOptions}
 use Rattle.batch_meaning.specs.Places.{find, if_some, from}
-use Rattle.cell_names.specs.declared.frame.Frame.{Frame}
-use Rattle.cell_names.specs.declared.frame.Frame.TheVariants.{InCall, InLoop}
+use Rattle.cell_names.specs.declared.frame.NameFrame.{NameFrame}
+use Rattle.cell_names.specs.declared.frame.NameFrame.TheVariants.{InCall, InLoop}
 use Rattle.cell_names.specs.declared.frame.Point.{Point}
 use Rattle.cell_names.specs.declared.frame.Point.TheVariants.{Entry, Then, Else, Body, Post, Iterate, Fix, Exit, Leap}
 use Rattle.cell_names.specs.Paths.{CellName}
 
 -- A path has its last frame first.
-abbrev pub name : List Frame → Point → CellName
+abbrev pub name : List NameFrame → Point → CellName
 name w p = record { path = w; point = p }
 
 -- the first point of the block that a path leads to
-abbrev pub start_point : List Frame → Point
+abbrev pub start_point : List NameFrame → Point
 start_point [] = Entry
 start_point (InCall n ∷ w) = Entry
 start_point (InLoop n k ∷ w) = Body
 
--- What a block's procedure is to it: the marks of its widening, and the procedures in front of it, the last first.
+-- What a block's procedure is to it: the thresholds of its widening, and the procedures in front of it, the last first.
 pub record Scope : Type 0 where
-  pub marks : List ℤ
+  pub thresholds : List ℤ
   pub earlier : List Routine
 
 -- A point of a block, its place in the order of filling, and what is computed there.
@@ -90,7 +90,7 @@ item [] i = 0
 item (n ∷ ns) zero = n
 item (n ∷ ns) (suc i) = item ns i
 
-module _ (engine : Engine) where
+module _ (engine : LoopOptions) where
   -- From a mark to the one behind its statement, by the ranks of the callees' bodies.
   abbrev pub round_span : ℕ → ℕ
   round_span s = s + 2
@@ -166,23 +166,23 @@ module _ (engine : Engine) where
       leaves (Break n r) x = x ∷ leaves r (behind_it (Break n r) x)
 
     -- The block that a path leads to.
-    pub record Place : Type 0 where
+    pub record PathBlock : Type 0 where
       pub scope : Scope
       pub sites : List ℕ
       pub code : Code
       pub first : Mark V
 
-    abbrev pub level_of : Place → List (ℕ × At V)
+    abbrev pub level_of : PathBlock → List (ℕ × At V)
     level_of b = level b.scope b.sites b.code b.first
 
     abbrev pub scope_of : Routine → List Routine → Scope
-    scope_of r earlier = record { marks = marks engine.widening r; earlier = earlier }
+    scope_of r earlier = record { thresholds = thresholds engine.widening r; earlier = earlier }
 
-    abbrev pub start_of : List Routine → List ℕ → Mark V → Option Place
+    abbrev pub start_of : List Routine → List ℕ → Mark V → Option PathBlock
     start_of [] z x = None
     start_of (r ∷ earlier) z x = Some (record { scope = scope_of r earlier; sites = z; code = r.code; first = x })
 
-    abbrev pub in_call : Place → ℕ → Mark V → Code → Option Place
+    abbrev pub in_call : PathBlock → ℕ → Mark V → Code → Option PathBlock
     in_call b n x (Call m call q r) = start_of (from b.scope.earlier q) (n ∷ b.sites) (mark Entry (suc x.rank) (alg.enter call.entering x.value))
     in_call b n x _ = None
 
@@ -191,25 +191,25 @@ module _ (engine : Engine) where
     iterate_point n p zero = p
     iterate_point n p (suc k) = Iterate n (suc k)
 
-    abbrev pub iterate_mark : Place → ℕ → Guard → Code → ℕ → Mark V → Mark V
+    abbrev pub iterate_mark : PathBlock → ℕ → Guard → Code → ℕ → Mark V → Mark V
     iterate_mark b n guard body k x =
         mark (iterate_point n x.point k) (x.rank + k * (span (body_span b.scope) body + 2)) (alg.iterate b.scope b.sites guard body k x.value)
 
-    abbrev pub round_place : Place → ℕ → Guard → Code → ℕ → Mark V → Place
+    abbrev pub round_place : PathBlock → ℕ → Guard → Code → ℕ → Mark V → PathBlock
     round_place b n guard body k x =
         let i = iterate_mark b n guard body k x in
         record { scope = b.scope; sites = b.sites; code = body; first = mark Body (suc i.rank) (alg.into true guard i.value) }
 
-    abbrev pub in_loop : Place → ℕ → ℕ → Mark V → Code → Option Place
+    abbrev pub in_loop : PathBlock → ℕ → ℕ → Mark V → Code → Option PathBlock
     in_loop b n k x (While m guard body r) = if nat_lt k engine.budget then Some (round_place b n guard body k x) else None
     in_loop b n k x _ = None
 
     -- The statement n of a block.
-    abbrev pub statement : {A : Type 0} → Option Place → ℕ → (Place → Mark V → Code → Option A) → Option A
+    abbrev pub statement : {A : Type 0} → Option PathBlock → ℕ → (PathBlock → Mark V → Code → Option A) → Option A
     statement o n f = if_some o (λ b. if_some (find n (level_of b)) (λ x. f b x.before x.code))
 
     module _ (program : List Routine) where
-      abbrev pub follow : List Frame → Option Place
+      abbrev pub follow : List NameFrame → Option PathBlock
       follow [] = start_of program [] (mark Entry 0 alg.start)
       follow (InCall n ∷ w) = statement (follow w) n (λ b. in_call b n)
       follow (InLoop n k ∷ w) = statement (follow w) n (λ b. in_loop b n k)
@@ -218,39 +218,39 @@ module _ (engine : Engine) where
     when true a = Some a
     when false a = None
 
-    abbrev pub branch_mark : Bool → Place → Mark V → Code → Option (Mark V)
+    abbrev pub branch_mark : Bool → PathBlock → Mark V → Code → Option (Mark V)
     branch_mark h b x (If n guard t e r) = Some (inside b.scope b.sites h n guard x)
     branch_mark h b x _ = None
 
-    abbrev pub post_mark : Place → Mark V → Code → Option (Mark V)
+    abbrev pub post_mark : PathBlock → Mark V → Code → Option (Mark V)
     post_mark b x c = Some (behind_it b.scope b.sites c x)
 
     -- A loop's own marks.
-    abbrev pub next_mark : ℕ → Place → Mark V → Code → Option (Mark V)
+    abbrev pub next_mark : ℕ → PathBlock → Mark V → Code → Option (Mark V)
     next_mark k b x (While n guard body r) = when (nat_lt k engine.budget) (iterate_mark b n guard body (suc k) x)
     next_mark k b x _ = None
 
-    abbrev pub fix_rank : Place → Code → ℕ → ℕ
+    abbrev pub fix_rank : PathBlock → Code → ℕ → ℕ
     fix_rank b body r = r + engine.budget * (span (body_span b.scope) body + 2) + 1
 
-    abbrev pub fix_of : Place → ℕ → Guard → Code → Mark V → Mark V
+    abbrev pub fix_of : PathBlock → ℕ → Guard → Code → Mark V → Mark V
     fix_of b n guard body x = mark (Fix n) (fix_rank b body x.rank) (alg.fixed b.scope b.sites n guard body x.value)
 
-    abbrev pub fix_mark : Place → Mark V → Code → Option (Mark V)
+    abbrev pub fix_mark : PathBlock → Mark V → Code → Option (Mark V)
     fix_mark b x (While n guard body r) = Some (fix_of b n guard body x)
     fix_mark b x _ = None
 
-    abbrev pub exit_of : Place → ℕ → Guard → Code → Mark V → Mark V
+    abbrev pub exit_of : PathBlock → ℕ → Guard → Code → Mark V → Mark V
     exit_of b n guard body x = mark (Exit n) (suc (fix_rank b body x.rank)) (alg.exit b.scope b.sites n guard body x.value)
 
-    abbrev pub exit_mark : Place → Mark V → Code → Option (Mark V)
+    abbrev pub exit_mark : PathBlock → Mark V → Code → Option (Mark V)
     exit_mark b x (While n guard body r) = when (nat_lt 0 (breaks body)) (exit_of b n guard body x)
     exit_mark b x _ = None
 
-    abbrev pub leap_of : Place → ℕ → Guard → Code → ℕ → ℕ → Mark V → Mark V
+    abbrev pub leap_of : PathBlock → ℕ → Guard → Code → ℕ → ℕ → Mark V → Mark V
     leap_of b n guard body k i x = mark (Leap n k) (suc (suc (fix_rank b body x.rank + i))) (alg.leap b.scope b.sites n guard body i x.value)
 
-    abbrev pub leap_mark : ℕ → Place → Mark V → Code → Option (Mark V)
+    abbrev pub leap_mark : ℕ → PathBlock → Mark V → Code → Option (Mark V)
     leap_mark k b x (While n guard body r) = if_some (place_of k (break_numbers body)) (λ i. when (nat_lt (suc i) (breaks body)) (leap_of b n guard body k i x))
     leap_mark k b x _ = None
 
@@ -259,7 +259,7 @@ module _ (engine : Engine) where
     is_entry _ = false
 
     -- The mark of a point in a block.
-    abbrev pub mark_at : Place → Point → Option (Mark V)
+    abbrev pub mark_at : PathBlock → Point → Option (Mark V)
     mark_at b Entry = if is_entry b.first.point then Some b.first else None
     mark_at b Body = if is_entry b.first.point then None else Some b.first
     mark_at b (Then n) = statement (Some b) n (branch_mark true)

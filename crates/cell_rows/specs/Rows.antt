@@ -1,15 +1,15 @@
 -- The row of a name: its operation and its inputs.
 use Rattle.std.specs.Prelude.{ℕ, zero, suc, ℤ, List, [], ◌∷◌, ◌++◌, Option, Some, None, Bool, true, false, if◌then◌else◌, nat_lt, slice_get}
 use Rattle.imp_slots.specs.Plain.{Layout, Guard, Act, DoBreak, Does, Entering, Returning, Code, Stop, Simple, If, While, Call, Break, Routine}
-use Rattle.batch_meaning.specs.Batch.{Engine}
+use Rattle.batch_meaning.specs.Batch.{LoopOptions}
 use Rattle.batch_meaning.specs.Places.{if_some, main_layout}
-use Rattle.cell_names.specs.declared.frame.Frame.{Frame}
-use Rattle.cell_names.specs.declared.frame.Frame.TheVariants.{InCall, InLoop}
+use Rattle.cell_names.specs.declared.frame.NameFrame.{NameFrame}
+use Rattle.cell_names.specs.declared.frame.NameFrame.TheVariants.{InCall, InLoop}
 use Rattle.cell_names.specs.declared.frame.Point.{Point}
 use Rattle.cell_names.specs.declared.frame.Point.TheVariants.{Entry, Then, Else, Body, Post, Iterate, Fix, Exit, Leap}
 use Rattle.cell_names.specs.Paths.{CellName}
 pub use Rattle.cell_names.specs.Paths.{sites_of}
-use Rattle.cell_rows.specs.Names.{name, Mark, Algebra, Place, breaks, break_numbers, place_of, item, statement, follow, in_call, iterate_point, when}
+use Rattle.cell_rows.specs.Names.{name, Mark, Algebra, PathBlock, breaks, break_numbers, place_of, item, statement, follow, in_call, iterate_point, when}
 
 pub data Unary : Type 0 where
   Posts : Act → Unary
@@ -28,9 +28,9 @@ pub data Row : Type 0 where
   One : Unary → CellName → Row
   Two : Binary → CellName → CellName → Row
   -- the iterates of the loop n in this path, the point in front of it the first
-  Fixed : (n : ℕ) (sites : List ℕ) → List Frame → Point → Row
+  Fixed : (n : ℕ) (sites : List ℕ) → List NameFrame → Point → Row
   -- a value behind the loop n, and this point in the loop's last round; whether the loop's index stays
-  Joins : (stays : Bool) (left : CellName) (n : ℕ) → List Frame → Point → Row
+  Joins : (stays : Bool) (left : CellName) (n : ℕ) → List NameFrame → Point → Row
 
 -- The point at the end of a block, and those in front of the breaks that leave the loop around it.
 abbrev pub last_point : Code → Point → Point
@@ -55,14 +55,14 @@ joined_point n body zero = Exit n
 joined_point n body (suc i) = Leap n (item (break_numbers body) i)
 
 -- How the k-th iterate goes on: joined below the delay, else widened.
-abbrev pub next_operation : Engine → List ℤ → ℕ → Binary
-next_operation engine marks k = if nat_lt k engine.widening.delay then JoinsBoth else Widens marks
+abbrev pub next_operation : LoopOptions → List ℤ → ℕ → Binary
+next_operation engine thresholds k = if nat_lt k engine.widening.delay then JoinsBoth else Widens thresholds
 
-module _ (engine : Engine) {V : Type 0} (alg : Algebra V) where
+module _ (engine : LoopOptions) {V : Type 0} (alg : Algebra V) where
   abbrev pub P : Type 0
-  P = Place engine alg
+  P = PathBlock engine alg
 
-  module _ (w : List Frame) where
+  module _ (w : List NameFrame) where
     abbrev pub enter_row : P → ℕ → Mark V → Code → Option Row
     enter_row b n x (Call m call q r) = if_some (in_call engine alg b n x (Call m call q r)) (λ d. Some (One (Enters call.entering) (name w x.point)))
     enter_row b n x _ = None
@@ -93,7 +93,7 @@ module _ (engine : Engine) {V : Type 0} (alg : Algebra V) where
 
     abbrev pub next_row : ℕ → P → Mark V → Code → Option Row
     next_row k b x (While n guard body r) =
-        when engine alg (nat_lt k engine.budget) (Two (next_operation engine b.scope.marks k) (name w (iterate_point engine alg n x.point k)) (name (InLoop n k ∷ w) (last_point body Body)))
+        when engine alg (nat_lt k engine.budget) (Two (next_operation engine b.scope.thresholds k) (name w (iterate_point engine alg n x.point k)) (name (InLoop n k ∷ w) (last_point body Body)))
     next_row k b x _ = None
 
     abbrev pub fix_row : P → Mark V → Code → Option Row
@@ -109,17 +109,17 @@ module _ (engine : Engine) {V : Type 0} (alg : Algebra V) where
     leap_row i b x _ = None
 
   module _ (program : List Routine) where
-    abbrev pub entry_row : List Frame → Option Row
+    abbrev pub entry_row : List NameFrame → Option Row
     entry_row [] = if_some (follow engine alg program []) (λ b. Some (Init (main_layout program)))
     entry_row (InCall n ∷ w) = statement engine alg (follow engine alg program w) n (λ b. enter_row w b n)
     entry_row (InLoop n k ∷ w) = None
 
-    abbrev pub body_row : List Frame → Option Row
+    abbrev pub body_row : List NameFrame → Option Row
     body_row [] = None
     body_row (InCall n ∷ w) = None
     body_row (InLoop n k ∷ w) = statement engine alg (follow engine alg program w) n (λ b. turn_row w b n k)
 
-    abbrev pub row_at : List Frame → Point → Option Row
+    abbrev pub row_at : List NameFrame → Point → Option Row
     row_at w Entry = entry_row w
     row_at w Body = body_row w
     row_at w (Then n) = statement engine alg (follow engine alg program w) n (branch_row w true)

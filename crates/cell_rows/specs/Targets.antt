@@ -4,11 +4,11 @@ use Rattle.std.specs.Str.{bytes_eq}
 use Rattle.imp_syntax.specs.declared.edit.Location.{Location}
 use Rattle.imp_syntax.specs.declared.edit.Location.TheVariants.{Before, After, Head, End}
 use Rattle.imp_slots.specs.Plain.{Invoke, Code, Stop, Simple, If, While, Call, Break, Routine}
-use Rattle.program_chains.specs.Chains.{selected}
+use Rattle.imp_chains.specs.Chains.{selected}
 use Rattle.batch_meaning.specs.Values.{Value, State, Over}
 use Rattle.batch_meaning.specs.Places.{find, if_some, from}
-use Rattle.cell_names.specs.declared.frame.Frame.{Frame}
-use Rattle.cell_names.specs.declared.frame.Frame.TheVariants.{InCall, InLoop}
+use Rattle.cell_names.specs.declared.frame.NameFrame.{NameFrame}
+use Rattle.cell_names.specs.declared.frame.NameFrame.TheVariants.{InCall, InLoop}
 use Rattle.cell_names.specs.declared.frame.Point.{Point}
 use Rattle.cell_names.specs.declared.frame.Point.TheVariants.{Entry, Then, Else, Body, Post, Fix}
 use Rattle.cell_names.specs.Paths.{CellName}
@@ -37,20 +37,20 @@ texts (Call n call q r) p = (n, text [] p (Call n call q r)) ∷ texts r (Post n
 texts (Break n r) p = (n, text [] p (Break n r)) ∷ texts r (Post n)
 
 -- A step on the way: into a loop's last round, or into a call.
-pub data Step : Type 0 where
-  Take : ℕ → Step
-  Go : ℕ → Step
+pub data TargetStep : Type 0 where
+  Take : ℕ → TargetStep
+  Go : ℕ → TargetStep
 
-abbrev pub takes : List ℕ → List Step
+abbrev pub takes : List ℕ → List TargetStep
 takes [] = []
 takes (n ∷ ns) = Take n ∷ takes ns
 
 -- A target: the steps from main, and the last point.
 pub record Target : Type 0 where
-  pub steps : List Step
+  pub steps : List TargetStep
   pub last : Point
 
-abbrev pub to_point : List Step → Point → Target
+abbrev pub to_point : List TargetStep → Point → Target
 to_point ss p = record { steps = ss; last = p }
 
 abbrev pub callee_of : Code → Option (Invoke × ℕ)
@@ -59,13 +59,13 @@ callee_of _ = None
 
 -- The steps along a chain (its last call site first), and the procedures from the one it ends in.
 pub record Way : Type 0 where
-  pub steps : List Step
+  pub steps : List TargetStep
   pub procs : List Routine
 
-abbrev pub way_of : List Step → List Routine → Way
+abbrev pub way_of : List TargetStep → List Routine → Way
 way_of ss ps = record { steps = ss; procs = ps }
 
-abbrev pub way_in : ℕ → List Step → List Routine → Option Way
+abbrev pub way_in : ℕ → List TargetStep → List Routine → Option Way
 way_in n ss [] = None
 way_in n ss (r ∷ earlier) =
     if_some (find n (texts r.code Entry)) (λ t. if_some (callee_of t.code) (λ q. Some (way_of (ss ++ (takes t.loops ++ Go n ∷ [])) (from earlier q.1))))
@@ -78,7 +78,7 @@ abbrev pub is_loop : Code → Bool
 is_loop (While n guard b r) = true
 is_loop _ = false
 
-abbrev pub target_in : Location → List Step → List Routine → Option Target
+abbrev pub target_in : Location → List TargetStep → List Routine → Option Target
 target_in l ss [] = None
 target_in (Before n) ss (r ∷ earlier) = if_some (find n (texts r.code Entry)) (λ t. Some (to_point (ss ++ takes t.loops) t.front))
 target_in (After n) ss (r ∷ earlier) = if_some (find n (texts r.code Entry)) (λ t. Some (to_point (ss ++ takes t.loops) (Post n)))
@@ -88,7 +88,7 @@ target_in (End x) ss (r ∷ earlier) = if bytes_eq x r.name then Some (to_point 
 abbrev pub target : List Routine → Location → List ℕ → Option Target
 target program l z = if_some (way (reverse program) z) (λ x. target_in l x.steps x.procs)
 
-abbrev pub most_in : List Step → ℕ
+abbrev pub most_in : List TargetStep → ℕ
 most_in [] = 1
 most_in (Go n ∷ ss) = most_in ss
 most_in (Take n ∷ ss) = suc (most_in ss)
@@ -103,7 +103,7 @@ module _ {S : Type 0} where
   unless_over (State s) a b = b
 
   -- The next name that a target demands from this path on, by the values found so far; behind it all, that of `rest`.
-  abbrev pub next_in : (List (Cell S) → Option CellName) → List Step → Point → List Frame → List (Cell S) → Option CellName
+  abbrev pub next_in : (List (Cell S) → Option CellName) → List TargetStep → Point → List NameFrame → List (Cell S) → Option CellName
   next_in rest [] p w [] = Some (name w p)
   next_in rest [] p w (v ∷ vs) = rest vs
   next_in rest (Go n ∷ ss) p w vs = next_in rest ss p (InCall n ∷ w) vs
@@ -116,7 +116,7 @@ module _ {S : Type 0} where
 
   module _ (f : CellName → Cell S) where
     -- The names that a target demands, and the value there.
-    abbrev pub demanded_in : List Step → Point → List Frame → List CellName
+    abbrev pub demanded_in : List TargetStep → Point → List NameFrame → List CellName
     demanded_in [] p w = name w p ∷ []
     demanded_in (Go n ∷ ss) p w = demanded_in ss p (InCall n ∷ w)
     demanded_in (Take n ∷ ss) p w = name w (Fix n) ∷ unless_over (f (name w (Fix n))).value [] (demanded_in ss p (InLoop n (f (name w (Fix n))).index ∷ w))
@@ -125,7 +125,7 @@ module _ {S : Type 0} where
     demanded [] = []
     demanded (t ∷ ts) = demanded_in t.steps t.last [] ++ demanded ts
 
-    abbrev pub value_in_path : List Step → Point → List Frame → Value S
+    abbrev pub value_in_path : List TargetStep → Point → List NameFrame → Value S
     value_in_path [] p w = (f (name w p)).value
     value_in_path (Go n ∷ ss) p w = value_in_path ss p (InCall n ∷ w)
     value_in_path (Take n ∷ ss) p w =
@@ -138,7 +138,7 @@ module _ {S : Type 0} where
 
 module _ {S : Type 0} where
   -- The targets' values, read from those of the demanded names.
-  abbrev pub read_in : (List (Cell S) → List (Value S)) → List Step → List (Cell S) → List (Value S)
+  abbrev pub read_in : (List (Cell S) → List (Value S)) → List TargetStep → List (Cell S) → List (Value S)
   read_in rest [] [] = []
   read_in rest [] (v ∷ vs) = v.value ∷ rest vs
   read_in rest (Go n ∷ ss) vs = read_in rest ss vs

@@ -2,15 +2,15 @@
 use Rattle.std.specs.Prelude.{List, Option, None, Bool}
 use Rattle.imp_slots.specs.Plain.{Routine}
 use Rattle.domain_laws.specs.Operations.{Operations}
-use Rattle.batch_meaning.specs.Batch.{Engine}
-use Rattle.demand_order.specs.Asking.{Rows}
+use Rattle.batch_meaning.specs.Batch.{LoopOptions}
+use Rattle.daig_order.specs.Asking.{Rows}
 use Rattle.cell_names.specs.Paths.{CellName}
 use Rattle.cell_rows.specs.Rows.{Row}
 use Rattle.cell_rows.specs.Cells.{Cell, asks_row, operation_row, most_row, by_row, nothing}
 use Rattle.cell_rows.specs.Flat.{flat_row}
 use Rattle.cell_rows.specs.Total.{total_rank}
 
-module _ {S : Type 0} (dom : Operations S) (engine : Engine) (program : List Routine) where
+module _ {S : Type 0} (dom : Operations S) (engine : LoopOptions) (program : List Routine) where
   abbrev pub total_row : CellName → Option Row
   total_row x = flat_row engine program x.path x.point
 

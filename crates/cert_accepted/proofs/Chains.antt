@@ -1,12 +1,12 @@
 -- The chains of a program: each once, through calls that are statements of it.
 use Rattle.std.specs.Prelude.{◌≡◌, ◌+◌, ℕ, zero, suc, List, [], ◌∷◌, map, length, slice_get, Some, if◌then◌else◌}
 use Rattle.std.proofs.Common.{refl, sym, ◌∙◌, subst, arith, inl, inr}
-use Rattle.plain_values.proofs.Cases.{by_test}
-use Rattle.plain_values.proofs.Members.{Member, here, there, either, Each, none_there, each_more}
+use Rattle.base_values.proofs.Cases.{by_test}
+use Rattle.base_values.proofs.Members.{Member, here, there, either, Each, none_there, each_more}
 use Rattle.imp_slots.specs.Plain.{Routine, code_numbers}
 use Rattle.imp_slots.specs.Fits.{Distinct, routine_numbers}
 use Rattle.imp_slots.proofs.Distinct.{not_in, left_once, right_once, once_both, apart}
-use Rattle.program_chains.specs.Chains.{calls_to, extended, through, chains_within, chains}
+use Rattle.imp_chains.specs.Chains.{calls_to, extended, through, chains_within, chains}
 use Rattle.cert_accepted.proofs.Lists.{made, map_once, thins_in, thins_once}
 use Rattle.cert_accepted.proofs.Numbers.{calls_thin, number_there}
 

@@ -6,8 +6,8 @@ use Rattle.std.proofs.lemmas.Bool.{and_parts, and_from}
 use Rattle.std.proofs.lemmas.Bool.Decides.{nat_tests}
 use Rattle.std.proofs.lemmas.List.{length-append}
 use Rattle.std.proofs.lemmas.Slice.Eq.{bytes_eq-Decides}
-use Rattle.plain_values.proofs.Cases.{by_bool}
-use Rattle.plain_values.proofs.Members.{Member, here, there, Each, none_there, each_more}
+use Rattle.base_values.proofs.Cases.{by_bool}
+use Rattle.base_values.proofs.Members.{Member, here, there, Each, none_there, each_more}
 use Rattle.imp_syntax.specs.declared.edit.Location.TheVariants.{Head}
 use Rattle.imp_slots.specs.Plain.{Routine}
 use Rattle.imp_slots.specs.Fits.{Distinct}
@@ -16,16 +16,16 @@ use Rattle.serde_json.specs.Data.{Data}
 use Rattle.serde_json.specs.Written.{compact_text}
 use Rattle.domain_laws.specs.Operations.{Operations}
 use Rattle.batch_meaning.specs.Values.{Value, State, Over}
-use Rattle.batch_meaning.specs.Batch.{Engine}
+use Rattle.batch_meaning.specs.Batch.{LoopOptions}
 use Rattle.batch_meaning.specs.Places.{value_at}
 use Rattle.cert_meaning.specs.Portable.{Portable}
 use Rattle.cert_meaning.specs.Written.{state_in}
 use Rattle.cert_lines.specs.Certificate.{Certificate, Lines, Gives, in_front, state_data, with_line, certificate_of, lines_text}
-use Rattle.cert_lines.specs.Lines.{Entry, written_in, Entries, Reads, Bad, unless_there, with_entry, entry_of, entries}
+use Rattle.cert_lines.specs.Lines.{CertEntry, written_in, Entries, Reads, Bad, unless_there, with_entry, entry_of, entries}
 
 -- ---- what is written of a loop and call sites
 
-module _ {S : Type 0} (e : Entry S) (es : List (Entry S)) where
+module _ {S : Type 0} (e : CertEntry S) (es : List (CertEntry S)) where
   written_first : written_in (e ∷ es) e.sites e.at ≡ Some e.state
   written_first =
       let at : (e.at == e.at) ≡ true = grind (arith, nat_tests) in
@@ -42,7 +42,7 @@ module _ {S : Type 0} (e : Entry S) (es : List (Entry S)) where
       absurd (other (λ i. (sites i, at i))))
       (λ b. ap (λ c. if c then Some e.state else written_in es x.0 x.1) b)
 
-module _ {S : Type 0} (dom : Operations S) (port : Portable S) (engine : Engine) (program : List Routine) where
+module _ {S : Type 0} (dom : Operations S) (port : Portable S) (engine : LoopOptions) (program : List Routine) where
   -- the value at the head of a loop under call sites, and the line and the entry of a state there
   abbrev pub value_of : List ℕ × ℕ → Option (Value S)
   value_of x = value_at dom engine program (Head x.1) x.0
@@ -50,7 +50,7 @@ module _ {S : Type 0} (dom : Operations S) (port : Portable S) (engine : Engine)
   abbrev pub line_with : List ℕ × ℕ → S → Data
   line_with x s = state_data dom port engine program x.0 x.1 s
 
-  abbrev pub entry_with : List ℕ × ℕ → S → Entry S
+  abbrev pub entry_with : List ℕ × ℕ → S → CertEntry S
   entry_with x s = record { at = x.1; sites = x.0; state = s }
 
   -- ---- certificates that are lines
@@ -101,17 +101,17 @@ module _ {S : Type 0} (dom : Operations S) (port : Portable S) (engine : Engine)
   IsReadBack x = (s : S) → value_of x ≡ Some (State s) → length (port.put s) < 2 ^ 64 → entry_of port program (compact_text (line_with x s)) ≡ Some (entry_with x s)
 
   -- nothing is written of it yet
-  abbrev IsNew : List (Entry S) → List ℕ × ℕ → Type 0
+  abbrev IsNew : List (CertEntry S) → List ℕ × ℕ → Type 0
   IsNew done x = written_in done x.0 x.1 ≡ None
 
   -- The lines of these loops, behind entries of others, come to entries with the states of these loops.
-  pub record Come (xs : List (List ℕ × ℕ)) (i : ℕ) (done : List (Entry S)) (ds : List Data) : Type 0 where
-    pub told : List (Entry S)
+  pub record Come (xs : List (List ℕ × ℕ)) (i : ℕ) (done : List (CertEntry S)) (ds : List Data) : Type 0 where
+    pub told : List (CertEntry S)
     pub reads : entries port program i done (map compact_text ds) ≡ Reads told
     pub has : (x : List ℕ × ℕ) → Member x xs → written_in told x.0 x.1 ≡ state_in (value_of x)
     pub keeps : (x : List ℕ × ℕ) → (Member x xs → ⊥) → written_in told x.0 x.1 ≡ written_in done x.0 x.1
 
-  module _ (x : List ℕ × ℕ) (xs : List (List ℕ × ℕ)) (i : ℕ) (done : List (Entry S)) (ds : List Data) (new : IsNew done x) (other : Member x xs → ⊥) where
+  module _ (x : List ℕ × ℕ) (xs : List (List ℕ × ℕ)) (i : ℕ) (done : List (CertEntry S)) (ds : List Data) (new : IsNew done x) (other : Member x xs → ⊥) where
     -- the first loop has no value
     passed : value_of x ≡ None → Come xs i done ds → Come (x ∷ xs) i done ds
     passed o c = record { told = c.told; reads = c.reads; has = has; keeps = λ y h. c.keeps y (λ m. h (there m)) }
@@ -124,7 +124,7 @@ module _ {S : Type 0} (dom : Operations S) (port : Portable S) (engine : Engine)
     added : (s : S) (rest : List Data) → value_of x ≡ Some (State s) → ds ≡ line_with x s ∷ rest → entry_of port program (compact_text (line_with x s)) ≡ Some (entry_with x s) → Come xs (i + 1) (entry_with x s ∷ done) rest → Come (x ∷ xs) i done ds
     added s rest o is back c = record { told = c.told; reads = reads; has = has; keeps = keeps }
       where
-        go : List (Entry S) → Entries S
+        go : List (CertEntry S) → Entries S
         go es = entries port program (i + 1) es (map compact_text rest)
 
         reads : entries port program i done (map compact_text ds) ≡ Reads c.told
@@ -148,7 +148,7 @@ module _ {S : Type 0} (dom : Operations S) (port : Portable S) (engine : Engine)
       let b : length (t ++ 10 ∷ []) ≡ length t + 1 = length-append t (10 ∷ []) in
       (omega arith, omega arith)
 
-  pub come : (longer : (x : List ℕ × ℕ) (s : S) → length (port.put s) ≤ length (compact_text (line_with x s))) (xs : List (List ℕ × ℕ)) (i : ℕ) (done : List (Entry S)) (ds : List Data) → certificate_of dom port engine program xs ≡ Lines ds → length (lines_text ds) < 2 ^ 64 → Each IsReadBack xs → Distinct xs → Each (IsNew done) xs → Come xs i done ds
+  pub come : (longer : (x : List ℕ × ℕ) (s : S) → length (port.put s) ≤ length (compact_text (line_with x s))) (xs : List (List ℕ × ℕ)) (i : ℕ) (done : List (CertEntry S)) (ds : List Data) → certificate_of dom port engine program xs ≡ Lines ds → length (lines_text ds) < 2 ^ 64 → Each IsReadBack xs → Distinct xs → Each (IsNew done) xs → Come xs i done ds
   come longer [] i done ds e short back once new = record {
     told = done;
     reads = let none : ds ≡ [] = cc in ap (λ ds. entries port program i done (map compact_text ds)) none;
@@ -162,7 +162,7 @@ module _ {S : Type 0} (dom : Operations S) (port : Portable S) (engine : Engine)
       other : Member x xs → ⊥
       other m = not_in x xs once.0 m
 
-      by : Splits x (value_of x) (certificate_of dom port engine program xs) ds → ((j : ℕ) (done : List (Entry S)) (ds : List Data) → certificate_of dom port engine program xs ≡ Lines ds → length (lines_text ds) < 2 ^ 64 → Each (IsNew done) xs → Come xs j done ds) → Come (x ∷ xs) i done ds
+      by : Splits x (value_of x) (certificate_of dom port engine program xs) ds → ((j : ℕ) (done : List (CertEntry S)) (ds : List Data) → certificate_of dom port engine program xs ≡ Lines ds → length (lines_text ds) < 2 ^ 64 → Each (IsNew done) xs → Come xs j done ds) → Come (x ∷ xs) i done ds
       by (no_line o more) go = passed x xs i done ds (new.at x here) other o (go i done ds more short (record { at = λ y m. new.at y (there m) }))
       by (a_line s rest o more is) go =
           let k = line_short x s ds rest is short in

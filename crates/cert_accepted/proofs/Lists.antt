@@ -1,7 +1,7 @@
 -- Lists in which each item stands once, maps of them, and lists without some of their items.
 use Rattle.std.specs.Prelude.{◌≡◌, List, [], ◌∷◌, ◌++◌, map}
 use Rattle.std.proofs.Common.{refl, subst}
-use Rattle.plain_values.proofs.Members.{Member, here, there}
+use Rattle.base_values.proofs.Members.{Member, here, there}
 use Rattle.imp_slots.specs.Fits.{Distinct}
 use Rattle.imp_slots.proofs.Distinct.{not_in, absent_if}
 

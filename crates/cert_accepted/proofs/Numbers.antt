@@ -1,11 +1,11 @@
 -- Loops and calls are among the numbers of a block.
 use Rattle.std.specs.Prelude.{◌≡◌, ℕ, zero, suc, List, [], ◌∷◌, slice_get, Some, if◌then◌else◌}
 use Rattle.std.proofs.Common.{sym, subst}
-use Rattle.plain_values.proofs.Cases.{by_test}
-use Rattle.plain_values.proofs.Members.{Member, in_left, in_right}
+use Rattle.base_values.proofs.Cases.{by_test}
+use Rattle.base_values.proofs.Members.{Member, in_left, in_right}
 use Rattle.imp_slots.specs.Plain.{Code, Stop, Simple, If, While, Call, Break, Routine, code_numbers}
 use Rattle.imp_slots.specs.Fits.{routine_numbers}
-use Rattle.program_chains.specs.Chains.{calls_to}
+use Rattle.imp_chains.specs.Chains.{calls_to}
 use Rattle.cert_meaning.specs.Written.{loops}
 use Rattle.cert_accepted.proofs.Lists.{Thins, ends, keeps, drops, thins_both, thins_in}
 use Rattle.std.proofs.lemmas.Option.{same_Some}

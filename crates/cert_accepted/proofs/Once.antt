@@ -1,11 +1,11 @@
 -- Each loop stands under each chain once.
 use Rattle.std.specs.Prelude.{◌≡◌, ◌+◌, ℕ, zero, suc, List, [], ◌∷◌, map, length, slice_get, Some}
 use Rattle.std.proofs.Common.{refl, sym, ap, subst, arith, inl, inr}
-use Rattle.plain_values.proofs.Members.{Member, here, there, in_left, in_right, either, in_map}
+use Rattle.base_values.proofs.Members.{Member, here, there, in_left, in_right, either, in_map}
 use Rattle.imp_slots.specs.Plain.{Routine, code_numbers}
 use Rattle.imp_slots.specs.Fits.{Distinct, routine_numbers}
 use Rattle.imp_slots.proofs.Distinct.{not_in, left_once, right_once, once_both, apart}
-use Rattle.program_chains.specs.Chains.{chains}
+use Rattle.imp_chains.specs.Chains.{chains}
 use Rattle.cert_meaning.specs.Written.{loops}
 use Rattle.cert_lines.specs.Certificate.{under, loops_from}
 use Rattle.cert_accepted.proofs.Lists.{made, map_once, thins_once}

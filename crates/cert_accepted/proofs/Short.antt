@@ -5,13 +5,13 @@ use Rattle.std.proofs.Common.{refl, sym, ap, ◌∙◌, subst, arith, inl, inr, 
 use Rattle.std.proofs.lemmas.List.{reverse-append, length-reverse, length-append}
 use Rattle.std.proofs.lemmas.Option.{slice_get_within, same_Some}
 use Rattle.std.proofs.lemmas.Slice.Eq.{bytes_eq-Decides}
-use Rattle.plain_values.proofs.Cases.{by_test}
-use Rattle.plain_values.proofs.Members.{Member, here, there, in_left, in_right, either, in_map, member_of}
+use Rattle.base_values.proofs.Cases.{by_test}
+use Rattle.base_values.proofs.Members.{Member, here, there, in_left, in_right, either, in_map, member_of}
 use Rattle.imp_syntax.specs.Plain as tree
 use Rattle.imp_syntax.specs.Plain.{Statement, Statements, Starts, Ends, Procedure}
 use Rattle.imp_slots.specs.Plain.{Layout, Code, Stop, Simple, If, While, Call, Break, Routine}
 use Rattle.imp_slots.specs.Fits.{FitsCode, FitInTurn, IsChecked}
-use Rattle.program_chains.specs.Chains.{calls_to, through, chains_within, chains}
+use Rattle.imp_chains.specs.Chains.{calls_to, through, chains_within, chains}
 use Rattle.imp_check.specs.Names.{place_named}
 use Rattle.imp_check.specs.Chains.{calls_in, calls, chains_to, chains_through, all_chains}
 use Rattle.imp_check.specs.Chains as told
@@ -22,7 +22,7 @@ use Rattle.imp_check.specs.Slots.{Resolver, layout_in, statement_in, code_in, ro
 use Rattle.imp_check.proofs.FewLemmas.{first_none, unless_lt, at_none, in_none}
 use Rattle.cert_accepted.specs.Accepted.{CheckedHaveLines}
 use Rattle.cert_accepted.proofs.Chains.{goes}
-use Rattle.program_chains.proofs.Found.{callee_before}
+use Rattle.imp_chains.proofs.Found.{callee_before}
 use Rattle.call_contexts.proofs.Few.{as_many}
 
 -- ---- calls by place are calls by name

@@ -2,10 +2,10 @@
 use Rattle.std.specs.Prelude.{◌≡◌, ◌==◌, not, ℕ, List, [], ◌∷◌, ◌++◌, map, true, if◌then◌else◌}
 use Rattle.std.proofs.Common.{refl, sym, ap, ◌∙◌, append_assoc, append-nil}
 use Rattle.std.proofs.lemmas.Bool.{and_parts, not-true}
-use Rattle.plain_values.proofs.Members.{Each, here, there}
+use Rattle.base_values.proofs.Members.{Each, here, there}
 use Rattle.serde_json.specs.Data.{Data}
 use Rattle.serde_json.specs.Written.{compact_text}
-use Rattle.script_loop.specs.Lines.{whole_lines, last_part, last_line, all_lines}
+use Rattle.serve_script.specs.Lines.{whole_lines, last_part, last_line, all_lines}
 use Rattle.cert_lines.specs.Certificate.{lines_text}
 use Rattle.cert_accepted.proofs.OneLine.{has_no_end}
 

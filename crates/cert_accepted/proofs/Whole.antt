@@ -2,18 +2,18 @@
 use Rattle.std.specs.Prelude.{◌≡◌, ◌<◌, ◌≤◌, ◌^◌, ◌+◌, ℕ, List, [], ◌∷◌, ◌++◌, length, reverse, slice_get, Option, Some, None, true, Contains, MatchOption, option_and_then, option_map, if◌then◌else◌}
 use Rattle.std.proofs.Common.{refl, ap, ◌∙◌, subst, arith}
 use Rattle.std.proofs.lemmas.List.{length-append, length-reverse, reverse-reverse}
-use Rattle.plain_values.proofs.Members.{Member, here, there, Each, none_there, each_more, member_of, of_reverse, contains_of}
+use Rattle.base_values.proofs.Members.{Member, here, there, Each, none_there, each_more, member_of, of_reverse, contains_of}
 use Rattle.imp_slots.specs.Plain.{Routine}
 use Rattle.imp_slots.specs.Fits.{routine_numbers, IsChecked}
 use Rattle.concrete_sem.specs.Values.{Variables, Heap}
-use Rattle.program_chains.specs.Chains.{chains}
-use Rattle.program_chains.specs.Claims.{PlacesAreFound}
+use Rattle.imp_chains.specs.Chains.{chains}
+use Rattle.imp_chains.specs.Claims.{PlacesAreFound}
 use Rattle.domain_laws.specs.Operations.{Operations}
 use Rattle.request_json.specs.Members.{greatest_id}
 use Rattle.serde_json.specs.Data.{Data}
 use Rattle.serde_json.specs.Written.{compact_text}
 use Rattle.batch_meaning.specs.Values.{State}
-use Rattle.batch_meaning.specs.Batch.{Engine}
+use Rattle.batch_meaning.specs.Batch.{LoopOptions}
 use Rattle.cert_meaning.specs.Chained.{layouts_around}
 use Rattle.cert_meaning.specs.Followed.{Followed, Passes, Fails, followed_program}
 use Rattle.cert_meaning.specs.Portable.{Portable, PortableLaws}
@@ -47,7 +47,7 @@ passes_yes (Passes s ss) d = refl
 passes_yes (Fails n z why) d = absurd d
 
 module _ {S : Type 0} (dom : Operations S) (covers : S → Heap → List Variables → Type 0) (port : Portable S) (laws : PortableLaws dom covers port) (utf8 : PutsUtf8 dom port) (places : PlacesAreFound) (frames : HeadsAreOfFrames dom) (hold : CertificatesHold dom port.leq)
-    (engine : Engine) (program : List Routine) (checked : IsChecked program) (fits : HasLines program) where
+    (engine : LoopOptions) (program : List Routine) (checked : IsChecked program) (fits : HasLines program) where
   abbrev Own : List ℕ × ℕ → Type 0
   Own = Stands program checked.numbers_once 0 program
 

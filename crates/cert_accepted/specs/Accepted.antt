@@ -6,9 +6,9 @@ use Rattle.imp_check.specs.Programs.{check_fault}
 use Rattle.imp_check.specs.Slots.{routines_of}
 use Rattle.imp_slots.specs.Plain.{Layout, Routine}
 use Rattle.imp_slots.specs.Fits.{routine_numbers, IsChecked}
-use Rattle.program_chains.specs.Chains.{chains}
+use Rattle.imp_chains.specs.Chains.{chains}
 use Rattle.domain_laws.specs.Operations.{Operations}
-use Rattle.batch_meaning.specs.Batch.{Engine}
+use Rattle.batch_meaning.specs.Batch.{LoopOptions}
 use Rattle.cert_meaning.specs.Portable.{Portable}
 use Rattle.cert_lines.specs.Certificate.{Certificate, Lines, Gives, certificate, certificate_text}
 use Rattle.cert_lines.specs.Verify.{Yes, verify}
@@ -39,9 +39,9 @@ IsWhole (Gives n z) = ⊥
 -- bytes, as all texts have that memory holds.
 abbrev pub AreAccepted : {S : Type 0} → Operations S → Portable S → Type 0
 AreAccepted {S} dom port =
-    (engine : Engine) (program : List Routine) → IsChecked program → HasLines program → IsWhole (certificate dom port engine program) →
+    (engine : LoopOptions) (program : List Routine) → IsChecked program → HasLines program → IsWhole (certificate dom port engine program) →
     length (certificate_text (certificate dom port engine program)) < 2 ^ 64 → verify dom port program (certificate_text (certificate dom port engine program)) ≡ Yes
 
 -- the text of the lines of a certificate of a program
 abbrev pub IsCertificate : {S : Type 0} → Operations S → Portable S → List Routine → (text : List ℕ) → Type 0
-IsCertificate dom port program text = (engine : Engine) × IsWhole (certificate dom port engine program) × (text ≡ certificate_text (certificate dom port engine program))
+IsCertificate dom port program text = (engine : LoopOptions) × IsWhole (certificate dom port engine program) × (text ≡ certificate_text (certificate dom port engine program))

@@ -1,18 +1,18 @@
 //! The theorem, and its instances.
 ghost use Rattle.cert_meaning.specs.Portable.{HasUpperBounds};
-ghost use Rattle.interval_meaning.specs.Domain.{intervals};
-ghost use Rattle.interval_words.specs.Words.{interval_port};
-ghost use Rattle.listseg_meaning.specs.Domain.{segments};
-ghost use Rattle.listseg_words.specs.Words.{segment_port};
+ghost use Rattle.dom_interval_meaning.specs.Domain.{intervals};
+ghost use Rattle.dom_interval_words.specs.Words.{interval_port};
+ghost use Rattle.dom_listseg_meaning.specs.Domain.{segments};
+ghost use Rattle.dom_listseg_words.specs.Words.{segment_port};
 ghost use Rattle.cert_accepted.specs.Accepted.{AreAccepted, CheckedHaveLines, PutsUtf8};
 
 use cert_complete::{certificates_hold, heads_are_of_frames};
-use interval_meaning::intervals_are_a_domain;
-use interval_words::{intervals_are_portable, intervals_have_upper_bounds};
-use listseg_meaning::segments_are_a_domain;
-use listseg_words::{segments_are_portable, segments_have_upper_bounds};
-use portable_states::Portable;
-use program_chains::{chains_go_through_callers, marks_rise, places_are_found};
+use cert_meaning::Portable;
+use dom_interval_meaning::intervals_are_a_domain;
+use dom_interval_words::{intervals_are_portable, intervals_have_upper_bounds};
+use dom_listseg_meaning::segments_are_a_domain;
+use dom_listseg_words::{segments_are_portable, segments_have_upper_bounds};
+use imp_chains::{chains_go_through_callers, places_are_found, thresholds_rise};
 
 /// Where the certificate of a checked program is no over, checking it says yes. Joins and widenings are to be above both
 /// sides by the order by which states are compared, and the texts of states are to be UTF-8. Statement numbers are to be
@@ -38,7 +38,7 @@ pub fn interval_certificates_are_accepted()
     intervals_are_a_domain();
     intervals_are_portable();
     intervals_have_upper_bounds();
-    marks_rise();
+    thresholds_rise();
     places_are_found();
     chains_go_through_callers();
 }
@@ -50,7 +50,7 @@ pub fn segment_certificates_are_accepted()
     segments_are_a_domain();
     segments_are_portable();
     segments_have_upper_bounds();
-    marks_rise();
+    thresholds_rise();
     places_are_found();
     chains_go_through_callers();
 }

@@ -9,16 +9,16 @@ use Rattle.imp_slots.specs.declared.blocks.SlotNode.{SlotNode}
 use Rattle.imp_slots.specs.declared.blocks.SlotNode.TheVariants as node
 use Rattle.domain_laws.specs.Operations.{Operations}
 use Rattle.batch_meaning.specs.Values.{State}
-use Rattle.batch_meaning.specs.Batch.{Engine}
+use Rattle.batch_meaning.specs.Batch.{LoopOptions}
 use Rattle.batch_meaning.specs.Batch as batch
 use Rattle.batch_meaning.specs.Places.{from, main_layout}
-use Rattle.plain_values.proofs.Lists.{drop_item}
-use Rattle.plain_values.proofs.Cases.{by_test}
+use Rattle.base_values.proofs.Lists.{drop_item}
+use Rattle.base_values.proofs.Cases.{by_test}
 use Rattle.cert_meaning.specs.Followed as plain
-use Rattle.cert_meaning.specs.Followed.{Why, Passes, Fails, Missing, Entry, Step, passing, after, unless, where_written, joined, followed, followed_procedure, followed_last, followed_program}
+use Rattle.cert_meaning.specs.Followed.{Why, Passes, Fails, Missing, Entry, Step, passing, with_leaving, unless, where_written, joined, followed, followed_procedure, followed_last, followed_program}
 use Rattle.batch_interp.specs.Frames.{earlier}
 use Rattle.batch_interp.specs.Passing.{states}
-use Rattle.batch_interp.specs.declared.frames.Frame.{Frame}
+use Rattle.batch_interp.specs.declared.frames.CallFrame.{CallFrame}
 use Rattle.batch_interp.proofs.Procedures.{from_earlier, from_gone}
 use Rattle.batch_interp.proofs.Walkings.{standing, whole}
 use Rattle.cert_reading.specs.Table.{state_at}
@@ -27,20 +27,20 @@ use Rattle.cert_check.specs.declared.followed.Followed as code
 use Rattle.cert_check.specs.declared.followed.Followed.TheVariants as came
 
 module _ {S : Type 0} where
-  after_none : (p : plain.Followed S) → after [] p ≡ p
+  after_none : (p : plain.Followed S) → with_leaving [] p ≡ p
   after_none (Passes s ss) = refl
   after_none (Fails n z w) = refl
 
-  after_twice : (xs ys : List S) (p : plain.Followed S) → after xs (after ys p) ≡ after (xs ++ ys) p
+  after_twice : (xs ys : List S) (p : plain.Followed S) → with_leaving xs (with_leaving ys p) ≡ with_leaving (xs ++ ys) p
   after_twice xs ys (Passes s ss) = ap (Passes s) (sym (append_assoc xs ys ss))
   after_twice xs ys (Fails n z w) = refl
 
   -- what a block passes with, where others left before it
-  passed_alone : (xs : List S) (p : plain.Followed S) (s : S) (ss : List S) → after xs p ≡ Passes s ss → (ls : List S) × (p ≡ Passes s ls) × (ss ≡ xs ++ ls)
+  passed_alone : (xs : List S) (p : plain.Followed S) (s : S) (ss : List S) → with_leaving xs p ≡ Passes s ss → (ls : List S) × (p ≡ Passes s ls) × (ss ≡ xs ++ ls)
   passed_alone xs (Passes t ls) s ss e = (ls, (let k : t ≡ s = cc in ap (λ t. Passes t ls) k), cc)
   passed_alone xs (Fails n z w) s ss e = absurd cc
 
-  failed_alone : (xs : List S) (p : plain.Followed S) (n : ℕ) (z : List ℕ) (w : Why) → after xs p ≡ Fails n z w → p ≡ Fails n z w
+  failed_alone : (xs : List S) (p : plain.Followed S) (n : ℕ) (z : List ℕ) (w : Why) → with_leaving xs p ≡ Fails n z w → p ≡ Fails n z w
   failed_alone xs (Passes t ls) n z w e = absurd cc
   failed_alone xs (Fails m y v) n z w e = e
 
@@ -49,95 +49,95 @@ module _ {S : Type 0} (dom : Operations S) (leq : S → S → Bool) (written : (
   B = followed dom leq written z calls
 
   -- a loop, from what is written of it
-  from_head : (n : ℕ) (g : Guard) (b r : Code) (a x : S) (c : Bool) → leq a x ≡ c → unless c (Fails n z Entry) (passing (B b (dom.assume g true x)) (λ y ys. unless (leq y x) (Fails n z Step) (B r (joined dom (dom.assume g false x) ys)))) ≡ passing (unless c (Fails n z Entry) (round dom leq z n g (B b) x)) (λ y ys. after ys (B r y))
+  from_head : (n : ℕ) (g : Guard) (b r : Code) (a x : S) (c : Bool) → leq a x ≡ c → unless c (Fails n z Entry) (passing (B b (dom.assume g true x)) (λ y ys. unless (leq y x) (Fails n z Step) (B r (joined dom (dom.assume g false x) ys)))) ≡ passing (unless c (Fails n z Entry) (round dom leq z n g (B b) x)) (λ y ys. with_leaving ys (B r y))
   from_head n g b r a x false e = refl
   from_head n g b r a x true e = go (B b (dom.assume g true x))
     where
-      ends : (c : Bool) (s : S) → unless c (Fails n z Step) (B r s) ≡ passing (unless c (Fails n z Step) (Passes s [])) (λ y ys. after ys (B r y))
+      ends : (c : Bool) (s : S) → unless c (Fails n z Step) (B r s) ≡ passing (unless c (Fails n z Step) (Passes s [])) (λ y ys. with_leaving ys (B r y))
       ends false s = refl
       ends true s = sym (after_none (B r s))
 
-      go : (p : plain.Followed S) → passing p (λ y ys. unless (leq y x) (Fails n z Step) (B r (joined dom (dom.assume g false x) ys))) ≡ passing (passing p (λ y ys. unless (leq y x) (Fails n z Step) (Passes (joined dom (dom.assume g false x) ys) []))) (λ y ys. after ys (B r y))
+      go : (p : plain.Followed S) → passing p (λ y ys. unless (leq y x) (Fails n z Step) (B r (joined dom (dom.assume g false x) ys))) ≡ passing (passing p (λ y ys. unless (leq y x) (Fails n z Step) (Passes (joined dom (dom.assume g false x) ys) []))) (λ y ys. with_leaving ys (B r y))
       go (Passes y ys) = ends (leq y x) (joined dom (dom.assume g false x) ys)
       go (Fails m y w) = refl
 
   -- a statement, and what comes behind it
-  follows_before : (s : SlotNode) (r : Code) (a : S) → B (before_code s r) a ≡ passing (B (before_code s Stop) a) (λ y ys. after ys (B r y))
+  follows_before : (s : SlotNode) (r : Code) (a : S) → B (before_code s r) a ≡ passing (B (before_code s Stop) a) (λ y ys. with_leaving ys (B r y))
   follows_before (node.Simple n e) r a = sym (after_none (B r (dom.post (Does (effect_of e)) a)))
   follows_before (node.If n g t e) r a = first (B t (dom.assume g true a))
     where
-      second : (x : S) (xs : List S) (q : plain.Followed S) → passing q (λ y ys. after (xs ++ ys) (B r (dom.join x y))) ≡ passing (passing q (λ y ys. after (xs ++ ys) (Passes (dom.join x y) []))) (λ y ys. after ys (B r y))
-      second x xs (Passes y ys) = ap (λ ls. after ls (B r (dom.join x y))) (sym (append-nil (xs ++ ys)))
+      second : (x : S) (xs : List S) (q : plain.Followed S) → passing q (λ y ys. with_leaving (xs ++ ys) (B r (dom.join x y))) ≡ passing (passing q (λ y ys. with_leaving (xs ++ ys) (Passes (dom.join x y) []))) (λ y ys. with_leaving ys (B r y))
+      second x xs (Passes y ys) = ap (λ ls. with_leaving ls (B r (dom.join x y))) (sym (append-nil (xs ++ ys)))
       second x xs (Fails m y w) = refl
 
-      first : (p : plain.Followed S) → passing p (λ x xs. passing (B e (dom.assume g false a)) (λ y ys. after (xs ++ ys) (B r (dom.join x y)))) ≡ passing (passing p (λ x xs. passing (B e (dom.assume g false a)) (λ y ys. after (xs ++ ys) (Passes (dom.join x y) [])))) (λ y ys. after ys (B r y))
+      first : (p : plain.Followed S) → passing p (λ x xs. passing (B e (dom.assume g false a)) (λ y ys. with_leaving (xs ++ ys) (B r (dom.join x y)))) ≡ passing (passing p (λ x xs. passing (B e (dom.assume g false a)) (λ y ys. with_leaving (xs ++ ys) (Passes (dom.join x y) [])))) (λ y ys. with_leaving ys (B r y))
       first (Passes x xs) = second x xs (B e (dom.assume g false a))
       first (Fails m y w) = refl
   follows_before (node.While n g b) r a = by (written z n)
     where
-      by : (o : Option S) → where_written o (Fails n z Missing) (λ x. unless (leq a x) (Fails n z Entry) (passing (B b (dom.assume g true x)) (λ y ys. unless (leq y x) (Fails n z Step) (B r (joined dom (dom.assume g false x) ys))))) ≡ passing (where_written o (Fails n z Missing) (λ x. unless (leq a x) (Fails n z Entry) (round dom leq z n g (B b) x))) (λ y ys. after ys (B r y))
+      by : (o : Option S) → where_written o (Fails n z Missing) (λ x. unless (leq a x) (Fails n z Entry) (passing (B b (dom.assume g true x)) (λ y ys. unless (leq y x) (Fails n z Step) (B r (joined dom (dom.assume g false x) ys))))) ≡ passing (where_written o (Fails n z Missing) (λ x. unless (leq a x) (Fails n z Entry) (round dom leq z n g (B b) x))) (λ y ys. with_leaving ys (B r y))
       by None = refl
       by (Some x) = from_head n g b r a x (leq a x) refl
   follows_before (node.Call n i q) r a = by (calls n q (dom.enter i.entering a))
     where
-      by : (p : plain.Followed S) → passing p (λ d ds. B r (dom.leave i.returning a d)) ≡ passing (passing p (λ d ds. Passes (dom.leave i.returning a d) [])) (λ y ys. after ys (B r y))
+      by : (p : plain.Followed S) → passing p (λ d ds. B r (dom.leave i.returning a d)) ≡ passing (passing p (λ d ds. Passes (dom.leave i.returning a d) [])) (λ y ys. with_leaving ys (B r y))
       by (Passes d ds) = sym (after_none (B r (dom.leave i.returning a d)))
       by (Fails m y w) = refl
   follows_before (node.Break n) r a = refl
 
-  pub block_step : (ss : List SlotNode) (i : ℕ) (s : SlotNode) (now next : S) (before behind : List S) → i < length ss → s ≡ get_or ss i s → after before (B (before_code s Stop) now) ≡ Passes next behind → after behind (B (code_of (drop (i + 1) ss)) next) ≡ after before (B (code_of (drop i ss)) now)
+  pub block_step : (ss : List SlotNode) (i : ℕ) (s : SlotNode) (now next : S) (before behind : List S) → i < length ss → s ≡ get_or ss i s → with_leaving before (B (before_code s Stop) now) ≡ Passes next behind → with_leaving behind (B (code_of (drop (i + 1) ss)) next) ≡ with_leaving before (B (code_of (drop i ss)) now)
   block_step ss i s now next before behind h e k =
       let r = code_of (drop (i + 1) ss) in
       let p = passed_alone before (B (before_code s Stop) now) next behind k in
-      ap (λ xs. after xs (B r next)) p.2
+      ap (λ xs. with_leaving xs (B r next)) p.2
       ∙ sym (after_twice before p.0 (B r next))
-      ∙ ap (λ q. after before (passing q (λ y ys. after ys (B r y)))) (sym p.1)
-      ∙ ap (after before) (sym (follows_before s r now))
-      ∙ ap (λ xs. after before (B (code_of xs) now)) (sym (drop_item ss i s h e))
+      ∙ ap (λ q. with_leaving before (passing q (λ y ys. with_leaving ys (B r y)))) (sym p.1)
+      ∙ ap (with_leaving before) (sym (follows_before s r now))
+      ∙ ap (λ xs. with_leaving before (B (code_of xs) now)) (sym (drop_item ss i s h e))
 
-  pub block_fails : (ss : List SlotNode) (i : ℕ) (s : SlotNode) (now : S) (before : List S) (n : ℕ) (y : List ℕ) (w : Why) → i < length ss → s ≡ get_or ss i s → after before (B (before_code s Stop) now) ≡ Fails n y w → after before (B (code_of (drop i ss)) now) ≡ Fails n y w
+  pub block_fails : (ss : List SlotNode) (i : ℕ) (s : SlotNode) (now : S) (before : List S) (n : ℕ) (y : List ℕ) (w : Why) → i < length ss → s ≡ get_or ss i s → with_leaving before (B (before_code s Stop) now) ≡ Fails n y w → with_leaving before (B (code_of (drop i ss)) now) ≡ Fails n y w
   block_fails ss i s now before n y w h e k =
       let r = code_of (drop (i + 1) ss) in
-      ap (λ xs. after before (B (code_of xs) now)) (drop_item ss i s h e)
-      ∙ ap (after before) (follows_before s r now)
-      ∙ ap (λ q. after before (passing q (λ y ys. after ys (B r y)))) (failed_alone before (B (before_code s Stop) now) n y w k)
+      ap (λ xs. with_leaving before (B (code_of xs) now)) (drop_item ss i s h e)
+      ∙ ap (with_leaving before) (follows_before s r now)
+      ∙ ap (λ q. with_leaving before (passing q (λ y ys. with_leaving ys (B r y)))) (failed_alone before (B (before_code s Stop) now) n y w k)
 
-  pub block_end : (ss : List SlotNode) (i : ℕ) (now : S) (before : List S) → length ss ≤ i → after before (B (code_of (drop i ss)) now) ≡ Passes now before
-  block_end ss i now before h = ap (λ xs. after before (B (code_of xs) now)) (drop_all i ss h) ∙ ap (Passes now) (append-nil before)
+  pub block_end : (ss : List SlotNode) (i : ℕ) (now : S) (before : List S) → length ss ≤ i → with_leaving before (B (code_of (drop i ss)) now) ≡ Passes now before
+  block_end ss i now before h = ap (λ xs. with_leaving before (B (code_of xs) now)) (drop_all i ss h) ∙ ap (Passes now) (append-nil before)
 
   -- a statement that nothing leaves
-  pub alone : (p : plain.Followed S) (before : List S) (a : code.Followed S) → p ≡ ended [] a → after before p ≡ ended before a
-  alone p before (came.Behind t) e = ap (after before) e ∙ ap (Passes t) (append-nil before)
-  alone p before (came.Fails n chain w) e = ap (after before) e
+  pub alone : (p : plain.Followed S) (before : List S) (a : code.Followed S) → p ≡ ended [] a → with_leaving before p ≡ ended before a
+  alone p before (came.Behind t) e = ap (with_leaving before) e ∙ ap (Passes t) (append-nil before)
+  alone p before (came.Fails n chain w) e = ap (with_leaving before) e
 
   -- what a statement comes to is what the code does of it
-  pub simple_ends : {E : Type 0} (r : Result (code.Followed S) E) (n : ℕ) (e : Effect) (s : S) (before : List S) → IfOk r (λ x. x ≡ came.Behind (dom.post (Does e) s)) → IfOk r (λ x. after before (B (Simple n e Stop) s) ≡ ended before x)
+  pub simple_ends : {E : Type 0} (r : Result (code.Followed S) E) (n : ℕ) (e : Effect) (s : S) (before : List S) → IfOk r (λ x. x ≡ came.Behind (dom.post (Does e) s)) → IfOk r (λ x. with_leaving before (B (Simple n e Stop) s) ≡ ended before x)
   simple_ends (Ok x) n e s before is = ap (Passes (dom.post (Does e) s)) (append-nil before) ∙ ap (ended before) (sym is)
   simple_ends (Err e') n e s before is = is
 
-  pub break_ends : {E : Type 0} (r : Result (code.Followed S) E) (n : ℕ) (s : S) (before behind : List S) → IfOk r (λ x. x ≡ came.Behind (dom.post DoBreak s)) → OnOk r (behind ≡ before ++ s ∷ []) → IfOk r (λ x. after before (B (Break n Stop) s) ≡ ended behind x)
+  pub break_ends : {E : Type 0} (r : Result (code.Followed S) E) (n : ℕ) (s : S) (before behind : List S) → IfOk r (λ x. x ≡ came.Behind (dom.post DoBreak s)) → OnOk r (behind ≡ before ++ s ∷ []) → IfOk r (λ x. with_leaving before (B (Break n Stop) s) ≡ ended behind x)
   break_ends (Ok x) n s before behind is left = ap (Passes (dom.post DoBreak s)) (sym left) ∙ ap (ended behind) (sym is)
   break_ends (Err e) n s before behind is left = is
 
-  pub alone_ends : {E : Type 0} (r : Result (code.Followed S) E) (p : plain.Followed S) (before : List S) → IfOk r (λ x. p ≡ ended [] x) → IfOk r (λ x. after before p ≡ ended before x)
+  pub alone_ends : {E : Type 0} (r : Result (code.Followed S) E) (p : plain.Followed S) (before : List S) → IfOk r (λ x. p ≡ ended [] x) → IfOk r (λ x. with_leaving before p ≡ ended before x)
   alone_ends (Ok x) p before is = alone p before x is
   alone_ends (Err e) p before is = is
 
   -- an if whose first block meets a loop that does not do
-  pub if_stops : (g : Guard) (t e : Code) (s : S) (before : List S) (n : ℕ) (y : List ℕ) (w : Why) → after before (B t (dom.assume g true s)) ≡ Fails n y w → after before (B (If 0 g t e Stop) s) ≡ Fails n y w
+  pub if_stops : (g : Guard) (t e : Code) (s : S) (before : List S) (n : ℕ) (y : List ℕ) (w : Why) → with_leaving before (B t (dom.assume g true s)) ≡ Fails n y w → with_leaving before (B (If 0 g t e Stop) s) ≡ Fails n y w
   if_stops g t e s before n y w h =
-      ap (λ v. after before (passing v (λ x xs. passing (B e (dom.assume g false s)) (λ y ys. after (xs ++ ys) (Passes (dom.join x y) []))))) (failed_alone before (B t (dom.assume g true s)) n y w h)
+      ap (λ v. with_leaving before (passing v (λ x xs. passing (B e (dom.assume g false s)) (λ y ys. with_leaving (xs ++ ys) (Passes (dom.join x y) []))))) (failed_alone before (B t (dom.assume g true s)) n y w h)
 
 -- joins of states, without a budget
 module _ {S : Type 0} (dom : Operations S) where
-  joined_same : (e : Engine) (s : S) (xs : List S) → batch.joined dom e (State s) (states xs) ≡ State (joined dom s xs)
+  joined_same : (e : LoopOptions) (s : S) (xs : List S) → batch.joined dom e (State s) (states xs) ≡ State (joined dom s xs)
   joined_same e s [] = refl
   joined_same e s (x ∷ xs) = joined_same e (dom.join s x) xs
 
-  any : Engine
+  any : LoopOptions
   any = record { budget = 0; widening = record { delay = 0; thresholds = false } }
 
-  pub joined_plain : (first out all : S) (others : List S) → out ≡ first → ((e : Engine) → State all ≡ batch.joined dom e (State out) (states others)) → all ≡ joined dom first others
+  pub joined_plain : (first out all : S) (others : List S) → out ≡ first → ((e : LoopOptions) → State all ≡ batch.joined dom e (State out) (states others)) → all ≡ joined dom first others
   joined_plain first out all others same is =
       let states_same : State all ≡ State (joined dom out others) = is any ∙ joined_same any out others in
       let behind_out : all ≡ joined dom out others = cc in
@@ -145,11 +145,11 @@ module _ {S : Type 0} (dom : Operations S) where
 
 -- a round, by how its body ends
 module _ {S : Type 0} (dom : Operations S) (leq : S → S → Bool) (z : List ℕ) (n : ℕ) (g : Guard) (body : S → plain.Followed S) where
-  pub round_ends : {E : Type 0} (r : Result (code.Followed S) E) (x : S) (none leaving others : List S) (end : code.Followed S) → none ≡ [] → after none (body (dom.assume g true x)) ≡ ended leaving end → others ≡ leaving →
+  pub round_ends : {E : Type 0} (r : Result (code.Followed S) E) (x : S) (none leaving others : List S) (end : code.Followed S) → none ≡ [] → with_leaving none (body (dom.assume g true x)) ≡ ended leaving end → others ≡ leaving →
       IfOk r (λ y. turned dom leq z n g x (ended others end) ≡ ended [] y) → IfOk r (λ y. round dom leq z n g body x ≡ ended [] y)
   round_ends (Ok y) x none leaving others end empty body_ends same is =
       ap (turned dom leq z n g x)
-      (sym (after_none (body (dom.assume g true x))) ∙ ap (λ xs. after xs (body (dom.assume g true x))) (sym empty) ∙ body_ends ∙ ap (λ xs. ended xs end) (sym same))
+      (sym (after_none (body (dom.assume g true x))) ∙ ap (λ xs. with_leaving xs (body (dom.assume g true x))) (sym empty) ∙ body_ends ∙ ap (λ xs. ended xs end) (sym same))
       ∙ is
   round_ends (Err e) x none leaving others end empty body_ends same is = is
 
@@ -181,14 +181,14 @@ module _ {S : Type 0} (dom : Operations S) (leq : S → S → Bool) (table : Lis
       ∙ ap (λ ps. body_of dom leq (state_at table) ps (n ∷ z) a) (from_gone program place q e)
 
   -- a body ends as its block does
-  pub of_callee : {E : Type 0} (r : Result (code.Followed S) E) (none leaving : List S) (place : ℕ) (z : List ℕ) (n q : ℕ) (routine : Routine) (c : Code) (inner : Frame) (a : S) → Some routine ≡ slice_get (take place program) q → inner ≡ record { place = q; sites = n ∷ z } → c ≡ routine.code → none ≡ [] → IfOk r (λ x. after none (followed_in dom leq table program inner.place inner.sites c a) ≡ ended leaving x) → IfOk r (EndsSo (calls_in dom leq table program place z n q a))
+  pub of_callee : {E : Type 0} (r : Result (code.Followed S) E) (none leaving : List S) (place : ℕ) (z : List ℕ) (n q : ℕ) (routine : Routine) (c : Code) (inner : CallFrame) (a : S) → Some routine ≡ slice_get (take place program) q → inner ≡ record { place = q; sites = n ∷ z } → c ≡ routine.code → none ≡ [] → IfOk r (λ x. with_leaving none (followed_in dom leq table program inner.place inner.sites c a) ≡ ended leaving x) → IfOk r (EndsSo (calls_in dom leq table program place z n q a))
   of_callee (Err e) none leaving place z n q routine c inner a there same body o h = h
   of_callee (Ok x) none leaving place z n q routine c inner a there same body o h = (
     leaving,
     call_there place z n q routine a (sym there)
         ∙ sym (λ i. followed_in dom leq table program (same i).place (same i).sites (body i) a)
         ∙ sym (after_none (followed_in dom leq table program inner.place inner.sites c a))
-        ∙ ap (λ xs. after xs (followed_in dom leq table program inner.place inner.sites c a)) (sym o)
+        ∙ ap (λ xs. with_leaving xs (followed_in dom leq table program inner.place inner.sites c a)) (sym o)
         ∙ h,
   )
 
@@ -207,7 +207,7 @@ module _ {S : Type 0} (dom : Operations S) (leq : S → S → Bool) (table : Lis
   call_comes (Err e) place z n i q s a done enters ends is = is
 
   -- main's body is that of the program
-  pub main_ends : {E : Type 0} (x : Result (code.Followed S) E) (none leaving : List S) (k : ℕ) (r : Routine) (c : Code) (frame : Frame) (a : S) → length program ≡ suc k → slice_get program k ≡ Some r → frame ≡ record { place = k; sites = [] } → c ≡ r.code → a ≡ dom.init r.layout → none ≡ [] → IfOk x (λ x. after none (followed_in dom leq table program frame.place frame.sites c a) ≡ ended leaving x) → IfOk x (EndsSo (followed_program dom leq (state_at table) program))
+  pub main_ends : {E : Type 0} (x : Result (code.Followed S) E) (none leaving : List S) (k : ℕ) (r : Routine) (c : Code) (frame : CallFrame) (a : S) → length program ≡ suc k → slice_get program k ≡ Some r → frame ≡ record { place = k; sites = [] } → c ≡ r.code → a ≡ dom.init r.layout → none ≡ [] → IfOk x (λ x. with_leaving none (followed_in dom leq table program frame.place frame.sites c a) ≡ ended leaving x) → IfOk x (EndsSo (followed_program dom leq (state_at table) program))
   main_ends (Err e) none leaving k r c frame a l g f b i o h = h
   main_ends (Ok x) none leaving k r c frame a l g f b i o h =
       let all : reverse program ≡ r ∷ earlier program k = sym (whole program k l) ∙ standing program k r g in (
@@ -215,6 +215,6 @@ module _ {S : Type 0} (dom : Operations S) (leq : S → S → Bool) (table : Lis
         ap (λ ps. followed_last dom leq (state_at table) ps (dom.init (main_layout ps))) all
             ∙ sym (λ j. followed_in dom leq table program (f j).place (f j).sites (b j) (i j))
             ∙ sym (after_none (followed_in dom leq table program frame.place frame.sites c a))
-            ∙ ap (λ xs. after xs (followed_in dom leq table program frame.place frame.sites c a)) (sym o)
+            ∙ ap (λ xs. with_leaving xs (followed_in dom leq table program frame.place frame.sites c a)) (sym o)
             ∙ h,
       )

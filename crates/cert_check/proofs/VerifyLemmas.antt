@@ -5,10 +5,10 @@ use Rattle.imp_slots.specs.Plain.{Routine}
 use Rattle.imp_slots.specs.Fits.{IsChecked}
 use Rattle.concrete_sem.specs.Values.{Variables, Heap}
 use Rattle.domain_laws.specs.Operations.{Operations}
-use Rattle.script_loop.specs.Lines.{all_lines}
+use Rattle.serve_script.specs.Lines.{all_lines}
 use Rattle.cert_meaning.specs.Portable.{Portable}
 use Rattle.cert_meaning.specs.Followed.{followed_program}
-use Rattle.cert_lines.specs.Lines.{Entry, Reads, entries}
+use Rattle.cert_lines.specs.Lines.{CertEntry, Reads, entries}
 use Rattle.cert_lines.specs.Verify as plain
 use Rattle.cert_lines.specs.Verify.{of_followed, of_entries, verify, verified_line}
 use Rattle.cert_lines.specs.Theorem.{IsYesSound}
@@ -19,7 +19,7 @@ use Rattle.cert_check.specs.declared.verified.Verified.{Verified}
 use Rattle.cert_check.proofs.LineLemmas.{yes_alone}
 
 -- where all lines are read, following with their states is what checking comes to
-pub verified_read : {S E : Type 0} (dom : Operations S) (port : Portable S) (program : List Routine) (cert : List ℕ) (r : Result Verified E) (table : List (List ℕ × S)) (es : List (Entry S)) → entries port program 1 [] (all_lines cert) ≡ Reads es → HasEntries table es → IfOk r (λ v. verified_of v ≡ of_followed (followed_program dom port.leq (state_at table) program)) → IfOk r (λ v. verified_of v ≡ verify dom port program cert)
+pub verified_read : {S E : Type 0} (dom : Operations S) (port : Portable S) (program : List Routine) (cert : List ℕ) (r : Result Verified E) (table : List (List ℕ × S)) (es : List (CertEntry S)) → entries port program 1 [] (all_lines cert) ≡ Reads es → HasEntries table es → IfOk r (λ v. verified_of v ≡ of_followed (followed_program dom port.leq (state_at table) program)) → IfOk r (λ v. verified_of v ≡ verify dom port program cert)
 unfolding verify
 verified_read dom port program cert (Err e) table es read has h = h
 verified_read dom port program cert (Ok v) table es read has h =

@@ -11,15 +11,15 @@ ghost use Rattle.cert_check.specs.Following.{ended, why_of, behind_by, turned};
 ghost use Rattle.cert_check.specs.declared.followed.Followed.TheVariants.{Behind};
 
 use crate::followed::{Followed, Follower, Why};
-use batch_interp::{Frame, behind_action, behind_break, joined_states};
+use base_counter::Steps;
+use base_values::{Items, Memory};
+use batch_interp::{CallFrame, behind_action, behind_break, joined_states};
+use cert_meaning::Portable;
 use cert_reading::{Written, loop_key};
 use imp_slots::{SlotAction, SlotCall, SlotCond};
 use imp_syntax::StmtId;
-use plain_values::{Items, Memory};
-use portable_states::Portable;
 use std::alloc::Global;
 use std::sync::ledger::Ledger;
-use step_counter::Steps;
 
 /// Behind a simple statement.
 pub(crate) fn act<D: Portable, L: Ledger>(
@@ -86,7 +86,12 @@ pub(crate) fn leave_call<D: Portable, L: Ledger>(
 }
 
 /// A loop whose written state does not do.
-pub(crate) fn fail<S>(alloc: Global, frame: &Frame, n: u32, why: Why) -> Result<Followed<S>, Memory>
+pub(crate) fn fail<S>(
+    alloc: Global,
+    frame: &CallFrame,
+    n: u32,
+    why: Why,
+) -> Result<Followed<S>, Memory>
     ensures is { IfOk result (λ r. ended [] r ≡ plain.Fails n frame.now.sites (why_of why)) }
 {
     Ok(Followed::Fails {
@@ -100,7 +105,7 @@ pub(crate) fn fail<S>(alloc: Global, frame: &Frame, n: u32, why: Why) -> Result<
 pub(crate) fn head_of<'a, S: Drop>(
     alloc: Global,
     written: &'a Written<S>,
-    frame: &Frame,
+    frame: &CallFrame,
     n: u32,
 ) -> Result<Option<&'a S>, Memory>
     ensures is { IfOk result (λ o. option_copied o ≡ state_at written.now frame.now.sites n) }

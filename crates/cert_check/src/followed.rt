@@ -1,6 +1,6 @@
 //! What following a block is lent, and what it comes to.
 
-use batch_interp::Frame;
+use batch_interp::CallFrame;
 use cert_reading::Written;
 use imp_slots::Routine;
 use imp_syntax::{Chain, StmtId};
@@ -13,7 +13,7 @@ pub(crate) struct Follower<'a, D, S> {
     pub(crate) dom: &'a D,
     pub(crate) routines: &'a [Routine],
     pub(crate) written: &'a Written<S>,
-    pub(crate) frame: &'a Frame,
+    pub(crate) frame: &'a CallFrame,
 }
 
 /// Why what is written of a loop does not do.

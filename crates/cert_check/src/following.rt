@@ -3,21 +3,21 @@ ghost use Rattle.std.specs.Prelude.{◌≡◌, ◌<◌, [], length, take, slice_
 ghost use Rattle.std.specs.Option.{option_copied};
 ghost use Rattle.imp_slots.specs.Plain.{Stop, If, While, Call};
 ghost use Rattle.imp_slots.specs.BlockViews.{before_code};
-ghost use Rattle.cert_meaning.specs.Followed.{after, followed_program};
+ghost use Rattle.cert_meaning.specs.Followed.{with_leaving, followed_program};
 ghost use Rattle.cert_reading.specs.Table.{state_at};
 ghost use Rattle.cert_check.specs.Following.{ended, calls_in, followed_in, round, EndsSo};
 ghost use Rattle.cert_check.specs.declared.followed.Followed.TheVariants.{Behind};
 
 use crate::behind::{act, end_round, fail, head_of, join_blocks, leave_call, leave_loop};
 use crate::followed::{Followed, Follower, Why};
-use batch_interp::Frame;
+use base_counter::Steps;
+use base_values::{Items, Memory};
+use batch_interp::CallFrame;
+use cert_meaning::Portable;
 use cert_reading::Written;
 use imp_slots::{Routine, SlotBlock, SlotCall, SlotCond, SlotNode};
-use plain_values::{Items, Memory};
-use portable_states::Portable;
 use std::alloc::Global;
 use std::sync::ledger::Ledger;
-use step_counter::Steps;
 
 /// A block: the state behind it, or the first loop whose written state does not do. The states in front of
 /// breaks that leave the loop around it are added to `leaving`.
@@ -30,7 +30,7 @@ fn follow_block<D: Portable, L: Ledger>(
     leaving: &mut Items<D::State>,
     steps: &mut Steps<L>,
 ) -> Result<Followed<D::State>, Memory>
-    ensures is { IfOk result (λ r. after leaving.old (followed_in (D.operations follower.now.dom.now) (D.port follower.now.dom.now).leq follower.now.written.now follower.now.routines.now follower.now.frame.now.place follower.now.frame.now.sites block.now state) ≡ ended leaving.new r) }
+    ensures is { IfOk result (λ r. with_leaving leaving.old (followed_in (D.operations follower.now.dom.now) (D.port follower.now.dom.now).leq follower.now.written.now follower.now.routines.now follower.now.frame.now.place follower.now.frame.now.sites block.now state) ≡ ended leaving.new r) }
 {
     let mut now = state;
     for node in block.statements() {
@@ -51,7 +51,7 @@ fn follow_node<D: Portable, L: Ledger>(
     leaving: &mut Items<D::State>,
     steps: &mut Steps<L>,
 ) -> Result<Followed<D::State>, Memory>
-    ensures is { IfOk result (λ r. after leaving.old (followed_in (D.operations follower.now.dom.now) (D.port follower.now.dom.now).leq follower.now.written.now follower.now.routines.now follower.now.frame.now.place follower.now.frame.now.sites (before_code node.now Stop) state.now) ≡ ended leaving.new r) }
+    ensures is { IfOk result (λ r. with_leaving leaving.old (followed_in (D.operations follower.now.dom.now) (D.port follower.now.dom.now).leq follower.now.written.now follower.now.routines.now follower.now.frame.now.place follower.now.frame.now.sites (before_code node.now Stop) state.now) ≡ ended leaving.new r) }
 {
     match node {
         SlotNode::Simple(_, action) => act(follower.alloc, follower.dom, action, state, steps),
@@ -75,7 +75,7 @@ fn follow_branch<D: Portable, L: Ledger>(
     leaving: &mut Items<D::State>,
     steps: &mut Steps<L>,
 ) -> Result<Followed<D::State>, Memory>
-    ensures is { IfOk result (λ r. after leaving.old (followed_in (D.operations follower.now.dom.now) (D.port follower.now.dom.now).leq follower.now.written.now follower.now.routines.now follower.now.frame.now.place follower.now.frame.now.sites block.now ((D.operations follower.now.dom.now).assume cond.now sense state.now)) ≡ ended leaving.new r) }
+    ensures is { IfOk result (λ r. with_leaving leaving.old (followed_in (D.operations follower.now.dom.now) (D.port follower.now.dom.now).leq follower.now.written.now follower.now.routines.now follower.now.frame.now.place follower.now.frame.now.sites block.now ((D.operations follower.now.dom.now).assume cond.now sense state.now)) ≡ ended leaving.new r) }
 {
     let inside = follower
         .dom
@@ -94,7 +94,7 @@ fn follow_if<D: Portable, L: Ledger>(
     leaving: &mut Items<D::State>,
     steps: &mut Steps<L>,
 ) -> Result<Followed<D::State>, Memory>
-    ensures is { IfOk result (λ r. after leaving.old (followed_in (D.operations follower.now.dom.now) (D.port follower.now.dom.now).leq follower.now.written.now follower.now.routines.now follower.now.frame.now.place follower.now.frame.now.sites (If 0 cond.now then.now els.now Stop) state.now) ≡ ended leaving.new r) }
+    ensures is { IfOk result (λ r. with_leaving leaving.old (followed_in (D.operations follower.now.dom.now) (D.port follower.now.dom.now).leq follower.now.written.now follower.now.routines.now follower.now.frame.now.place follower.now.frame.now.sites (If 0 cond.now then.now els.now Stop) state.now) ≡ ended leaving.new r) }
 {
     let left = match follow_branch(follower, cond, true, then, state, leaving, steps)? {
         Followed::Behind(left) => left,
@@ -214,7 +214,7 @@ pub(crate) fn follow_main<D: Portable, L: Ledger>(
     requires some { 0 < length routines.now }
     ensures is { IfOk result (EndsSo (followed_program (D.operations dom.now) (D.port dom.now).leq (state_at written.now) routines.now)) }
 {
-    let frame = Frame::main(alloc, routines);
+    let frame = CallFrame::main(alloc, routines);
     let main = &routines[frame.place];
     let first = dom.init(alloc, main.layout(), steps)?;
     let mut leaving = Items::new(alloc);

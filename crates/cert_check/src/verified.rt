@@ -7,8 +7,8 @@ ghost use Rattle.cert_check.specs.Following.{why_of};
 ghost use Rattle.cert_check.specs.Verified.{verified_of};
 
 use crate::followed::Why;
+use base_values::Memory;
 use imp_syntax::{Chain, StmtId};
-use plain_values::Memory;
 use request_json::{put_ids, put_number, put_quoted};
 use std::alloc::Global;
 

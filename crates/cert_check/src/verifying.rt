@@ -13,15 +13,15 @@ ghost use Rattle.cert_check.specs.Verified.{verified_of, CoversRuns};
 use crate::followed::Followed;
 use crate::following::follow_main;
 use crate::verified::{Verified, verified_line};
+use base_counter::Steps;
+use base_values::Memory;
 use cert_accepted::{certificates_are_accepted, checked_programs_have_lines};
 use cert_lines::a_yes_is_sound;
+use cert_meaning::Portable;
 use cert_reading::{Lines, Written, read_certificate};
-use plain_values::Memory;
-use portable_states::Portable;
-use program_table::Checked;
+use imp_table::Checked;
 use std::alloc::Global;
 use std::sync::ledger::Ledger;
-use step_counter::Steps;
 
 /// What following main's body with these states comes to.
 fn verify_written<D: Portable, L: Ledger>(

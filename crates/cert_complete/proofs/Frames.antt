@@ -5,14 +5,14 @@ use Rattle.imp_syntax.specs.declared.edit.Location.TheVariants.{Head}
 use Rattle.imp_slots.specs.Plain.{Layout, Invoke, Routine}
 use Rattle.imp_slots.specs.Fits.{IsChecked}
 use Rattle.concrete_sem.specs.Values.{Variables, Heap}
-use Rattle.program_chains.specs.Marks.{marks}
-use Rattle.program_chains.specs.Claims.{MarksRise, PlacesAreFound}
+use Rattle.imp_chains.specs.Thresholds.{thresholds}
+use Rattle.imp_chains.specs.Claims.{ThresholdsRise, PlacesAreFound}
 use Rattle.domain_laws.specs.Operations.{Operations}
 use Rattle.domain_laws.specs.Laws.{Laws}
-use Rattle.plain_values.proofs.Cases.{by_test}
-use Rattle.plain_values.proofs.Members.{Member, key_member}
+use Rattle.base_values.proofs.Cases.{by_test}
+use Rattle.base_values.proofs.Members.{Member, key_member}
 use Rattle.batch_meaning.specs.Values.{Value, State, Over, lift}
-use Rattle.batch_meaning.specs.Batch.{Engine, calls_of}
+use Rattle.batch_meaning.specs.Batch.{LoopOptions, calls_of}
 use Rattle.batch_meaning.specs.Places.{Spot, spots, find, from, if_some, head_value, value_in, entered, main_layout, entry, value_at}
 use Rattle.batch_meaning.proofs.Places.{found_member, keys_numbers}
 use Rattle.batch_meaning.proofs.Procedures.{look_get, FitBack, fit_back, fit_back_from}
@@ -31,7 +31,7 @@ in_program_from program [] q i = i
 in_program_from program (r ∷ earlier) q i =
     by_test q (length earlier) (λ c. InProgram program (if c then r ∷ earlier else from earlier q)) (λ k. i) (λ k. in_program_from program earlier q (earlier_in program r earlier i))
 
-module _ {S : Type 0} (dom : Operations S) (engine : Engine) (covers : S → Heap → List Variables → Type 0) (laws : Laws dom covers) (rises : MarksRise) (places : PlacesAreFound) (program : List Routine) (checked : IsChecked program) where
+module _ {S : Type 0} (dom : Operations S) (engine : LoopOptions) (covers : S → Heap → List Variables → Type 0) (laws : Laws dom covers) (rises : ThresholdsRise) (places : PlacesAreFound) (program : List Routine) (checked : IsChecked program) where
   abbrev Good : Value S → List Layout → Type 0
   Good = Fit dom engine covers laws
 
@@ -50,23 +50,23 @@ module _ {S : Type 0} (dom : Operations S) (engine : Engine) (covers : S → Hea
 
   module _ (z : List ℕ) (r : Routine) (earlier : List Routine) (v : Value S) (x : IsEntered z (r ∷ earlier) v) where
     abbrev Spots : List (ℕ × Spot S)
-    Spots = spots dom engine (marks engine.widening r) z (calls_of dom engine earlier z) r.code v
+    Spots = spots dom engine (thresholds engine.widening r) z (calls_of dom engine earlier z) r.code v
 
     abbrev Fits : ℕ × Spot S → Type 0
     Fits =
-        SpotFit dom engine covers laws (marks engine.widening r) (rises engine.widening (reverse earlier) r x.back.0) z (calls_of dom engine earlier z) (reverse earlier) r.layout (layouts_around program z)
+        SpotFit dom engine covers laws (thresholds engine.widening r) (rises engine.widening (reverse earlier) r x.back.0) z (calls_of dom engine earlier z) (reverse earlier) r.layout (layouts_around program z)
         (λ n q c v g f. procedure_fit dom engine covers laws rises earlier (n ∷ z) q c (r.layout ∷ layouts_around program z) v (look_get earlier q ∙ g) x.back.1 f)
 
     fits_here : (n : ℕ) (s : Spot S) → find n Spots ≡ Some s → Fits (n, s)
     fits_here n s e =
-        (spots_fit dom engine covers laws (marks engine.widening r) (rises engine.widening (reverse earlier) r x.back.0) z (calls_of dom engine earlier z) (reverse earlier) r.layout (layouts_around program z)
+        (spots_fit dom engine covers laws (thresholds engine.widening r) (rises engine.widening (reverse earlier) r x.back.0) z (calls_of dom engine earlier z) (reverse earlier) r.layout (layouts_around program z)
         (λ n q c v g f. procedure_fit dom engine covers laws rises earlier (n ∷ z) q c (r.layout ∷ layouts_around program z) v (look_get earlier q ∙ g) x.back.1 f)
         r.code v x.back.0 (x.fine r earlier refl)).at (n, s) (found_member n s Spots e)
 
     own_layout : (n : ℕ) (s : Spot S) → find n Spots ≡ Some s → layout_around program n ≡ r.layout
     own_layout n s e =
         are_of program checked places (length earlier) r (x.inp (length earlier) r (last_at r earlier)) n
-        (subst (Member n) (keys_numbers dom engine (marks engine.widening r) z (calls_of dom engine earlier z) r.code v) (key_member (n, s) Spots (found_member n s Spots e)))
+        (subst (Member n) (keys_numbers dom engine (thresholds engine.widening r) z (calls_of dom engine earlier z) r.code v) (key_member (n, s) Spots (found_member n s Spots e)))
 
     around : (n : ℕ) (s : Spot S) → find n Spots ≡ Some s → layouts_around program (n ∷ z) ≡ r.layout ∷ layouts_around program z
     around n s e = ap (λ l. l ∷ layouts_around program z) (own_layout n s e)
@@ -112,5 +112,5 @@ module _ {S : Type 0} (dom : Operations S) (engine : Engine) (covers : S → Hea
       let t = then_inv (entry dom engine (reverse program) z) (λ x. value_in dom engine x.0 z x.1 (Head n)) (State s) e in
       subst (λ x. dom.fits x (layouts_around program (n ∷ z)) ≡ true) (same_Some s x k) (value_fits z t.value (entered_at z t.value t.was) n (State s) t.gives)
 
-pub heads_fit : {S : Type 0} (dom : Operations S) (covers : S → Heap → List Variables → Type 0) → Laws dom covers → MarksRise → PlacesAreFound → HeadsAreOfFrames dom
+pub heads_fit : {S : Type 0} (dom : Operations S) (covers : S → Heap → List Variables → Type 0) → Laws dom covers → ThresholdsRise → PlacesAreFound → HeadsAreOfFrames dom
 heads_fit dom covers laws rises places engine program checked z n x k = state_fits dom engine covers laws rises places program checked z n x (value_at dom engine program (Head n) z) refl k

@@ -1,16 +1,16 @@
 -- What has a head is a loop.
 use Rattle.std.specs.Prelude.{◌≡◌, ℕ, ℤ, List, Some}
-use Rattle.plain_values.proofs.Members.{Member, here, there, in_left, in_right, Each, none_there, each_more, each_both, each_as}
+use Rattle.base_values.proofs.Members.{Member, here, there, in_left, in_right, Each, none_there, each_more, each_both, each_as}
 use Rattle.imp_slots.specs.Plain.{Code, Stop, Simple, If, While, Call, Break}
 use Rattle.domain_laws.specs.Operations.{Operations}
 use Rattle.batch_meaning.specs.Values.{Value}
-use Rattle.batch_meaning.specs.Batch.{Engine, Fixed}
+use Rattle.batch_meaning.specs.Batch.{LoopOptions, Fixed}
 use Rattle.batch_meaning.specs.Places.{Spot, spots}
 use Rattle.cert_meaning.specs.Written.{loops}
 
-module _ {S : Type 0} (dom : Operations S) (engine : Engine) (marks : List ℤ) (z : List ℕ) (calls : ℕ → ℕ → Value S → Value S) where
+module _ {S : Type 0} (dom : Operations S) (engine : LoopOptions) (thresholds : List ℤ) (z : List ℕ) (calls : ℕ → ℕ → Value S → Value S) where
   abbrev all : Code → Value S → List (ℕ × Spot S)
-  all = spots dom engine marks z calls
+  all = spots dom engine thresholds z calls
 
   -- a statement with a head is among the loops
   abbrev IsLoop : Code → ℕ × Spot S → Type 0

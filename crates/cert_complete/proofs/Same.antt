@@ -5,15 +5,15 @@ use Rattle.imp_syntax.specs.declared.edit.Location.TheVariants.{Head}
 use Rattle.imp_slots.specs.Plain.{Layout, Guard, DoBreak, Does, Invoke, Code, Stop, Simple, If, While, Call, Break, Routine}
 use Rattle.imp_slots.specs.Fits.{FitsCode, Distinct, IsChecked}
 use Rattle.concrete_sem.specs.Values.{Variables, Heap}
-use Rattle.program_chains.specs.Chains.{chains}
-use Rattle.program_chains.specs.Marks.{marks}
-use Rattle.program_chains.specs.Claims.{MarksRise, ChainsAreThroughCallers, PlacesAreFound}
+use Rattle.imp_chains.specs.Chains.{chains}
+use Rattle.imp_chains.specs.Thresholds.{thresholds}
+use Rattle.imp_chains.specs.Claims.{ThresholdsRise, ChainsAreThroughCallers, PlacesAreFound}
 use Rattle.domain_laws.specs.Operations.{Operations}
 use Rattle.domain_laws.specs.Laws.{Laws}
-use Rattle.plain_values.proofs.Cases.{by_test}
-use Rattle.plain_values.proofs.Members.{Member, here, there, in_left, in_right, contains_of}
+use Rattle.base_values.proofs.Cases.{by_test}
+use Rattle.base_values.proofs.Members.{Member, here, there, in_left, in_right, contains_of}
 use Rattle.batch_meaning.specs.Values.{Value, State, Over, lift, lift2}
-use Rattle.batch_meaning.specs.Batch.{Engine, Passed, Fixed, joined as joined_values, head_of, behind, batch, procedure, calls_of}
+use Rattle.batch_meaning.specs.Batch.{LoopOptions, Passed, Fixed, joined as joined_values, head_of, behind, batch, procedure, calls_of}
 use Rattle.batch_meaning.specs.Places.{Spot, spot, spots, find, from, if_some, head_value, value_in, entered, entry, value_at}
 use Rattle.batch_meaning.proofs.Procedures.{look, look_get, look_below, from_look, from_place, FitBack}
 use Rattle.batch_meaning.proofs.Places.{found, keys_numbers, are_calls}
@@ -21,7 +21,7 @@ use Rattle.batch_sound.proofs.Values.{Fit, fit_assume, fit_joined}
 use Rattle.batch_sound.proofs.Chains.{in_extended, in_through, once_in}
 use Rattle.batch_sound.proofs.Fitting.{callee, FitPassed, block_fit, procedure_fit}
 use Rattle.cert_meaning.specs.Portable.{HasUpperBounds}
-use Rattle.cert_meaning.specs.Followed.{Missing, Entry, Step, Followed, Passes, Fails, passing, after, unless, where_written, joined, followed, followed_procedure}
+use Rattle.cert_meaning.specs.Followed.{Missing, Entry, Step, Followed, Passes, Fails, passing, with_leaving, unless, where_written, joined, followed, followed_procedure}
 use Rattle.cert_meaning.specs.Written.{loops, state_in}
 use Rattle.cert_sound.proofs.Fitting.{InProgram, earlier_in, last_at}
 use Rattle.cert_complete.specs.Theorem.{IsLoopUnder, HasNoOver, AreHeads}
@@ -45,7 +45,7 @@ pub record SameCall {S : Type 0} (v : Value S) (f : Followed S) : Type 0 where
   pub value : v ≡ State ahead
   pub follows : f ≡ Passes ahead leaving
 
-module _ {S : Type 0} (dom : Operations S) (engine : Engine) (covers : S → Heap → List Variables → Type 0) (laws : Laws dom covers) (leq : S → S → Bool) (bounds : HasUpperBounds dom leq) (rises : MarksRise) (places : PlacesAreFound) (callers : ChainsAreThroughCallers) (program : List Routine) (checked : IsChecked program) (no_over : HasNoOver dom engine program) (written : List ℕ → ℕ → Option S) (are_heads : AreHeads dom engine program written) where
+module _ {S : Type 0} (dom : Operations S) (engine : LoopOptions) (covers : S → Heap → List Variables → Type 0) (laws : Laws dom covers) (leq : S → S → Bool) (bounds : HasUpperBounds dom leq) (rises : ThresholdsRise) (places : PlacesAreFound) (callers : ChainsAreThroughCallers) (program : List Routine) (checked : IsChecked program) (no_over : HasNoOver dom engine program) (written : List ℕ → ℕ → Option S) (are_heads : AreHeads dom engine program written) where
   abbrev Good : Value S → List Layout → Type 0
   Good = Fit dom engine covers laws
 
@@ -78,13 +78,13 @@ module _ {S : Type 0} (dom : Operations S) (engine : Engine) (covers : S → Hea
     layouts = f.routine.layout ∷ f.lower
 
     abbrev B : Code → Value S → Passed S
-    B = batch dom engine (marks engine.widening f.routine) f.z (calls_of dom engine f.earlier f.z)
+    B = batch dom engine (thresholds engine.widening f.routine) f.z (calls_of dom engine f.earlier f.z)
 
     abbrev F : Code → S → Followed S
     F = followed dom leq written f.z (λ n. followed_procedure dom leq written f.earlier (n ∷ f.z))
 
     abbrev Spots : Code → Value S → List (ℕ × Spot S)
-    Spots = spots dom engine (marks engine.widening f.routine) f.z (calls_of dom engine f.earlier f.z)
+    Spots = spots dom engine (thresholds engine.widening f.routine) f.z (calls_of dom engine f.earlier f.z)
 
     abbrev At : ℕ → Spot S → Type 0
     At n x = Member (n, x) (Spots f.routine.code (State f.first))
@@ -102,7 +102,7 @@ module _ {S : Type 0} (dom : Operations S) (engine : Engine) (covers : S → Hea
     at_number : (n : ℕ) (x : Spot S) → At n x → find n (Spots f.routine.code (State f.first)) ≡ Some x
     at_number n x at =
         found (n, x) _
-        (subst Distinct (sym (keys_numbers dom engine (marks engine.widening f.routine) f.z (calls_of dom engine f.earlier f.z) f.routine.code (State f.first)))
+        (subst Distinct (sym (keys_numbers dom engine (thresholds engine.widening f.routine) f.z (calls_of dom engine f.earlier f.z) f.routine.code (State f.first)))
         (once_in program (length f.earlier) f.routine checked.numbers_once place_get)) at
 
     head_at : (n : ℕ) (x : Spot S) (h : Fixed S) → At n x → x.head ≡ Some h → value_at dom engine program (Head n) f.z ≡ Some h.value
@@ -118,7 +118,7 @@ module _ {S : Type 0} (dom : Operations S) (engine : Engine) (covers : S → Hea
     loop_here : (n : ℕ) (x : Spot S) (h : Fixed S) → At n x → x.head ≡ Some h → IsLoopUnder program (length f.earlier) n f.z
     loop_here n x h at e = record {
       loop =
-          let among = contains_of n (loops f.routine.code) ((are_loops dom engine (marks engine.widening f.routine) f.z (calls_of dom engine f.earlier f.z) f.routine.code (State f.first)).at (n, x) at h e) in
+          let among = contains_of n (loops f.routine.code) ((are_loops dom engine (thresholds engine.widening f.routine) f.z (calls_of dom engine f.earlier f.z) f.routine.code (State f.first)).at (n, x) at h e) in
           subst (λ o. MatchOption o ⊥ (λ (r : Routine). Contains (loops r.code) n)) (sym place_get) among;
       chain = contains_of f.z _ met.chain;
     }
@@ -132,7 +132,7 @@ module _ {S : Type 0} (dom : Operations S) (engine : Engine) (covers : S → Hea
 
     fit_block : (c : Code) (v : Value S) → FitsCode (reverse f.earlier) f.routine.layout c → Good v layouts → FitPassed dom engine covers laws layouts (B c v)
     fit_block c v suits fv =
-        block_fit dom engine covers laws (marks engine.widening f.routine) (rises engine.widening (reverse f.earlier) f.routine met.back.0) f.z (calls_of dom engine f.earlier f.z) (reverse f.earlier) f.routine.layout f.lower keep c v suits fv
+        block_fit dom engine covers laws (thresholds engine.widening f.routine) (rises engine.widening (reverse f.earlier) f.routine met.back.0) f.z (calls_of dom engine f.earlier f.z) (reverse f.earlier) f.routine.layout f.lower keep c v suits fv
 
     fits_of : (v : Value S) (s : S) → v ≡ State s → Good v layouts → dom.fits s layouts ≡ true
     fits_of v s e g = subst (λ v. Good v layouts) e g
@@ -149,13 +149,13 @@ module _ {S : Type 0} (dom : Operations S) (engine : Engine) (covers : S → Hea
           value = ap (λ u. (B r u).value) ends ∙ w.value;
           leaves = (λ i. (one.leaves i ++ two.leaves i) ++ (B r (ends i)).leaving) ∙ (λ i. sym (map-append State one.leaving two.leaving) i ++ w.leaves i) ∙ sym (map-append State (one.leaving ++ two.leaving) w.leaving);
           follows =
-              ap (λ k. passing k (λ x xs. passing (F e (dom.assume g false v)) (λ y ys. after (xs ++ ys) (F r (dom.join x y))))) one.follows ∙
-              ap (λ k. passing k (λ y ys. after (one.leaving ++ ys) (F r (dom.join x y)))) two.follows ∙ ap (after (one.leaving ++ two.leaving)) w.follows;
+              ap (λ k. passing k (λ x xs. passing (F e (dom.assume g false v)) (λ y ys. with_leaving (xs ++ ys) (F r (dom.join x y))))) one.follows ∙
+              ap (λ k. passing k (λ y ys. with_leaving (one.leaving ++ ys) (F r (dom.join x y)))) two.follows ∙ ap (with_leaving (one.leaving ++ two.leaving)) w.follows;
         }
 
     while_same : (n : ℕ) (g : Guard) (b r : Code) (v : S) → FitsCode (reverse f.earlier) f.routine.layout (While n g b r) → dom.fits v layouts ≡ true → Sub (While n g b r) (State v) → ((x : S) → Sub b (State x) → dom.fits x layouts ≡ true → Same (B b (State x)) (F b x)) → ((x : S) → Sub r (State x) → dom.fits x layouts ≡ true → Same (B r (State x)) (F r x)) → Same (B (While n g b r) (State v)) (F (While n g b r) v)
     while_same n g b r v suits fv sub round rest =
-        let m = marks engine.widening f.routine in
+        let m = thresholds engine.widening f.routine in
         let rising = rises engine.widening (reverse f.earlier) f.routine met.back.0 in
         let top = (head_of dom engine m f.z n g (B b) (State v)).value in
         let out = behind dom engine g (B b) top in
@@ -199,7 +199,7 @@ module _ {S : Type 0} (dom : Operations S) (engine : Engine) (covers : S → Hea
         (subst (Member (n ∷ f.z)) (sym (callers program checked q (omega arith)))
         (in_through (chains program) 0 program q (length f.earlier) f.routine (n ∷ f.z) place_get
         (in_extended n f.z _ _ (subst (λ p. Member f.z (chains program p)) (sym same) met.chain)
-        ((are_calls dom engine (marks engine.widening f.routine) f.z (calls_of dom engine f.earlier f.z) f.routine.code (State f.first)).at (n, spot (State v) None w (Some (i, q))) here_at (i, q) refl)))))
+        ((are_calls dom engine (thresholds engine.widening f.routine) f.z (calls_of dom engine f.earlier f.z) f.routine.code (State f.first)).at (n, spot (State v) None w (Some (i, q))) here_at (i, q) refl)))))
         (subst (λ l. dom.fits (dom.enter i.entering v) (l ∷ layouts) ≡ true) (sym lay) fe)
 
     call_same : (n : ℕ) (i : Invoke) (q : ℕ) (r : Code) (v : S) → FitsCode (reverse f.earlier) f.routine.layout (Call n i q r) → dom.fits v layouts ≡ true → Sub (Call n i q r) (State v) → ((x : S) → Sub r (State x) → dom.fits x layouts ≡ true → Same (B r (State x)) (F r x)) → Same (B (Call n i q r) (State v)) (F (Call n i q r) v)
@@ -240,7 +240,7 @@ module _ {S : Type 0} (dom : Operations S) (engine : Engine) (covers : S → Hea
     block_same (Call n i q r) v suits fv sub = call_same n i q r v suits fv sub (λ x s fx. block_same r x suits.1 fx s)
     block_same (Break n r) v suits fv sub =
         let w = block_same r (dom.post DoBreak v) suits (laws.fitting.post DoBreak f.routine.layout f.lower v refl fv) (sub_rest (Break n r) r _ _ sub (λ y. there)) in
-        record { ahead = w.ahead; leaving = v ∷ w.leaving; value = w.value; leaves = ap (λ vs. State v ∷ vs) w.leaves; follows = ap (after (v ∷ [])) w.follows }
+        record { ahead = w.ahead; leaving = v ∷ w.leaving; value = w.value; leaves = ap (λ vs. State v ∷ vs) w.leaves; follows = ap (with_leaving (v ∷ [])) w.follows }
 
     -- a procedure's body
     pub body_same : dom.fits f.first layouts ≡ true → Same (B f.routine.code (State f.first)) (F f.routine.code f.first)
@@ -251,11 +251,11 @@ module _ {S : Type 0} (dom : Operations S) (engine : Engine) (covers : S → Hea
   procedures_same (r ∷ earlier) fb inp z lower q t rest v e en ch fv =
       let inner = procedures_same earlier fb.1 (earlier_in program r earlier inp) in
       (by_test q (length earlier)
-      (λ c. (if c then r ∷ earlier else from earlier q) ≡ t ∷ rest → SameCall (if c then (batch dom engine (marks engine.widening r) z (calls_of dom engine earlier z) r.code (State v)).value else procedure dom engine earlier z q (State v)) (if c then followed dom leq written z (λ n. followed_procedure dom leq written earlier (n ∷ z)) r.code v else followed_procedure dom leq written earlier z q v))
+      (λ c. (if c then r ∷ earlier else from earlier q) ≡ t ∷ rest → SameCall (if c then (batch dom engine (thresholds engine.widening r) z (calls_of dom engine earlier z) r.code (State v)).value else procedure dom engine earlier z q (State v)) (if c then followed dom leq written z (λ n. followed_procedure dom leq written earlier (n ∷ z)) r.code v else followed_procedure dom leq written earlier z q v))
       (λ k e. body e inner)
       (λ k e. inner z lower q t rest v e en ch fv)) e
     where
-      body : r ∷ earlier ≡ t ∷ rest → CallsSame earlier → SameCall (batch dom engine (marks engine.widening r) z (calls_of dom engine earlier z) r.code (State v)).value (followed dom leq written z (λ n. followed_procedure dom leq written earlier (n ∷ z)) r.code v)
+      body : r ∷ earlier ≡ t ∷ rest → CallsSame earlier → SameCall (batch dom engine (thresholds engine.widening r) z (calls_of dom engine earlier z) r.code (State v)).value (followed dom leq written z (λ n. followed_procedure dom leq written earlier (n ∷ z)) r.code v)
       body e inner =
           let head : t ≡ r = cc in
           let tail : rest ≡ earlier = cc in

@@ -5,14 +5,14 @@ use Rattle.std.proofs.lemmas.List.{length-reverse}
 use Rattle.imp_slots.specs.Plain.{Routine}
 use Rattle.imp_slots.specs.Fits.{IsChecked}
 use Rattle.concrete_sem.specs.Values.{Variables, Heap}
-use Rattle.program_chains.specs.Chains.{chains, chains_within, through}
-use Rattle.program_chains.specs.Claims.{MarksRise, ChainsAreThroughCallers, PlacesAreFound}
+use Rattle.imp_chains.specs.Chains.{chains, chains_within, through}
+use Rattle.imp_chains.specs.Claims.{ThresholdsRise, ChainsAreThroughCallers, PlacesAreFound}
 use Rattle.domain_laws.specs.Operations.{Operations}
 use Rattle.domain_laws.specs.Laws.{Laws}
-use Rattle.plain_values.proofs.Cases.{by_test}
-use Rattle.plain_values.proofs.Members.{Member, here}
+use Rattle.base_values.proofs.Cases.{by_test}
+use Rattle.base_values.proofs.Members.{Member, here}
 use Rattle.batch_meaning.specs.Values.{State}
-use Rattle.batch_meaning.specs.Batch.{Engine}
+use Rattle.batch_meaning.specs.Batch.{LoopOptions}
 use Rattle.batch_meaning.specs.Places.{main_layout}
 use Rattle.batch_meaning.proofs.Procedures.{FitBack, fit_back}
 use Rattle.cert_meaning.specs.Portable.{HasUpperBounds}
@@ -27,8 +27,8 @@ main_chain : (program : List Routine) (most p : ℕ) → suc p ≡ length progra
 main_chain program most p e =
     by_test (suc p) (length program) (λ c. Member [] (if c then [] ∷ [] else through (chains_within most program) 0 program p)) (λ k. here) (λ k. absurd (k e))
 
-module _ {S : Type 0} (dom : Operations S) (covers : S → Heap → List Variables → Type 0) (laws : Laws dom covers) (rises : MarksRise) (places : PlacesAreFound) (callers : ChainsAreThroughCallers) (leq : S → S → Bool) (bounds : HasUpperBounds dom leq) where
-  passes_from : (engine : Engine) (program : List Routine) (written : List ℕ → ℕ → Option S) → IsChecked program → HasNoOver dom engine program → AreHeads dom engine program written → (bs : List Routine) → reverse program ≡ bs → DoesPass (followed_last dom leq written bs (dom.init (main_layout bs)))
+module _ {S : Type 0} (dom : Operations S) (covers : S → Heap → List Variables → Type 0) (laws : Laws dom covers) (rises : ThresholdsRise) (places : PlacesAreFound) (callers : ChainsAreThroughCallers) (leq : S → S → Bool) (bounds : HasUpperBounds dom leq) where
+  passes_from : (engine : LoopOptions) (program : List Routine) (written : List ℕ → ℕ → Option S) → IsChecked program → HasNoOver dom engine program → AreHeads dom engine program written → (bs : List Routine) → reverse program ≡ bs → DoesPass (followed_last dom leq written bs (dom.init (main_layout bs)))
   passes_from engine program written checked no_over are_heads [] e = tt
   passes_from engine program written checked no_over are_heads (r ∷ earlier) e =
       let n : length (reverse program) ≡ length program = length-reverse program in

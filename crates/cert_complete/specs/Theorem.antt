@@ -3,10 +3,10 @@ use Rattle.std.specs.Prelude.{◌≡◌, ℕ, List, slice_get, Option, Some, Boo
 use Rattle.imp_syntax.specs.declared.edit.Location.TheVariants.{Head}
 use Rattle.imp_slots.specs.Plain.{Routine}
 use Rattle.imp_slots.specs.Fits.{IsChecked}
-use Rattle.program_chains.specs.Chains.{chains}
+use Rattle.imp_chains.specs.Chains.{chains}
 use Rattle.domain_laws.specs.Operations.{Operations}
 use Rattle.batch_meaning.specs.Values.{Over}
-use Rattle.batch_meaning.specs.Batch.{Engine}
+use Rattle.batch_meaning.specs.Batch.{LoopOptions}
 use Rattle.batch_meaning.specs.Places.{value_at}
 use Rattle.cert_meaning.specs.Followed.{Followed, Passes, Fails, followed_program}
 use Rattle.cert_meaning.specs.Written.{loops, heads}
@@ -18,12 +18,12 @@ pub record IsLoopUnder (program : List Routine) (p n : ℕ) (z : List ℕ) : Typ
   pub chain : Contains (chains program p) z
 
 -- no loop used up its budget under a chain to its procedure
-abbrev pub HasNoOver : {S : Type 0} → Operations S → Engine → List Routine → Type 0
+abbrev pub HasNoOver : {S : Type 0} → Operations S → LoopOptions → List Routine → Type 0
 HasNoOver dom engine program =
     (p n : ℕ) (z : List ℕ) (m : ℕ) (y : List ℕ) → IsLoopUnder program p n z → value_at dom engine program (Head n) z ≡ Some (Over m y) → ⊥
 
 -- of each loop under each chain to its procedure the state at its head is written
-abbrev pub AreHeads : {S : Type 0} → Operations S → Engine → List Routine → (written : (z : List ℕ) → (n : ℕ) → Option S) → Type 0
+abbrev pub AreHeads : {S : Type 0} → Operations S → LoopOptions → List Routine → (written : (z : List ℕ) → (n : ℕ) → Option S) → Type 0
 AreHeads dom engine program written = (p n : ℕ) (z : List ℕ) → IsLoopUnder program p n z → written z n ≡ heads dom engine program z n
 
 abbrev pub DoesPass : {S : Type 0} → Followed S → Type 0
@@ -34,9 +34,9 @@ DoesPass (Fails n z why) = ⊥
 -- its loops finds nothing.
 abbrev pub CertificatesHold : {S : Type 0} → Operations S → (S → S → Bool) → Type 0
 CertificatesHold {S} dom leq =
-    (engine : Engine) (program : List Routine) (written : (z : List ℕ) → (n : ℕ) → Option S) → IsChecked program → HasNoOver dom engine program → AreHeads dom engine program written →
+    (engine : LoopOptions) (program : List Routine) (written : (z : List ℕ) → (n : ℕ) → Option S) → IsChecked program → HasNoOver dom engine program → AreHeads dom engine program written →
     DoesPass (followed_program dom leq written program)
 
 -- the states at the heads of loops are of the frames that stand there
 abbrev pub HeadsAreOfFrames : {S : Type 0} → Operations S → Type 0
-HeadsAreOfFrames dom = (engine : Engine) (program : List Routine) → IsChecked program → AreOfFrames dom program (heads dom engine program)
+HeadsAreOfFrames dom = (engine : LoopOptions) (program : List Routine) → IsChecked program → AreOfFrames dom program (heads dom engine program)

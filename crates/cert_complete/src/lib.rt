@@ -11,7 +11,7 @@ ghost use Rattle.cert_meaning.specs.Portable.{HasUpperBounds};
 ghost use Rattle.cert_complete.specs.Theorem.{CertificatesHold, HeadsAreOfFrames};
 
 use domain_laws::Domain;
-use program_chains::{chains_go_through_callers, marks_rise, places_are_found};
+use imp_chains::{chains_go_through_callers, places_are_found, thresholds_rise};
 
 /// Where no loop of a checked program used up its budget, following the program with the states that batch
 /// interpretation has at the heads of its loops finds nothing, whatever else is written. Joins and widenings are
@@ -19,7 +19,7 @@ use program_chains::{chains_go_through_callers, marks_rise, places_are_found};
 pub fn certificates_hold<D: Domain>()
     ensures hold { (d : D) (leq : D.State → D.State → Bool) → HasUpperBounds (D.operations d) leq → CertificatesHold (D.operations d) leq }
 {
-    marks_rise();
+    thresholds_rise();
     places_are_found();
     chains_go_through_callers();
 }
@@ -29,6 +29,6 @@ pub fn certificates_hold<D: Domain>()
 pub fn heads_are_of_frames<D: Domain>()
     ensures frames { (d : D) → HeadsAreOfFrames (D.operations d) }
 {
-    marks_rise();
+    thresholds_rise();
     places_are_found();
 }

@@ -1,8 +1,8 @@
 -- Chains turned round and back.
 use Rattle.std.proofs.Common.{◌≡◌, ℕ, List, [], map, reverse, ap, ◌∙◌}
 use Rattle.imp_slots.specs.Plain.{Routine}
-use Rattle.program_chains.specs.Chains.{chains, selected}
-use Rattle.plain_values.proofs.Lists.{all_back}
+use Rattle.imp_chains.specs.Chains.{chains, selected}
+use Rattle.base_values.proofs.Lists.{all_back}
 use Rattle.batch_sound.proofs.Chains.{every_ends}
 
 -- the chains to a procedure that the empty string selects, with the outermost call first, are all of them

@@ -5,10 +5,10 @@ use Rattle.serde_json.specs.Data.{Data, string}
 use Rattle.serde_json.specs.Written.{compact_text}
 use Rattle.request_json.specs.Replies.{object_of, count, list_of}
 use Rattle.imp_slots.specs.Plain.{Routine}
-use Rattle.program_chains.specs.Chains.{chains}
+use Rattle.imp_chains.specs.Chains.{chains}
 use Rattle.domain_laws.specs.Operations.{Operations}
 use Rattle.batch_meaning.specs.Values.{Value, State, Over}
-use Rattle.batch_meaning.specs.Batch.{Engine}
+use Rattle.batch_meaning.specs.Batch.{LoopOptions}
 use Rattle.batch_meaning.specs.Places.{value_at}
 use Rattle.cert_meaning.specs.Portable.{Portable}
 use Rattle.cert_meaning.specs.Written.{loops}
@@ -36,7 +36,7 @@ abbrev pub in_front : Data → Certificate → Certificate
 in_front d (Lines ds) = Lines (d ∷ ds)
 in_front d (Gives n z) = Gives n z
 
-module _ {S : Type 0} (dom : Operations S) (port : Portable S) (engine : Engine) (program : List Routine) where
+module _ {S : Type 0} (dom : Operations S) (port : Portable S) (engine : LoopOptions) (program : List Routine) where
   -- a loop under a chain, with its state
   abbrev pub state_data : (z : List ℕ) → (n : ℕ) → S → Data
   state_data z n s = object_of ((codes "at", count n) ∷ (codes "chain", list_of count (reverse z)) ∷ (codes "state", string (port.put s)) ∷ [])

@@ -1,7 +1,7 @@
 -- What a yes says of runs.
 use Rattle.std.specs.Prelude.{◌≡◌, ℕ, List, [], ◌∷◌, reverse, Some, Contains}
 use Rattle.imp_syntax.specs.declared.edit.Location.TheVariants.{Head}
-use Rattle.script_loop.specs.Lines.{all_lines}
+use Rattle.serve_script.specs.Lines.{all_lines}
 use Rattle.imp_slots.specs.Plain.{Routine}
 use Rattle.imp_slots.specs.Fits.{IsChecked}
 use Rattle.concrete_sem.specs.Values.{Variables, Heap}

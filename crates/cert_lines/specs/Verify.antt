@@ -3,7 +3,7 @@ use Rattle.std.specs.Prelude.{ℕ, List, [], ◌∷◌, ◌++◌, reverse, codes
 use Rattle.serde_json.specs.Data.{Data, string}
 use Rattle.serde_json.specs.Written.{compact_text}
 use Rattle.request_json.specs.Replies.{object_of, count, list_of}
-use Rattle.script_loop.specs.Lines.{all_lines}
+use Rattle.serve_script.specs.Lines.{all_lines}
 use Rattle.imp_slots.specs.Plain.{Routine}
 use Rattle.domain_laws.specs.Operations.{Operations}
 use Rattle.cert_meaning.specs.Portable.{Portable}

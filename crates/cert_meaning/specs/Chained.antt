@@ -2,7 +2,7 @@
 use Rattle.std.specs.Prelude.{ℕ, List, map, slice_get, Option, Some, None}
 use Rattle.imp_slots.specs.Plain.{Layout, Routine}
 use Rattle.concrete_sem.specs.WellFormed.{layout_at}
-use Rattle.program_chains.specs.Chains.{holder}
+use Rattle.imp_chains.specs.Chains.{holder}
 
 -- the layout of the p-th procedure, where there is one
 abbrev pub layout_of : List Routine → Option ℕ → Layout

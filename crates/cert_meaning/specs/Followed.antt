@@ -23,9 +23,9 @@ passing (Passes s ss) f = f s ss
 passing (Fails n z w) f = Fails n z w
 
 -- these states leave before the others
-abbrev pub after : {S : Type 0} → List S → Followed S → Followed S
-after xs (Passes s ss) = Passes s (xs ++ ss)
-after xs (Fails n z w) = Fails n z w
+abbrev pub with_leaving : {S : Type 0} → List S → Followed S → Followed S
+with_leaving xs (Passes s ss) = Passes s (xs ++ ss)
+with_leaving xs (Fails n z w) = Fails n z w
 
 -- a test that fails with this fault
 abbrev pub unless : {S : Type 0} → Bool → Followed S → Followed S → Followed S
@@ -53,14 +53,14 @@ module _ {S : Type 0} (dom : Operations S) (leq : S → S → Bool) (written : (
     followed (If n g t e r) a =
         passing (followed t (dom.assume g true a)) (λ x xs.
         passing (followed e (dom.assume g false a)) (λ y ys.
-        after (xs ++ ys) (followed r (dom.join x y))))
+        with_leaving (xs ++ ys) (followed r (dom.join x y))))
     followed (While n g b r) a =
         where_written (written z n) (Fails n z Missing) (λ x.
         unless (leq a x) (Fails n z Entry)
         (passing (followed b (dom.assume g true x)) (λ y ys.
         unless (leq y x) (Fails n z Step) (followed r (joined dom (dom.assume g false x) ys)))))
     followed (Call n i q r) a = passing (calls n q (dom.enter i.entering a)) (λ d ds. followed r (dom.leave i.returning a d))
-    followed (Break n r) a = after (a ∷ []) (followed r (dom.post DoBreak a))
+    followed (Break n r) a = with_leaving (a ∷ []) (followed r (dom.post DoBreak a))
 
   -- The body of procedure q, from the state in front of it. The procedures have the last one first, so those that one
   -- calls stand behind it.

@@ -3,7 +3,7 @@ use Rattle.std.specs.Prelude.{◌≡◌, ◌<◌, ◌^◌, ℕ, ℤ, List, lengt
 use Rattle.imp_slots.specs.Plain.{Layout}
 use Rattle.concrete_sem.specs.Values.{Variables, Heap}
 use Rattle.concrete_sem.specs.Proper.{IsProper}
-use Rattle.program_chains.specs.Marks.{IsRising}
+use Rattle.imp_chains.specs.Thresholds.{IsRising}
 use Rattle.domain_laws.specs.Operations.{Operations}
 
 pub record Portable (S : Type 0) : Type 0 where
@@ -33,5 +33,5 @@ pub record HasUpperBounds {S : Type 0} (dom : Operations S) (leq : S → S → B
   pub trans : (ls : List Layout) (s t u : S) → dom.fits s ls ≡ true → dom.fits t ls ≡ true → dom.fits u ls ≡ true → leq s t ≡ true → leq t u ≡ true → leq s u ≡ true
   pub join_left : (ls : List Layout) (s t : S) → dom.fits s ls ≡ true → dom.fits t ls ≡ true → leq s (dom.join s t) ≡ true
   pub join_right : (ls : List Layout) (s t : S) → dom.fits s ls ≡ true → dom.fits t ls ≡ true → leq t (dom.join s t) ≡ true
-  pub widen_left : (marks : List ℤ) (ls : List Layout) (s t : S) → IsRising marks → dom.fits s ls ≡ true → dom.fits t ls ≡ true → leq s (dom.widen marks s t) ≡ true
-  pub widen_right : (marks : List ℤ) (ls : List Layout) (s t : S) → IsRising marks → dom.fits s ls ≡ true → dom.fits t ls ≡ true → leq t (dom.widen marks s t) ≡ true
+  pub widen_left : (thresholds : List ℤ) (ls : List Layout) (s t : S) → IsRising thresholds → dom.fits s ls ≡ true → dom.fits t ls ≡ true → leq s (dom.widen thresholds s t) ≡ true
+  pub widen_right : (thresholds : List ℤ) (ls : List Layout) (s t : S) → IsRising thresholds → dom.fits s ls ≡ true → dom.fits t ls ≡ true → leq t (dom.widen thresholds s t) ≡ true

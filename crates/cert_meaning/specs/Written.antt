@@ -4,7 +4,7 @@ use Rattle.imp_syntax.specs.declared.edit.Location.TheVariants.{Head}
 use Rattle.imp_slots.specs.Plain.{Code, Stop, Simple, If, While, Call, Break, Routine}
 use Rattle.domain_laws.specs.Operations.{Operations}
 use Rattle.batch_meaning.specs.Values.{Value, State, Over}
-use Rattle.batch_meaning.specs.Batch.{Engine}
+use Rattle.batch_meaning.specs.Batch.{LoopOptions}
 use Rattle.batch_meaning.specs.Places.{value_at}
 
 -- the loops of a block, in preorder
@@ -23,5 +23,5 @@ state_in (Some (State s)) = Some s
 state_in (Some (Over n z)) = None
 
 -- the state at the head of loop n under the call sites z, the last first
-abbrev pub heads : {S : Type 0} → Operations S → Engine → List Routine → (z : List ℕ) → (n : ℕ) → Option S
+abbrev pub heads : {S : Type 0} → Operations S → LoopOptions → List Routine → (z : List ℕ) → (n : ℕ) → Option S
 heads dom engine program z n = state_in (value_at dom engine program (Head n) z)

@@ -7,6 +7,15 @@
 //! compared by `put`, `take` and `leq` of `specs/Portable.antt`, which have laws beside those of a domain.
 //!
 //! The definitions run nothing: whoever writes or checks certificates is held to them.
+//!
+//! Domains whose states can be written as a text, read back and compared.
+//!
+//! [`Portable`] adds three calls to those of a domain. They are functions of plain data (`port`), and their
+//! laws say that what is put is taken back, that a text that no state that fits has is refused, and that the
+//! order is sound: what lies below describes no more.
 #![tactic(auto)]
 
-pub use analysis_words::Refusal;
+mod portable;
+
+pub use imp_words::QueryRefusal;
+pub use portable::Portable;

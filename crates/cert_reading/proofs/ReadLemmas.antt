@@ -5,20 +5,20 @@ use Rattle.std.specs.Str.{bytes_eq}
 use Rattle.std.specs.Map.{lookup}
 use Rattle.std.proofs.lemmas.List.{drop_all}
 use Rattle.imp_slots.specs.Plain.{Routine}
-use Rattle.script_loop.specs.Lines.{whole_lines, last_part, last_line}
-use Rattle.plain_values.proofs.Cases.{by_test}
+use Rattle.serve_script.specs.Lines.{whole_lines, last_part, last_line}
+use Rattle.base_values.proofs.Cases.{by_test}
 use Rattle.cert_meaning.specs.Portable.{Portable}
 use Rattle.cert_lines.specs.Lines as plain
 use Rattle.cert_lines.specs.Lines.{unless_there, with_entry, entry_of, entries}
 use Rattle.cert_reading.specs.Table.{HasEntries}
 use Rattle.cert_reading.specs.Reading.{entry_told, lines_from, IsRead, IsAdded, IsReading, GoesOn}
-use Rattle.cert_reading.specs.declared.entry.Entry.{Entry}
+use Rattle.cert_reading.specs.declared.entry.CertEntry.{CertEntry}
 use Rattle.cert_reading.specs.declared.reading.Lines.{Lines}
 use Rattle.cert_reading.specs.declared.reading.Next.TheVariants as next
 use Rattle.call_contexts.proofs.Placed.{same_names}
 
 -- an entry is put into the table
-pub entry_put : {S : Type 0} (before behind : List (List ℕ × S)) (es : List (plain.Entry S)) (e : plain.Entry S) (key : List ℕ) → key ≡ e.at ∷ e.sites → ((q : List ℕ) → lookup (bytes_eq q) behind ≡ (if bytes_eq key q then Some e.state else lookup (bytes_eq q) before)) → HasEntries before es → HasEntries behind (e ∷ es)
+pub entry_put : {S : Type 0} (before behind : List (List ℕ × S)) (es : List (plain.CertEntry S)) (e : plain.CertEntry S) (key : List ℕ) → key ≡ e.at ∷ e.sites → ((q : List ℕ) → lookup (bytes_eq q) behind ≡ (if bytes_eq key q then Some e.state else lookup (bytes_eq q) before)) → HasEntries before es → HasEntries behind (e ∷ es)
 entry_put before behind es e key k put has z n =
     put (n ∷ z)
     ∙ ap (λ b. if b then Some e.state else lookup (bytes_eq (n ∷ z)) before) (ap (λ x. bytes_eq x (n ∷ z)) k ∙ same_names (e.at ∷ e.sites) (n ∷ z))
@@ -28,12 +28,12 @@ entry_put before behind es e key k put has z n =
 pub no_entry : {S : Type 0} (port : Portable S) (program : List Routine) (line : List ℕ) (before after : List (List ℕ × S)) → None ≡ entry_of port program line → IsAdded port program line before after false
 no_entry port program line before after e es has go i = ap (λ o. with_entry i es o go) (sym e)
 
-pub taken : {S : Type 0} (port : Portable S) (program : List Routine) (line : List ℕ) (before after : List (List ℕ × S)) (x : Entry S) (key : List ℕ) (s : S) → Some (entry_told x) ≡ entry_of port program line → key ≡ x.at ∷ x.sites → lookup (bytes_eq key) before ≡ Some s → IsAdded port program line before after false
+pub taken : {S : Type 0} (port : Portable S) (program : List Routine) (line : List ℕ) (before after : List (List ℕ × S)) (x : CertEntry S) (key : List ℕ) (s : S) → Some (entry_told x) ≡ entry_of port program line → key ≡ x.at ∷ x.sites → lookup (bytes_eq key) before ≡ Some s → IsAdded port program line before after false
 taken port program line before after x key s e k l es has go i =
     ap (λ o. with_entry i es o go) (sym e)
     ∙ ap (λ o. unless_there o (plain.Bad i) (go (entry_told x ∷ es))) (sym (has x.sites x.at) ∙ ap (λ q. lookup (bytes_eq q) before) (sym k) ∙ l)
 
-pub added : {S : Type 0} (port : Portable S) (program : List Routine) (line : List ℕ) (before behind : List (List ℕ × S)) (x : Entry S) (key : List ℕ) → Some (entry_told x) ≡ entry_of port program line → key ≡ x.at ∷ x.sites → lookup (bytes_eq key) before ≡ None → ((q : List ℕ) → lookup (bytes_eq q) behind ≡ (if bytes_eq key q then Some x.state else lookup (bytes_eq q) before)) → IsAdded port program line before behind true
+pub added : {S : Type 0} (port : Portable S) (program : List Routine) (line : List ℕ) (before behind : List (List ℕ × S)) (x : CertEntry S) (key : List ℕ) → Some (entry_told x) ≡ entry_of port program line → key ≡ x.at ∷ x.sites → lookup (bytes_eq key) before ≡ None → ((q : List ℕ) → lookup (bytes_eq q) behind ≡ (if bytes_eq key q then Some x.state else lookup (bytes_eq q) before)) → IsAdded port program line before behind true
 added port program line before behind x key e k l put es has = (
   entry_told x,
   sym e,
@@ -58,7 +58,7 @@ module _ {S : Type 0} (port : Portable S) (program : List Routine) (all : plain.
   line_bad table more i line rest a r = sym r.comes ∙ a r.entries r.has (λ es. entries port program (i + 1) es rest) i
 
   -- all lines are read
-  pub all_read : (table : List (List ℕ × S)) (i : ℕ) → IsReading port program table i [] all → (es : List (plain.Entry S)) × (all ≡ plain.Reads es) × HasEntries table es
+  pub all_read : (table : List (List ℕ × S)) (i : ℕ) → IsReading port program table i [] all → (es : List (plain.CertEntry S)) × (all ≡ plain.Reads es) × HasEntries table es
   all_read table i r = (r.entries, sym r.comes, r.has)
 
   along : (table : List (List ℕ × S)) (i : ℕ) (rest rest' : List (List ℕ)) → rest ≡ rest' → IsReading port program table i rest all → IsReading port program table i rest' all
@@ -73,7 +73,7 @@ module _ {S : Type 0} (port : Portable S) (program : List Routine) (all : plain.
   at_end table i part text k h r = along table i (lines_from part (drop k text)) (last_line part) (ap (lines_from part) (drop_all k text h)) r
 
   -- the rest of the lines, and what is behind the last LF
-  pub rest_read : (table more : List (List ℕ × S)) (i : ℕ) (part : List ℕ) → 0 < length part → IsAdded port program part table more true → IsReading port program table i (last_line part) all → (es : List (plain.Entry S)) × (all ≡ plain.Reads es) × HasEntries more es
+  pub rest_read : (table more : List (List ℕ × S)) (i : ℕ) (part : List ℕ) → 0 < length part → IsAdded port program part table more true → IsReading port program table i (last_line part) all → (es : List (plain.CertEntry S)) × (all ≡ plain.Reads es) × HasEntries more es
   rest_read table more i part h a r = all_read more (i + 1) (line_read table more i part [] a (along table i (last_line part) (part ∷ []) (alone part h) r))
 
   pub rest_bad : (table more : List (List ℕ × S)) (i : ℕ) (part : List ℕ) → 0 < length part → IsAdded port program part table more false → IsReading port program table i (last_line part) all → all ≡ plain.Bad i

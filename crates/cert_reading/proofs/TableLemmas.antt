@@ -8,9 +8,9 @@ use Rattle.std.proofs.lemmas.List.{length_push}
 use Rattle.std.proofs.lemmas.Option.{slice_get_past}
 use Rattle.imp_slots.specs.Plain.{Routine}
 use Rattle.imp_slots.specs.Fits.{IsChecked}
-use Rattle.program_chains.specs.Chains.{chains}
-use Rattle.plain_values.proofs.Cases.{by_bool}
-use Rattle.plain_values.proofs.Lists.{get_last, get_other}
+use Rattle.imp_chains.specs.Chains.{chains}
+use Rattle.base_values.proofs.Cases.{by_bool}
+use Rattle.base_values.proofs.Lists.{get_last, get_other}
 use Rattle.call_contexts.proofs.Tabled.{none_past}
 use Rattle.cert_lines.specs.Lines.{is_chain}
 use Rattle.cert_reading.specs.Table.{in_set, chain_in, AreChains}

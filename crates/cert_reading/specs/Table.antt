@@ -3,15 +3,15 @@ use Rattle.std.specs.Prelude.{◌≡◌, ℕ, List, ◌∷◌, slice_get, Option
 use Rattle.std.specs.Map.{lookup}
 use Rattle.std.specs.Str.{bytes_eq}
 use Rattle.imp_slots.specs.Plain.{Routine}
-use Rattle.program_chains.specs.Chains.{chains}
-use Rattle.cert_lines.specs.Lines.{Entry, written_in, is_chain}
+use Rattle.imp_chains.specs.Chains.{chains}
+use Rattle.cert_lines.specs.Lines.{CertEntry, written_in, is_chain}
 
 -- the state that a table has of a loop under call sites, the last first
 abbrev pub state_at : {S : Type 0} → List (List ℕ × S) → (z : List ℕ) → (n : ℕ) → Option S
 state_at table z n = lookup (bytes_eq (n ∷ z)) table
 
 -- a table has the states of these entries, and no others
-abbrev pub HasEntries : {S : Type 0} → List (List ℕ × S) → List (Entry S) → Type 0
+abbrev pub HasEntries : {S : Type 0} → List (List ℕ × S) → List (CertEntry S) → Type 0
 HasEntries table es = (z : List ℕ) (n : ℕ) → state_at table z n ≡ written_in es z n
 
 abbrev pub in_set : Option (List (List ℕ)) → (z : List ℕ) → Bool

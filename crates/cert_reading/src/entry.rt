@@ -11,19 +11,19 @@ ghost use Rattle.cert_reading.specs.Reading.{entry_told, entry_with};
 
 use crate::chain_sets::ChainSets;
 use crate::written::loop_key;
+use base_values::{Items, Memory};
 use call_contexts::place_of;
+use cert_meaning::Portable;
 use imp_slots::Layout;
 use imp_syntax::{Location, StmtId};
-use plain_values::{Items, Memory};
-use portable_states::Portable;
-use program_table::{Checked, View};
+use imp_table::{Checked, View};
 use request_json::{ids_at, json_of, number_at, text_at};
 use serde_json::Value;
 use std::alloc::Global;
 
 /// What a line says: a loop with the call sites of a chain, the last one first, and a state.
 #[derive(Drop)]
-pub(crate) struct Entry<S> {
+pub(crate) struct CertEntry<S> {
     pub(crate) at: StmtId,
     pub(crate) sites: Items<StmtId>,
     pub(crate) state: S,
@@ -100,7 +100,7 @@ fn entry_with<D: Portable>(
     at: StmtId,
     sites: Items<StmtId>,
     text: &[u8],
-) -> Result<Option<Entry<D::State>>, Memory>
+) -> Result<Option<CertEntry<D::State>>, Memory>
     requires chains { AreChains (routines_of prog.now) chains.now.sets }
     ensures is { IfOk result (λ o. option_map entry_told o ≡ entry_with (D.port dom.now) (routines_of prog.now) at sites text.now) }
 {
@@ -110,7 +110,7 @@ fn entry_with<D: Portable>(
     let key = loop_key(alloc, at, sites.as_slice())?;
     let layouts = layouts_around(alloc, prog, key.as_slice())?;
     match dom.take(alloc, layouts.as_slice(), text)? {
-        Some(state) => Ok(Some(Entry { at, sites, state })),
+        Some(state) => Ok(Some(CertEntry { at, sites, state })),
         None => Ok(None),
     }
 }
@@ -122,7 +122,7 @@ fn entry_in<D: Portable>(
     prog: &Checked,
     chains: &ChainSets,
     line: &Value,
-) -> Result<Option<Entry<D::State>>, Memory>
+) -> Result<Option<CertEntry<D::State>>, Memory>
     requires chains { AreChains (routines_of prog.now) chains.now.sets }
     ensures is { IfOk result (λ o. option_map entry_told o ≡ option_and_then (entry_in (D.port dom.now) (routines_of prog.now)) (line_in (view line.now))) }
 {
@@ -146,7 +146,7 @@ pub(crate) fn entry_of<D: Portable>(
     prog: &Checked,
     chains: &ChainSets,
     line: &[u8],
-) -> Result<Option<Entry<D::State>>, Memory>
+) -> Result<Option<CertEntry<D::State>>, Memory>
     requires chains { AreChains (routines_of prog.now) chains.now.sets }
     ensures is { IfOk result (λ o. option_map entry_told o ≡ entry_of (D.port dom.now) (routines_of prog.now) line.now) }
 {

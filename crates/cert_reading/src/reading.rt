@@ -3,7 +3,7 @@ ghost use Rattle.std.specs.Prelude.{◌≡◌, ◌+◌, ◌<◌, ◌≤◌, ◌^
 ghost use Rattle.imp_slots.specs.Fits.{IsChecked};
 ghost use Rattle.imp_check.specs.Programs.{check_fault};
 ghost use Rattle.imp_check.specs.Slots.{routines_of};
-ghost use Rattle.script_loop.specs.Lines.{all_lines, last_line};
+ghost use Rattle.serve_script.specs.Lines.{all_lines, last_line};
 ghost use Rattle.cert_lines.specs.Lines as plain;
 ghost use Rattle.cert_reading.specs.Table.{AreChains};
 ghost use Rattle.cert_reading.specs.Reading.{GoesOn, IsAdded, IsRead, IsReading};
@@ -11,9 +11,9 @@ ghost use Rattle.cert_reading.specs.Reading.{GoesOn, IsAdded, IsRead, IsReading}
 use crate::chain_sets::ChainSets;
 use crate::entry::entry_of;
 use crate::written::{Written, loop_key};
-use plain_values::Memory;
-use portable_states::Portable;
-use program_table::Checked;
+use base_values::Memory;
+use cert_meaning::Portable;
+use imp_table::Checked;
 use std::alloc::Global;
 
 /// What reading the lines comes to.

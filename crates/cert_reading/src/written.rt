@@ -4,8 +4,8 @@ ghost use Rattle.std.specs.Map.{lookup};
 ghost use Rattle.std.specs.Option.{option_copied};
 ghost use Rattle.std.specs.Str.{bytes_eq};
 
+use base_values::{Items, Memory};
 use imp_syntax::StmtId;
-use plain_values::{Items, Memory};
 use std::alloc::Global;
 use std::collections::HashMap;
 use std::marker::Model;

@@ -4,15 +4,15 @@ use Rattle.std.proofs.Common.{refl, sym, ap, ◌∙◌, arith, subst}
 use Rattle.imp_slots.specs.Plain.{Layout, DoBreak, Does, Code, Stop, Simple, If, While, Call, Break, Routine, code_numbers}
 use Rattle.imp_slots.specs.Fits.{FitsCode, IsChecked}
 use Rattle.concrete_sem.specs.Values.{Variables, Heap}
-use Rattle.program_chains.specs.Claims.{PlacesAreFound}
+use Rattle.imp_chains.specs.Claims.{PlacesAreFound}
 use Rattle.domain_laws.specs.Operations.{Operations}
 use Rattle.domain_laws.specs.Laws.{Laws}
-use Rattle.plain_values.proofs.Cases.{by_test}
-use Rattle.plain_values.proofs.Members.{Member, here, there, in_left, in_right}
+use Rattle.base_values.proofs.Cases.{by_test}
+use Rattle.base_values.proofs.Members.{Member, here, there, in_left, in_right}
 use Rattle.batch_meaning.proofs.Procedures.{look, look_get, look_below, FitBack}
 use Rattle.batch_sound.proofs.Fitting.{callee}
 use Rattle.batch_sound.proofs.Chains.{has_member}
-use Rattle.cert_meaning.specs.Followed.{Followed, Passes, Fails, passing, after, unless, where_written, joined, followed, followed_procedure}
+use Rattle.cert_meaning.specs.Followed.{Followed, Passes, Fails, passing, with_leaving, unless, where_written, joined, followed, followed_procedure}
 use Rattle.cert_meaning.specs.Chained.{layout_of, layout_around, layouts_around}
 use Rattle.cert_sound.specs.Theorem.{AreOfFrames}
 use Rattle.std.proofs.lemmas.Option.{same_Some}
@@ -60,7 +60,7 @@ module _ {S : Type 0} (dom : Operations S) (leq : S → S → Bool) (written : L
   fit_passing ls ks (Passes s ss) f d g = g s ss d.0 d.1
   fit_passing ls ks (Fails n z why) f d g = tt
 
-  fit_after : (ls : List Layout) (xs : List S) (r : Followed S) → EachFit ls xs → DoesFit ls r → DoesFit ls (after xs r)
+  fit_after : (ls : List Layout) (xs : List S) (r : Followed S) → EachFit ls xs → DoesFit ls r → DoesFit ls (with_leaving xs r)
   fit_after ls xs (Passes s ss) f d = (d.0, fit_both ls xs ss f d.1)
   fit_after ls xs (Fails n z why) f d = tt
 

@@ -12,16 +12,16 @@ use Rattle.concrete_sem.specs.Steps.{Work, Ret, Done, Test, Frame, In, Config, S
 use Rattle.concrete_sem.specs.Reach.{standing, sites, call_sites, after_steps}
 use Rattle.concrete_sem.specs.WellFormed.{variables_of}
 use Rattle.concrete_sem.specs.Proper.{IsProper}
-use Rattle.program_chains.specs.Claims.{PlacesAreFound}
+use Rattle.imp_chains.specs.Claims.{PlacesAreFound}
 use Rattle.domain_laws.specs.Operations.{Operations}
 use Rattle.domain_laws.specs.Laws.{Laws}
-use Rattle.plain_values.proofs.Cases.{by_test}
-use Rattle.plain_values.proofs.Members.{here, there, in_left, in_right}
+use Rattle.base_values.proofs.Cases.{by_test}
+use Rattle.base_values.proofs.Members.{here, there, in_left, in_right}
 use Rattle.batch_meaning.proofs.Procedures.{look, look_get, FitBack}
 use Rattle.batch_sound.proofs.Fitting.{callee}
 use Rattle.batch_sound.proofs.Steps.{Kept, stepped, next_inj}
 use Rattle.cert_meaning.specs.Portable.{IsSoundOrder}
-use Rattle.cert_meaning.specs.Followed.{Missing, Entry, Step as Again, Followed, Passes, Fails, after, joined, followed, followed_procedure}
+use Rattle.cert_meaning.specs.Followed.{Missing, Entry, Step as Again, Followed, Passes, Fails, with_leaving, joined, followed, followed_procedure}
 use Rattle.cert_meaning.specs.Chained.{layouts_around}
 use Rattle.cert_sound.specs.Theorem.{AreOfFrames, IsCovered}
 use Rattle.cert_sound.proofs.Fitting.{InProgram, earlier_in, last_at, AreOf, are_of, EachFit, DoesFit, fit_joined, written_fits, block_fit, procedure_fit}
@@ -123,7 +123,7 @@ module _ {S : Type 0} (dom : Operations S) (leq : S → S → Bool) (written : L
   leaves_right f k o [] ys g = g
   leaves_right f k o (x ∷ xs) ys g = leaves_right f k o xs ys g.1
 
-  ready_after : (f : Place) (k : ℕ) (w : Work) (xs : List S) (r : Followed S) → Ready f k w (after xs r) → Leaves f k (leave_loop w) xs × Ready f k w r
+  ready_after : (f : Place) (k : ℕ) (w : Work) (xs : List S) (r : Followed S) → Ready f k w (with_leaving xs r) → Leaves f k (leave_loop w) xs × Ready f k w r
   ready_after f k w xs (Passes b es) g = (leaves_left f k (leave_loop w) xs es g.1, (g.0, leaves_right f k (leave_loop w) xs es g.1))
   ready_after f k w xs (Fails n z why) g = absurd g
 

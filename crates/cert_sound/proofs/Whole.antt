@@ -7,7 +7,7 @@ use Rattle.imp_slots.specs.Fits.{IsChecked}
 use Rattle.concrete_sem.specs.Values.{Variables, Heap, IsWord}
 use Rattle.concrete_sem.specs.Passing.{first_variables}
 use Rattle.concrete_sem.specs.Steps.{Config, main, started, start}
-use Rattle.program_chains.specs.Claims.{PlacesAreFound}
+use Rattle.imp_chains.specs.Claims.{PlacesAreFound}
 use Rattle.domain_laws.specs.Operations.{Operations}
 use Rattle.domain_laws.specs.Laws.{Laws}
 use Rattle.batch_meaning.proofs.Procedures.{look_get, FitBack, fit_back}

@@ -5,7 +5,7 @@ ghost use Rattle.cert_sound.specs.Theorem.{AreCertificatesSound};
 
 use concrete_sem::steps_keep_data;
 use domain_laws::Domain;
-use program_chains::{marks_rise, places_are_found};
+use imp_chains::{places_are_found, thresholds_rise};
 
 /// Where following a checked program with written states in place of the heads of its loops finds nothing,
 /// whoever wrote them, each configuration of a run that stands at the test of a loop is described, with all
@@ -15,6 +15,6 @@ pub fn certificates_are_sound<D: Domain>()
     ensures sound { (d : D) (leq : D.State → D.State → Bool) → IsSoundOrder (D.operations d) (D.covers d) leq → AreCertificatesSound (D.operations d) (D.covers d) leq }
 {
     steps_keep_data();
-    marks_rise();
+    thresholds_rise();
     places_are_found();
 }

@@ -5,7 +5,7 @@ use Rattle.std.specs.Str.{bytes_eq}
 use Rattle.std.proofs.lemmas.Bool.Decides.{nat_tests}
 use Rattle.std.proofs.lemmas.Slice.Eq.{bytes_eq-Decides}
 use Rattle.std.proofs.lemmas.Fmt.{decimal_by_steps_wide}
-use Rattle.plain_values.proofs.Cases.{by_test, by_bool}
+use Rattle.base_values.proofs.Cases.{by_test, by_bool}
 use Rattle.cert_words.specs.Words.{word_text, more_text, words_text, limit, at_most_limit, with_digit, word_read, read, if_same, words_of}
 use Rattle.cert_words.specs.Claims.{IsSmall, AreSmall, WordsComeBack, ReadingIsExact}
 use Rattle.std.proofs.lemmas.Option.{same_Some}

@@ -1,7 +1,7 @@
 -- Words that are numbers, and words that are the same.
 use Rattle.std.specs.Prelude.{◌≡◌, ℕ, ℤ, pos, negsuc, Option, Some, None, true}
 use Rattle.std.proofs.Common.{sym, ap}
-use Rattle.plain_values.proofs.Cases.{by_test}
+use Rattle.base_values.proofs.Cases.{by_test}
 use Rattle.cert_words.specs.Words.{is_number}
 
 -- a word that is this number

@@ -4,7 +4,7 @@ ghost use Rattle.std.specs.Option.{option_map};
 ghost use Rattle.cert_words.specs.Words as meant;
 
 use crate::write::words_text;
-use plain_values::{Memory, Text};
+use base_values::{Memory, Text};
 use std::alloc::{AllocError, Global};
 
 const LIMIT: u128 = 18_446_744_073_709_551_616;

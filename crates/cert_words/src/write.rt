@@ -2,8 +2,8 @@
 ghost use Rattle.std.specs.Prelude.{◌≡◌, ◌++◌, ◌∷◌, IfOk, OnOk};
 ghost use Rattle.cert_words.specs.Words as meant;
 
+use base_values::{Memory, Text};
 use itoa::Buffer;
-use plain_values::{Memory, Text};
 use std::alloc::Global;
 
 /// Adds a word. It fails for want of memory alone.

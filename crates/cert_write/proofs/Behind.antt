@@ -5,38 +5,38 @@ use Rattle.std.proofs.lemmas.List.{drop_all, reverse-reverse}
 use Rattle.serde_json.specs.Written.{compact_text}
 use Rattle.imp_syntax.specs.declared.edit.Location.TheVariants.{Head as AtHead}
 use Rattle.imp_slots.specs.Plain.{Routine}
-use Rattle.program_chains.specs.Chains.{chains}
+use Rattle.imp_chains.specs.Chains.{chains}
 use Rattle.domain_laws.specs.Operations.{Operations}
 use Rattle.batch_meaning.specs.Values.{Value, State}
-use Rattle.batch_meaning.specs.Batch.{Engine}
+use Rattle.batch_meaning.specs.Batch.{LoopOptions}
 use Rattle.batch_meaning.specs.Places.{value_at}
-use Rattle.plain_values.proofs.Lists.{drop_item}
+use Rattle.base_values.proofs.Lists.{drop_item}
 use Rattle.cert_meaning.specs.Portable.{Portable}
 use Rattle.cert_meaning.specs.Written.{loops}
 use Rattle.batch_interp.specs.Answered.{value_of}
 use Rattle.batch_interp.specs.Heads.{head_told, heads_under, under_told, told_under, all_loops_told}
-use Rattle.batch_interp.specs.declared.heads.Head.{Head}
+use Rattle.batch_interp.specs.declared.heads.LoopHead.{LoopHead}
 use Rattle.batch_interp.specs.declared.heads.LoopsUnder.{LoopsUnder}
 use Rattle.batch_interp.specs.declared.value.Answer.TheVariants as known
 use Rattle.cert_lines.specs.Certificate.{Certificate, Lines, Gives, under, loops_from, all_loops, with_line, certificate_of, lines_text, certificate_text}
 use Rattle.cert_write.specs.Writing.{line_data, behind, lines_under, all_lines}
 
-module _ {S : Type 0} (dom : Operations S) (port : Portable S) (engine : Engine) (program : List Routine) where
+module _ {S : Type 0} (dom : Operations S) (port : Portable S) (engine : LoopOptions) (program : List Routine) where
   -- a line goes in front of more
   line_goes : (z : List ℕ) (n : ℕ) (s : S) (old new : List ℕ) (more : Certificate) → new ≡ old ++ (compact_text (line_data n (reverse z) (port.put s)) ++ 10 ∷ []) → behind old (with_line dom port engine program z n (Some (State s)) more) ≡ behind new more
   line_goes z n s old new (Lines ds) e = sym (append_assoc old (compact_text (line_data n (reverse z) (port.put s)) ++ 10 ∷ []) (lines_text ds)) ∙ ap (λ xs. xs ++ lines_text ds) (sym e)
   line_goes z n s old new (Gives m y) e = refl
 
-  pub added_state : (chain : List ℕ) (h : Head S) (s : S) (text old new : List ℕ) (more : Certificate) → h.value ≡ known.State s → text ≡ port.put s → new ≡ old ++ (compact_text (line_data h.stmt chain text) ++ 10 ∷ []) → behind old (lines_under dom port engine program (reverse chain) (head_told h ∷ []) more) ≡ behind new more
+  pub added_state : (chain : List ℕ) (h : LoopHead S) (s : S) (text old new : List ℕ) (more : Certificate) → h.value ≡ known.State s → text ≡ port.put s → new ≡ old ++ (compact_text (line_data h.stmt chain text) ++ 10 ∷ []) → behind old (lines_under dom port engine program (reverse chain) (head_told h ∷ []) more) ≡ behind new more
   added_state chain h s text old new more is t e =
       ap (λ v. behind old (with_line dom port engine program (reverse chain) h.stmt (Some (value_of v)) more)) is
       ∙ line_goes (reverse chain) h.stmt s old new more (e ∙ (let turned : chain ≡ reverse (reverse chain) = sym (reverse-reverse chain) in λ i. old ++ (compact_text (line_data h.stmt (turned i) (t i)) ++ 10 ∷ [])))
 
   -- one more loop
-  pub lines_step : (z : List ℕ) (hs : List (Head S)) (i : ℕ) (h : Head S) (more : Certificate) → i < length hs → h ≡ get_or hs i h → lines_under dom port engine program z (map head_told (drop i hs)) more ≡ lines_under dom port engine program z (head_told h ∷ []) (lines_under dom port engine program z (map head_told (drop (i + 1) hs)) more)
+  pub lines_step : (z : List ℕ) (hs : List (LoopHead S)) (i : ℕ) (h : LoopHead S) (more : Certificate) → i < length hs → h ≡ get_or hs i h → lines_under dom port engine program z (map head_told (drop i hs)) more ≡ lines_under dom port engine program z (head_told h ∷ []) (lines_under dom port engine program z (map head_told (drop (i + 1) hs)) more)
   lines_step z hs i h more l e = ap (λ xs. lines_under dom port engine program z (map head_told xs) more) (drop_item hs i h l e)
 
-  pub lines_end : (z : List ℕ) (hs : List (Head S)) (i : ℕ) (more : Certificate) → length hs ≤ i → lines_under dom port engine program z (map head_told (drop i hs)) more ≡ more
+  pub lines_end : (z : List ℕ) (hs : List (LoopHead S)) (i : ℕ) (more : Certificate) → length hs ≤ i → lines_under dom port engine program z (map head_told (drop i hs)) more ≡ more
   lines_end z hs i more l = ap (λ xs. lines_under dom port engine program z (map head_told xs) more) (drop_all i hs l)
 
   abbrev L : List (List ℕ × List (ℕ × Option (Value S))) → Certificate → Certificate
@@ -75,6 +75,6 @@ module _ {S : Type 0} (dom : Operations S) (port : Portable S) (engine : Engine)
   pub all_written : (us : List (LoopsUnder S)) → map under_told us ≡ all_loops_told dom engine program 0 program → behind [] (all_lines dom port engine program (map under_told us) (Lines [])) ≡ certificate_text (certificate_of dom port engine program (all_loops program))
   all_written us e = ap (λ xs. behind [] (L xs (Lines []))) e ∙ ap (behind []) (procedures 0 program) ∙ whole (C (all_loops program))
 
-  pub all_text : {E Z : Type 0} (r : Result (Vec ℕ Z) E) (us : List (LoopsUnder S)) → map under_told us ≡ all_loops_told dom engine program 0 program → IfOk r (λ v. (engine : Engine) (program : List Routine) → v.items ≡ behind [] (all_lines dom port engine program (map under_told us) (Lines []))) → IfOk r (λ v. v.items ≡ certificate_text (certificate_of dom port engine program (all_loops program)))
+  pub all_text : {E Z : Type 0} (r : Result (Vec ℕ Z) E) (us : List (LoopsUnder S)) → map under_told us ≡ all_loops_told dom engine program 0 program → IfOk r (λ v. (engine : LoopOptions) (program : List Routine) → v.items ≡ behind [] (all_lines dom port engine program (map under_told us) (Lines []))) → IfOk r (λ v. v.items ≡ certificate_text (certificate_of dom port engine program (all_loops program)))
   all_text (Err e) us h k = k
   all_text (Ok v) us h k = k engine program ∙ all_written us h

@@ -5,7 +5,7 @@ use Rattle.request_json.specs.Replies.{object_of, count, list_of}
 use Rattle.imp_slots.specs.Plain.{Routine}
 use Rattle.domain_laws.specs.Operations.{Operations}
 use Rattle.batch_meaning.specs.Values.{Value}
-use Rattle.batch_meaning.specs.Batch.{Engine}
+use Rattle.batch_meaning.specs.Batch.{LoopOptions}
 use Rattle.cert_meaning.specs.Portable.{Portable}
 use Rattle.cert_lines.specs.Certificate.{Certificate, Lines, Gives, with_line, lines_text, certificate_text}
 
@@ -26,7 +26,7 @@ or_over (Some line) text = line
 abbrev pub bytes_in : {Z : Type 0} → Option (Vec ℕ Z) → Option (List ℕ)
 bytes_in o = option_map (λ (v : Vec _ _). v.items) o
 
-module _ {S : Type 0} (dom : Operations S) (port : Portable S) (engine : Engine) (program : List Routine) where
+module _ {S : Type 0} (dom : Operations S) (port : Portable S) (engine : LoopOptions) (program : List Routine) where
   -- loops under one chain, with the values at their heads, in front of more
   abbrev pub lines_under : (z : List ℕ) → List (ℕ × Option (Value S)) → Certificate → Certificate
   lines_under z [] more = more

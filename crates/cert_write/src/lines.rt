@@ -2,15 +2,15 @@
 ghost use Rattle.std.specs.Prelude.{◌≡◌, ◌++◌, ◌∷◌, [], IfOk, OnOk, List, map, reverse};
 ghost use Rattle.serde_json.specs.Written.{compact_text};
 ghost use Rattle.imp_slots.specs.Plain.{Routine};
-ghost use Rattle.batch_meaning.specs.Batch.{Engine};
+ghost use Rattle.batch_meaning.specs.Batch.{LoopOptions};
 ghost use Rattle.batch_interp.specs.Heads.{head_told};
 ghost use Rattle.cert_lines.specs.Certificate.{Certificate, Gives, certificate_text};
 ghost use Rattle.cert_write.specs.Writing.{behind, bytes_in, line_data, lines_under, or_over};
 
-use batch_interp::{Answer, Head};
+use base_values::{Items, Memory};
+use batch_interp::{Answer, LoopHead};
+use cert_meaning::Portable;
 use imp_syntax::{Chain, StmtId};
-use plain_values::{Items, Memory};
-use portable_states::Portable;
 use request_json::{Reply, put_ids, put_number, put_quoted, reply_line};
 use std::alloc::Global;
 
@@ -53,10 +53,10 @@ fn add_line<D: Portable>(
     alloc: Global,
     dom: &D,
     chain: &Chain,
-    head: &Head<D::State>,
+    head: &LoopHead<D::State>,
     text: &mut Vec<u8>,
 ) -> Result<Option<Vec<u8>>, Memory>
-    ensures added { IfOk result (λ o. (engine : Engine) (program : List Routine) (more : Certificate) → behind text.old.items (lines_under (D.operations dom.now) (D.port dom.now) engine program (reverse chain.now) (head_told head.now ∷ []) more) ≡ or_over (bytes_in o) (behind text.new.items more)) }
+    ensures added { IfOk result (λ o. (engine : LoopOptions) (program : List Routine) (more : Certificate) → behind text.old.items (lines_under (D.operations dom.now) (D.port dom.now) engine program (reverse chain.now) (head_told head.now ∷ []) more) ≡ or_over (bytes_in o) (behind text.new.items more)) }
 {
     match &head.value {
         Answer::State(state) => {
@@ -76,10 +76,10 @@ pub(crate) fn add_lines<D: Portable>(
     alloc: Global,
     dom: &D,
     chain: &Chain,
-    heads: &[Head<D::State>],
+    heads: &[LoopHead<D::State>],
     text: &mut Vec<u8>,
 ) -> Result<Option<Vec<u8>>, Memory>
-    ensures added { IfOk result (λ o. (engine : Engine) (program : List Routine) (more : Certificate) → behind text.old.items (lines_under (D.operations dom.now) (D.port dom.now) engine program (reverse chain.now) (map head_told heads.now) more) ≡ or_over (bytes_in o) (behind text.new.items more)) }
+    ensures added { IfOk result (λ o. (engine : LoopOptions) (program : List Routine) (more : Certificate) → behind text.old.items (lines_under (D.operations dom.now) (D.port dom.now) engine program (reverse chain.now) (map head_told heads.now) more) ≡ or_over (bytes_in o) (behind text.new.items more)) }
 {
     for head in heads {
         match add_line(alloc, dom, chain, head, text)? {

@@ -2,22 +2,22 @@
 ghost use Rattle.std.specs.Prelude.{◌≡◌, List, [], map, IfOk};
 ghost use Rattle.imp_slots.specs.Plain.{Routine};
 ghost use Rattle.imp_check.specs.Slots.{routines_of};
-ghost use Rattle.batch_meaning.specs.Batch.{Engine};
+ghost use Rattle.batch_meaning.specs.Batch.{LoopOptions};
 ghost use Rattle.call_contexts.specs.Settings.{engine_of};
 ghost use Rattle.batch_interp.specs.Heads.{under_told};
 ghost use Rattle.cert_lines.specs.Certificate.{Lines, certificate, certificate_text};
 ghost use Rattle.cert_write.specs.Writing.{behind, all_lines};
 
 use crate::lines::add_lines;
+use base_counter::Steps;
+use base_values::Memory;
 use batch_interp::{LoopsUnder, loop_heads};
 use call_contexts::Setting;
-use plain_values::Memory;
-use portable_states::Portable;
-use program_chains::Widening;
-use program_table::Checked;
+use cert_meaning::Portable;
+use imp_chains::Widening;
+use imp_table::Checked;
 use std::alloc::Global;
 use std::sync::ledger::Ledger;
-use step_counter::Steps;
 
 /// The lines of these loops, or the line of the first Over alone.
 fn all_lines<D: Portable>(
@@ -25,7 +25,7 @@ fn all_lines<D: Portable>(
     dom: &D,
     loops: &[LoopsUnder<D::State>],
 ) -> Result<Vec<u8>, Memory>
-    ensures text { IfOk result (λ v. (engine : Engine) (program : List Routine) → v.items ≡ behind [] (all_lines (D.operations dom.now) (D.port dom.now) engine program (map under_told loops.now) (Lines []))) }
+    ensures text { IfOk result (λ v. (engine : LoopOptions) (program : List Routine) → v.items ≡ behind [] (all_lines (D.operations dom.now) (D.port dom.now) engine program (map under_told loops.now) (Lines []))) }
 {
     let mut text = Vec::new(alloc);
     for under in loops {

@@ -8,8 +8,8 @@ use Rattle.std.proofs.lemmas.List.{length-set, length-append, length-replicate}
 use Rattle.std.proofs.lemmas.Option.{same_Some}
 use Rattle.imp_slots.specs.Plain.{Numeric, Layout, Effect, Skip, Assert, SetInt, Input, ReadElement, ReadItem, MakeArray, CopyArray, WriteElement, SetNull, MakeCell, CopyLink, ReadNext, WriteNext, WriteItem, Argument, IntArgument, ArrayArgument, LinkArgument, Returning, NumericResult, LinkResult}
 use Rattle.imp_slots.specs.Fits.{is_kind, is_int, is_array, is_link, is_side, fits_term, fits_effect, fits_arguments, fits_returning, fits_invoke}
-use Rattle.analysis_words.specs.declared.fault.FaultKind.{FaultKind}
-use Rattle.analysis_words.specs.declared.fault.FaultKind.TheVariants.{Length, Index, Null, Assert as Failed}
+use Rattle.imp_words.specs.declared.fault.FaultKind.{FaultKind}
+use Rattle.imp_words.specs.declared.fault.FaultKind.TheVariants.{Length, Index, Null, Assert as Failed}
 use Rattle.concrete_sem.specs.Values.{Number, Int, Array, Variables, Cell, Heap, Gives, Faults, andthen, given_or, IsWord, number_at, array_at, link_at, with_number, with_link}
 use Rattle.concrete_sem.specs.Evaluation.{value_of, truth_of, side_at}
 use Rattle.concrete_sem.specs.Effects.{new_array, element, with_element, cell_of, with_cell, take_input, effect_of}
@@ -18,7 +18,7 @@ use Rattle.concrete_sem.specs.Proper.{IsLink, IsCell, IsNumber, AreVariables, Ar
 use Rattle.concrete_sem.specs.Keeping.{EffectsKeep, PassingKeeps, ReturnsKeep, LastAloneKeeps, StartKeeps}
 use Rattle.std.proofs.lemmas.Bool.{and_parts, or_cases}
 use Rattle.concrete_sem.proofs.Numbers.{given, is_word_zero, slot_of, array_is_words, numbers_kept, at_slot, value_word, gives_same}
-use Rattle.plain_values.proofs.Lists.{all_at}
+use Rattle.base_values.proofs.Lists.{all_at}
 
 -- Slots set to values of their kinds.
 int_kept : (n : ℕ) (l : Layout) (v : Variables) (x : ℕ) (z : ℤ) → AreVariables n l v → is_int l x ≡ true → IsWord z → AreVariables n l (with_number v x (Int z))

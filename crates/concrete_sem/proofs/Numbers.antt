@@ -10,8 +10,8 @@ use Rattle.imp_slots.specs.Plain.{Numeric, Layout, Term, Literal, Slot, Length, 
 use Rattle.imp_slots.specs.Fits.{is_kind, fits_term}
 use Rattle.imp_syntax.specs.declared.words.Operator.{Operator}
 use Rattle.imp_syntax.specs.declared.words.Operator.TheVariants.{Add, Subtract, Multiply, Divide, Remainder}
-use Rattle.analysis_words.specs.declared.fault.FaultKind.{FaultKind}
-use Rattle.analysis_words.specs.declared.fault.FaultKind.TheVariants.{Overflow, Zero}
+use Rattle.imp_words.specs.declared.fault.FaultKind.{FaultKind}
+use Rattle.imp_words.specs.declared.fault.FaultKind.TheVariants.{Overflow, Zero}
 use Rattle.concrete_sem.specs.Values.{Number, Int, Array, Variables, Attempt, Gives, Faults, LacksInput, andthen, is_word, IsWord, as_int, as_array, number_at}
 use Rattle.concrete_sem.specs.Evaluation.{word, quotient, combine, value_of}
 use Rattle.concrete_sem.specs.Proper.{IsNumber, AreVariables}

@@ -6,7 +6,7 @@ use Rattle.std.proofs.lemmas.Option.{slice_get_within}
 use Rattle.imp_slots.specs.Plain.{Layout, Code, Routine}
 use Rattle.imp_slots.specs.Fits.{FitsCode, FitsRoutine, FitInTurn, IsChecked}
 use Rattle.concrete_sem.specs.WellFormed.{StandsIn, whole, behind_simple, then_block, else_block, behind_if, loop_body, behind_loop, behind_call, behind_break}
-use Rattle.plain_values.proofs.Lists.{get_front}
+use Rattle.base_values.proofs.Lists.{get_front}
 
 -- A routine of the program fits some routines, which stand before it in the program.
 pub record Known (program : List Routine) (p : ℕ) (r : Routine) : Type 0 where

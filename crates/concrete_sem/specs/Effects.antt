@@ -1,7 +1,7 @@
 -- What simple statements do.
 use Rattle.std.specs.Prelude.{ℕ, nat_le, nat_lt, ℤ, pos, negsuc, List, [], ◌∷◌, ◌++◌, length, replicate, slice_get, slice_set, Option, Some, None, if◌then◌else◌}
 use Rattle.imp_slots.specs.Plain.{Effect, Skip, Assert, SetInt, Input, ReadElement, ReadItem, MakeArray, CopyArray, WriteElement, SetNull, MakeCell, CopyLink, ReadNext, WriteNext, WriteItem}
-use Rattle.analysis_words.specs.declared.fault.FaultKind.TheVariants.{Length, Index, Null, Assert as Failed}
+use Rattle.imp_words.specs.declared.fault.FaultKind.TheVariants.{Length, Index, Null, Assert as Failed}
 use Rattle.concrete_sem.specs.Values.{Int, Array, Variables, Cell, Heap, Attempt, Gives, Faults, LacksInput, andthen, given_or, array_at, link_at, with_number, with_link}
 use Rattle.concrete_sem.specs.Evaluation.{value_of, truth_of}
 

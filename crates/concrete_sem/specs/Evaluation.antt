@@ -6,7 +6,7 @@ use Rattle.imp_syntax.specs.declared.words.Operator.TheVariants.{Add, Subtract, 
 use Rattle.imp_syntax.specs.declared.words.Relation.{Relation}
 use Rattle.imp_syntax.specs.declared.words.Relation.TheVariants.{Equal, NotEqual, Less, AtMost, Greater, AtLeast}
 use Rattle.imp_slots.specs.Plain.{Term, Literal, Slot, Length, Negative, Binary, Guard, Compare, CompareLinks, Not, And, Or}
-use Rattle.analysis_words.specs.declared.fault.FaultKind.TheVariants.{Overflow, Zero}
+use Rattle.imp_words.specs.declared.fault.FaultKind.TheVariants.{Overflow, Zero}
 use Rattle.concrete_sem.specs.Values.{Variables, Attempt, Gives, Faults, andthen, is_word, int_at, array_at, link_at}
 
 -- a result, where it fits 64 bits

@@ -1,8 +1,8 @@
 -- Runs of so many steps at most, and how often they stand at a location.
 use Rattle.std.specs.Prelude.{ℕ, zero, suc, ◌+◌, List, Bool, true, false}
 use Rattle.imp_slots.specs.Plain.{Routine}
-use Rattle.analysis_words.specs.declared.run_end.RunEnd.{RunEnd}
-use Rattle.analysis_words.specs.declared.run_end.RunEnd.TheVariants as end
+use Rattle.imp_words.specs.declared.run_end.RunEnd.{RunEnd}
+use Rattle.imp_words.specs.declared.run_end.RunEnd.TheVariants as end
 use Rattle.concrete_sem.specs.Steps.{Config, Step, Next, Faulted, InputsUsedUp, Ended, step}
 
 pub record Run : Type 0 where

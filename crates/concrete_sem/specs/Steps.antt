@@ -1,7 +1,7 @@
 -- Configurations and steps.
 use Rattle.std.specs.Prelude.{ℕ, ◌-◌, List, [], ◌∷◌, length, slice_get, Option, Some, None, Bool, true, false, ℤ}
 use Rattle.imp_slots.specs.Plain.{Guard, Invoke, Code, Stop, Simple, If, While, Call, Break, Routine}
-use Rattle.analysis_words.specs.declared.fault.FaultKind.{FaultKind}
+use Rattle.imp_words.specs.declared.fault.FaultKind.{FaultKind}
 use Rattle.concrete_sem.specs.Values.{Variables, Heap, Attempt, Gives, Faults, LacksInput}
 use Rattle.concrete_sem.specs.Evaluation.{truth_of}
 use Rattle.concrete_sem.specs.Effects.{effect_of}

@@ -1,7 +1,7 @@
 -- What variables, cells and frames hold.
 use Rattle.std.specs.Prelude.{ℕ, ◌^◌, nat_lt, ℤ, pos, negsuc, List, [], slice_index_or, slice_set, Option, Some, None, Bool, FitsSigned}
 use Rattle.std.specs.Int.{w64}
-use Rattle.analysis_words.specs.declared.fault.FaultKind.{FaultKind}
+use Rattle.imp_words.specs.declared.fault.FaultKind.{FaultKind}
 
 -- What a numeric slot holds.
 pub data Number : Type 0 where

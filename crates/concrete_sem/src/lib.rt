@@ -20,5 +20,5 @@
 
 mod laws;
 
-pub use analysis_words::FaultKind;
+pub use imp_words::FaultKind;
 pub use laws::{steps_are_determined, steps_keep_data, work_is_items};

@@ -3,7 +3,7 @@ use Rattle.std.proofs.Common.{◌≡◌, ℕ, List, ◌++◌, codes}
 use Rattle.std.specs.Fmt.{decimal}
 use Rattle.daig_gen.specs.Pieces.{constant_text}
 use Rattle.daig_gen.specs.Script.{ask_text, replace_text, insert_text}
-use Rattle.plain_values.proofs.Joined.{joined_3, joined_5}
+use Rattle.base_values.proofs.Joined.{joined_3, joined_5}
 
 pub ask_written : (t : List ℕ) (n : ℕ) → ((t ++ codes "{\"at\":\"after ") ++ decimal n) ++ codes "\",\"do\":\"state\"}\n{\"do\":\"cost\"}\n" ≡ t ++ ask_text n
 unfolding ask_text

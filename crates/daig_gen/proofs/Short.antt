@@ -4,8 +4,8 @@ use Rattle.std.specs.Fmt.{decimal}
 use Rattle.std.proofs.lemmas.Fmt.{length-decimal-le}
 use Rattle.std.proofs.lemmas.Nat.{div_below, mod_below}
 use Rattle.std.proofs.Math.Nat.{mod-le}
-use Rattle.daig_gen.specs.declared.turns.Turn.{Turn}
-use Rattle.daig_gen.specs.declared.turns.Turn.TheVariants.{Ask, Replace, Insert}
+use Rattle.daig_gen.specs.declared.turns.ScriptRequest.{ScriptRequest}
+use Rattle.daig_gen.specs.declared.turns.ScriptRequest.TheVariants.{Ask, Replace, Insert}
 use Rattle.daig_gen.specs.Draws.{next, pick, variable, constant}
 use Rattle.daig_gen.specs.Pieces.{constant_text}
 use Rattle.daig_gen.specs.Source.{pieces}
@@ -53,7 +53,7 @@ insert_short n small =
     let b : length (codes "\",\"text\":\"skip;\"}\n") ≡ 18 = refl in
     omega (arith, all, a, b, statement_short n small)
 
-lines_short : (turn : Turn) (n s : ℕ) → n ≤ 2 ^ 31 → length (lines_of turn n s) ≤ 128
+lines_short : (turn : ScriptRequest) (n s : ℕ) → n ≤ 2 ^ 31 → length (lines_of turn n s) ≤ 128
 lines_short Ask n s small = ask_short n small
 lines_short Replace n s small = replace_short n (variable s) (constant (next s)) small (pick_below 4 s (omega arith)) (pick_below 100 (next s) (omega arith))
 lines_short Insert n s small = insert_short n small

@@ -1,8 +1,8 @@
 -- That a generated source has at most 64 bytes a piece.
 use Rattle.std.proofs.Common.{◌≡◌, ℕ, zero, suc, ◌+◌, ◌*◌, ◌<◌, ◌≤◌, ◌++◌, length, codes, refl, arith}
 use Rattle.std.specs.Fmt.{decimal}
-use Rattle.daig_gen.specs.declared.pieces.Kind.{Kind}
-use Rattle.daig_gen.specs.declared.pieces.Kind.TheVariants.{Constant, Sum, Difference, While, If, Array, Input, Node}
+use Rattle.daig_gen.specs.declared.pieces.PieceKind.{PieceKind}
+use Rattle.daig_gen.specs.declared.pieces.PieceKind.TheVariants.{Constant, Sum, Difference, While, If, Array, Input, Node}
 use Rattle.daig_gen.specs.Draws.{next, pick, variable, constant}
 use Rattle.daig_gen.specs.Pieces.{kind_of, variable_text, constant_text, copy_text, sum_text, difference_text, while_text, if_text, array_text, input_text, node_text}
 use Rattle.daig_gen.specs.Source.{head, piece, pieces, source_of, text_of}
@@ -78,7 +78,7 @@ node_short : length node_text ≤ 62
 unfolding node_text
 node_short = let l : length (codes "p = new; p.next = q; q = p;") ≡ 27 = refl in omega (arith, l)
 
-text_short : (kind : Kind) (s : ℕ) → length (text_of kind s) ≤ 62
+text_short : (kind : PieceKind) (s : ℕ) → length (text_of kind s) ≤ 62
 text_short Constant s = let e = constant_short (variable s) (constant (next s)) (pick_below 4 s (omega arith)) (pick_below 100 (next s) (omega arith)) in omega (arith, e)
 text_short Sum s = let e = sum_short (variable s) (variable (next s)) (constant (next (next s))) (pick_below 4 s (omega arith)) (pick_below 4 (next s) (omega arith)) (pick_below 100 (next (next s)) (omega arith)) in omega (arith, e)
 text_short Difference s = let e = difference_short (variable s) (variable (next s)) (variable (next (next s))) (pick_below 4 s (omega arith)) (pick_below 4 (next s) (omega arith)) (pick_below 4 (next (next s)) (omega arith)) in omega (arith, e)

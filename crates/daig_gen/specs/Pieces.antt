@@ -1,11 +1,11 @@
 -- The pieces that a source is made of, as text. The variables are v0 to v3, and x, y, z their numbers.
 use Rattle.std.specs.Prelude.{ℕ, List, ◌++◌, codes, ◌==◌, if◌then◌else◌}
 use Rattle.std.specs.Fmt.{decimal}
-use Rattle.daig_gen.specs.declared.pieces.Kind.{Kind}
-use Rattle.daig_gen.specs.declared.pieces.Kind.TheVariants.{Constant, Sum, Difference, While, If, Array, Input, Node}
+use Rattle.daig_gen.specs.declared.pieces.PieceKind.{PieceKind}
+use Rattle.daig_gen.specs.declared.pieces.PieceKind.TheVariants.{Constant, Sum, Difference, While, If, Array, Input, Node}
 
 -- which kind of piece the numbers below 8 stand for
-unfoldable pub kind_of : ℕ → Kind
+unfoldable pub kind_of : ℕ → PieceKind
 kind_of k =
     if k == 0 then Constant else (if k == 1 then Sum else (if k == 2 then Difference else (if k == 3 then While
     else (if k == 4 then If else (if k == 5 then Array else (if k == 6 then Input else Node))))))
@@ -53,7 +53,7 @@ unfoldable pub node_text : List ℕ
 node_text = codes "p = new; p.next = q; q = p;"
 
 -- how many statements a piece has, those within its braces among them
-abbrev pub statements_of : Kind → ℕ
+abbrev pub statements_of : PieceKind → ℕ
 statements_of Constant = 1
 statements_of Sum = 1
 statements_of Difference = 1

@@ -1,14 +1,14 @@
 -- The generated script.
 use Rattle.std.specs.Prelude.{ℕ, zero, suc, ◌+◌, List, [], ◌++◌, codes, ◌==◌, if◌then◌else◌}
 use Rattle.std.specs.Fmt.{decimal}
-use Rattle.daig_gen.specs.declared.turns.Turn.{Turn}
-use Rattle.daig_gen.specs.declared.turns.Turn.TheVariants.{Ask, Replace, Insert}
+use Rattle.daig_gen.specs.declared.turns.ScriptRequest.{ScriptRequest}
+use Rattle.daig_gen.specs.declared.turns.ScriptRequest.TheVariants.{Ask, Replace, Insert}
 use Rattle.daig_gen.specs.Draws.{next, pick, variable, constant}
 use Rattle.daig_gen.specs.Pieces.{constant_text}
 use Rattle.daig_gen.specs.Source.{pieces}
 
 -- which turn the numbers below 4 stand for
-unfoldable pub turn_of : ℕ → Turn
+unfoldable pub turn_of : ℕ → ScriptRequest
 turn_of k = if k == 2 then Replace else (if k == 3 then Insert else Ask)
 
 -- for the state after statement n, and for its cost
@@ -24,13 +24,13 @@ unfoldable pub insert_text : ℕ → List ℕ
 insert_text n = codes "{\"do\":\"insert\",\"place\":\"after " ++ decimal n ++ codes "\",\"text\":\"skip;\"}\n"
 
 -- the lines of a turn about statement n, whose variable and constant are drawn from the state s on
-abbrev pub lines_of : Turn → ℕ → ℕ → List ℕ
+abbrev pub lines_of : ScriptRequest → ℕ → ℕ → List ℕ
 lines_of Ask n s = ask_text n
 lines_of Replace n s = replace_text n (variable s) (constant (next s))
 lines_of Insert n s = insert_text n
 
 -- the state behind those draws
-abbrev pub state_after : Turn → ℕ → ℕ
+abbrev pub state_after : ScriptRequest → ℕ → ℕ
 state_after Ask s = s
 state_after Replace s = next (next s)
 state_after Insert s = s

@@ -1,7 +1,7 @@
 -- The generated source.
 use Rattle.std.specs.Prelude.{ℕ, zero, suc, ◌+◌, List, [], ◌++◌, codes}
-use Rattle.daig_gen.specs.declared.pieces.Kind.{Kind}
-use Rattle.daig_gen.specs.declared.pieces.Kind.TheVariants.{Constant, Sum, Difference, While, If, Array, Input, Node}
+use Rattle.daig_gen.specs.declared.pieces.PieceKind.{PieceKind}
+use Rattle.daig_gen.specs.declared.pieces.PieceKind.TheVariants.{Constant, Sum, Difference, While, If, Array, Input, Node}
 use Rattle.daig_gen.specs.Draws.{next, pick, variable, constant}
 use Rattle.daig_gen.specs.Pieces.{kind_of, constant_text, sum_text, difference_text, while_text, if_text, array_text, input_text, node_text, statements_of}
 
@@ -12,7 +12,7 @@ pub record Piece : Type 0 where
   pub state : ℕ
 
 -- the text of a piece whose variables and constant are drawn from the state s on
-abbrev pub text_of : Kind → ℕ → List ℕ
+abbrev pub text_of : PieceKind → ℕ → List ℕ
 text_of Constant s = constant_text (variable s) (constant (next s))
 text_of Sum s = sum_text (variable s) (variable (next s)) (constant (next (next s)))
 text_of Difference s = difference_text (variable s) (variable (next s)) (variable (next (next s)))
@@ -23,7 +23,7 @@ text_of Input s = input_text (variable s)
 text_of Node s = node_text
 
 -- the state behind those draws
-abbrev pub state_after : Kind → ℕ → ℕ
+abbrev pub state_after : PieceKind → ℕ → ℕ
 state_after Constant s = next (next s)
 state_after Sum s = next (next (next s))
 state_after Difference s = next (next (next s))

@@ -5,10 +5,11 @@ ghost use Rattle.daig_gen.specs.Script.{turns, script_of};
 
 use crate::draws::Draws;
 use crate::pieces::{
-    Kind, put_array, put_constant, put_difference, put_if, put_input, put_node, put_sum, put_while,
+    PieceKind, put_array, put_constant, put_difference, put_if, put_input, put_node, put_sum,
+    put_while,
 };
 use crate::turns::put_turn;
-use plain_values::Memory;
+use base_values::Memory;
 use std::alloc::{AllocError, Global};
 
 /// The declarations that each source begins with.
@@ -86,28 +87,28 @@ fn put_piece(text: &mut Vec<u8>, draws: &mut Draws) -> Result<u64, AllocError>
     ensures few { IfOk result (λ n. n ≤ 3) }
     ensures state { OnOk result (draws.new ≡ (piece draws.old).state) }
 {
-    let kind = Kind::of(draws.pick(8));
+    let kind = PieceKind::of(draws.pick(8));
     put_text(text, draws, kind)?;
     text.extend_from_slice(b" ")?;
     Ok(kind.statements())
 }
 
 /// Adds a piece of this kind.
-fn put_text(text: &mut Vec<u8>, draws: &mut Draws, kind: Kind) -> Result<(), AllocError>
+fn put_text(text: &mut Vec<u8>, draws: &mut Draws, kind: PieceKind) -> Result<(), AllocError>
     ensures added { OnOk result (text.new.items ≡ text.old.items ++ text_of kind draws.old) }
     ensures state { OnOk result (draws.new ≡ state_after kind draws.old) }
 {
     match kind {
-        Kind::Constant => put_constant(text, draws.variable(), draws.constant()),
-        Kind::Sum => put_sum(text, draws.variable(), draws.variable(), draws.constant()),
-        Kind::Difference => {
+        PieceKind::Constant => put_constant(text, draws.variable(), draws.constant()),
+        PieceKind::Sum => put_sum(text, draws.variable(), draws.variable(), draws.constant()),
+        PieceKind::Difference => {
             put_difference(text, draws.variable(), draws.variable(), draws.variable())
         }
-        Kind::While => put_while(text, draws.variable(), draws.constant()),
-        Kind::If => put_if(text, draws.variable(), draws.variable(), draws.constant()),
-        Kind::Array => put_array(text, draws.constant()),
-        Kind::Input => put_input(text, draws.variable()),
-        Kind::Node => put_node(text),
+        PieceKind::While => put_while(text, draws.variable(), draws.constant()),
+        PieceKind::If => put_if(text, draws.variable(), draws.variable(), draws.constant()),
+        PieceKind::Array => put_array(text, draws.constant()),
+        PieceKind::Input => put_input(text, draws.variable()),
+        PieceKind::Node => put_node(text),
     }
 }
 

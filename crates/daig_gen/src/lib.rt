@@ -14,4 +14,4 @@ mod pieces;
 mod turns;
 
 pub use generate::{script, source};
-pub use pieces::Kind;
+pub use pieces::PieceKind;

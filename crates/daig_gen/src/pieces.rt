@@ -8,7 +8,7 @@ use std::alloc::AllocError;
 
 /// What a piece of a source is, as the definitions of generated texts speak of it.
 #[derive(Clone, Copy)]
-pub enum Kind {
+pub enum PieceKind {
     /// A constant is assigned.
     Constant,
     /// A variable and a constant are added.
@@ -27,21 +27,21 @@ pub enum Kind {
     Node,
 }
 
-impl Kind {
+impl PieceKind {
     /// The kind that a number below 8 stands for.
     #[tactic(auto, unfolding(crate::specs::Pieces::kind_of))]
-    pub(crate) fn of(number: u64) -> Kind
+    pub(crate) fn of(number: u64) -> PieceKind
         ensures kind { result ≡ kind_of number }
     {
         match number {
-            0 => Kind::Constant,
-            1 => Kind::Sum,
-            2 => Kind::Difference,
-            3 => Kind::While,
-            4 => Kind::If,
-            5 => Kind::Array,
-            6 => Kind::Input,
-            _ => Kind::Node,
+            0 => PieceKind::Constant,
+            1 => PieceKind::Sum,
+            2 => PieceKind::Difference,
+            3 => PieceKind::While,
+            4 => PieceKind::If,
+            5 => PieceKind::Array,
+            6 => PieceKind::Input,
+            _ => PieceKind::Node,
         }
     }
 
@@ -52,9 +52,13 @@ impl Kind {
         ensures few { result ≤ 3 }
     {
         match self {
-            Kind::Constant | Kind::Sum | Kind::Difference | Kind::Array | Kind::Input => 1,
-            Kind::While => 2,
-            Kind::If | Kind::Node => 3,
+            PieceKind::Constant
+            | PieceKind::Sum
+            | PieceKind::Difference
+            | PieceKind::Array
+            | PieceKind::Input => 1,
+            PieceKind::While => 2,
+            PieceKind::If | PieceKind::Node => 3,
         }
     }
 }
@@ -68,7 +72,7 @@ pub(crate) fn put_number(text: &mut Vec<u8>, number: u64) -> Result<(), AllocErr
 }
 
 /// Adds a variable.
-#[tactic(auto, unfolding(crate::specs::Pieces::variable_text), using(plain_values::proofs::Joined::joined_2))]
+#[tactic(auto, unfolding(crate::specs::Pieces::variable_text), using(base_values::proofs::Joined::joined_2))]
 fn put_variable(text: &mut Vec<u8>, x: u64) -> Result<(), AllocError>
     ensures added { OnOk result (text.new.items ≡ text.old.items ++ variable_text x) }
 {
@@ -77,7 +81,7 @@ fn put_variable(text: &mut Vec<u8>, x: u64) -> Result<(), AllocError>
 }
 
 /// Adds `vX = C;`.
-#[tactic(auto, unfolding(crate::specs::Pieces::constant_text), using(plain_values::proofs::Joined::joined_4))]
+#[tactic(auto, unfolding(crate::specs::Pieces::constant_text), using(base_values::proofs::Joined::joined_4))]
 pub(crate) fn put_constant(text: &mut Vec<u8>, x: u64, c: u64) -> Result<(), AllocError>
     ensures added { OnOk result (text.new.items ≡ text.old.items ++ constant_text x c) }
 {
@@ -88,7 +92,7 @@ pub(crate) fn put_constant(text: &mut Vec<u8>, x: u64, c: u64) -> Result<(), All
 }
 
 /// Adds `vX = vY;`.
-#[tactic(auto, unfolding(crate::specs::Pieces::copy_text), using(plain_values::proofs::Joined::joined_4))]
+#[tactic(auto, unfolding(crate::specs::Pieces::copy_text), using(base_values::proofs::Joined::joined_4))]
 fn put_copy(text: &mut Vec<u8>, x: u64, y: u64) -> Result<(), AllocError>
     ensures added { OnOk result (text.new.items ≡ text.old.items ++ copy_text x y) }
 {
@@ -99,7 +103,7 @@ fn put_copy(text: &mut Vec<u8>, x: u64, y: u64) -> Result<(), AllocError>
 }
 
 /// Adds `vX = vY + C;`.
-#[tactic(auto, unfolding(crate::specs::Pieces::sum_text), using(plain_values::proofs::Joined::joined_6))]
+#[tactic(auto, unfolding(crate::specs::Pieces::sum_text), using(base_values::proofs::Joined::joined_6))]
 pub(crate) fn put_sum(text: &mut Vec<u8>, x: u64, y: u64, c: u64) -> Result<(), AllocError>
     ensures added { OnOk result (text.new.items ≡ text.old.items ++ sum_text x y c) }
 {
@@ -112,7 +116,7 @@ pub(crate) fn put_sum(text: &mut Vec<u8>, x: u64, y: u64, c: u64) -> Result<(), 
 }
 
 /// Adds `vX = vY - vZ;`.
-#[tactic(auto, unfolding(crate::specs::Pieces::difference_text), using(plain_values::proofs::Joined::joined_6))]
+#[tactic(auto, unfolding(crate::specs::Pieces::difference_text), using(base_values::proofs::Joined::joined_6))]
 pub(crate) fn put_difference(text: &mut Vec<u8>, x: u64, y: u64, z: u64) -> Result<(), AllocError>
     ensures added { OnOk result (text.new.items ≡ text.old.items ++ difference_text x y z) }
 {
@@ -125,7 +129,7 @@ pub(crate) fn put_difference(text: &mut Vec<u8>, x: u64, y: u64, z: u64) -> Resu
 }
 
 /// Adds `while (vX < C) { vX = vX + 1; }`.
-#[tactic(auto, unfolding(crate::specs::Pieces::while_text), using(plain_values::proofs::Joined::joined_7))]
+#[tactic(auto, unfolding(crate::specs::Pieces::while_text), using(base_values::proofs::Joined::joined_7))]
 pub(crate) fn put_while(text: &mut Vec<u8>, x: u64, c: u64) -> Result<(), AllocError>
     ensures added { OnOk result (text.new.items ≡ text.old.items ++ while_text x c) }
 {
@@ -139,7 +143,7 @@ pub(crate) fn put_while(text: &mut Vec<u8>, x: u64, c: u64) -> Result<(), AllocE
 }
 
 /// Adds `if (vX < vY) { vX = vY; } else { vY = C; }`.
-#[tactic(auto, unfolding(crate::specs::Pieces::if_text), using(plain_values::proofs::Joined::joined_9))]
+#[tactic(auto, unfolding(crate::specs::Pieces::if_text), using(base_values::proofs::Joined::joined_9))]
 pub(crate) fn put_if(text: &mut Vec<u8>, x: u64, y: u64, c: u64) -> Result<(), AllocError>
     ensures added { OnOk result (text.new.items ≡ text.old.items ++ if_text x y c) }
 {
@@ -155,7 +159,7 @@ pub(crate) fn put_if(text: &mut Vec<u8>, x: u64, y: u64, c: u64) -> Result<(), A
 }
 
 /// Adds `a = array C;`.
-#[tactic(auto, unfolding(crate::specs::Pieces::array_text), using(plain_values::proofs::Joined::joined_3))]
+#[tactic(auto, unfolding(crate::specs::Pieces::array_text), using(base_values::proofs::Joined::joined_3))]
 pub(crate) fn put_array(text: &mut Vec<u8>, c: u64) -> Result<(), AllocError>
     ensures added { OnOk result (text.new.items ≡ text.old.items ++ array_text c) }
 {
@@ -165,7 +169,7 @@ pub(crate) fn put_array(text: &mut Vec<u8>, c: u64) -> Result<(), AllocError>
 }
 
 /// Adds `vX = input;`.
-#[tactic(auto, unfolding(crate::specs::Pieces::input_text), using(plain_values::proofs::Joined::joined_2))]
+#[tactic(auto, unfolding(crate::specs::Pieces::input_text), using(base_values::proofs::Joined::joined_2))]
 pub(crate) fn put_input(text: &mut Vec<u8>, x: u64) -> Result<(), AllocError>
     ensures added { OnOk result (text.new.items ≡ text.old.items ++ input_text x) }
 {

@@ -8,7 +8,7 @@ use std::alloc::AllocError;
 
 /// What the script asks for.
 #[derive(Clone, Copy)]
-enum Turn {
+enum ScriptRequest {
     /// The state after a statement, and its cost.
     Ask,
     /// Another statement in its place.
@@ -17,16 +17,16 @@ enum Turn {
     Insert,
 }
 
-impl Turn {
+impl ScriptRequest {
     /// The turn that a number below 4 stands for.
     #[tactic(auto, unfolding(crate::specs::Script::turn_of))]
-    fn of(number: u64) -> Turn
+    fn of(number: u64) -> ScriptRequest
         ensures turn { result ≡ turn_of number }
     {
         match number {
-            2 => Turn::Replace,
-            3 => Turn::Insert,
-            _ => Turn::Ask,
+            2 => ScriptRequest::Replace,
+            3 => ScriptRequest::Insert,
+            _ => ScriptRequest::Ask,
         }
     }
 }
@@ -42,7 +42,7 @@ pub(crate) fn put_turn(
     ensures added { OnOk result (lines.new.items ≡ lines.old.items ++ turn_lines statements draws.old) }
     ensures state { OnOk result (draws.new ≡ turn_state draws.old) }
 {
-    let turn = Turn::of(draws.pick(4));
+    let turn = ScriptRequest::of(draws.pick(4));
     let statement = 1 + draws.pick(statements);
     put_lines(lines, draws, turn, statement)
 }
@@ -51,20 +51,20 @@ pub(crate) fn put_turn(
 fn put_lines(
     lines: &mut Vec<u8>,
     draws: &mut Draws,
-    turn: Turn,
+    turn: ScriptRequest,
     statement: u64,
 ) -> Result<(), AllocError>
     ensures added { OnOk result (lines.new.items ≡ lines.old.items ++ lines_of turn statement draws.old) }
     ensures state { OnOk result (draws.new ≡ state_after turn draws.old) }
 {
     match turn {
-        Turn::Ask => put_ask(lines, statement),
-        Turn::Replace => {
+        ScriptRequest::Ask => put_ask(lines, statement),
+        ScriptRequest::Replace => {
             let x = draws.variable();
             let c = draws.constant();
             put_replace(lines, statement, x, c)
         }
-        Turn::Insert => put_insert(lines, statement),
+        ScriptRequest::Insert => put_insert(lines, statement),
     }
 }
 

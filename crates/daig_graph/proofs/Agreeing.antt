@@ -10,7 +10,7 @@ use Rattle.daig_graph.specs.Agrees.{Agrees, filled}
 use Rattle.daig_graph.proofs.Cases.{none-some}
 use Rattle.daig_graph.proofs.Maps.{cell_map, map-none, map-some}
 use Rattle.std.proofs.lemmas.Option.{slice_get_within, same_Some}
-use Rattle.plain_values.proofs.Lists.{get_some}
+use Rattle.base_values.proofs.Lists.{get_some}
 
 module _ {V : Type 0} (slots : List (Option (Cell V))) (keys : ℕ → Option ℕ) (owned : Held ℕ) (uses : Held Use) (agrees : Agrees (λ k. get_or slots k None) keys owned uses) where
   -- a number has one key

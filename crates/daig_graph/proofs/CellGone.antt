@@ -10,7 +10,7 @@ use Rattle.daig_graph.proofs.Cases.{none-some}
 use Rattle.daig_graph.proofs.Agreeing.{get-number, get-absent, get-key}
 use Rattle.daig_graph.proofs.Maps.{cell_map, remove-is}
 use Rattle.std.proofs.lemmas.Option.{slice_get_within, same_Some}
-use Rattle.plain_values.proofs.Lists.{get_some}
+use Rattle.base_values.proofs.Lists.{get_some}
 
 module _ {V : Type 0} (cells new_cells : ℕ → Option (Cell V)) (keys new_keys : ℕ → Option ℕ) (owned new_owned : Held ℕ) (uses new_uses : Held Use) (key : ℕ) (r : Cell V) where
   pub record Empties : Type 0 where

@@ -8,7 +8,7 @@ use Rattle.daig_graph.proofs.Cases.{none-some}
 use Rattle.daig_graph.proofs.Views.{held-get}
 use Rattle.daig_graph.proofs.Walking.{walk_of, walk-is, walk-length, walk-at, walk-list, walk-once, walk-all}
 use Rattle.std.proofs.lemmas.Option.{same_Some}
-use Rattle.plain_values.proofs.Lists.{get_within}
+use Rattle.base_values.proofs.Lists.{get_within}
 
 module _ {T : Type 0} (slots : List (Option (Member T))) (firsts : ℕ → Option ℕ) (linked : AreLinked (λ k. get_or slots k None) firsts) (v : Held T) (v_is : v.slots ≡ map held_at slots) (list : ℕ) where
   -- from the first member on

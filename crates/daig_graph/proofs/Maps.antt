@@ -10,7 +10,7 @@ use Rattle.daig_graph.specs.Cells.{Filled}
 use Rattle.daig_graph.proofs.Cases.{nat_eq-false, none-some}
 use Rattle.std.proofs.lemmas.Option.{same_Some}
 use Rattle.std.proofs.lemmas.Bool.{cases_eq}
-use Rattle.plain_values.proofs.Cases.{equal_test}
+use Rattle.base_values.proofs.Cases.{equal_test}
 use Rattle.std.proofs.Math.Nat.{suc_inj}
 
 pub tied : (q k : ℕ) → q ≡ k → eq_by_cmp nat_cmp q k ≡ true

@@ -5,7 +5,7 @@ use Rattle.daig_graph.specs.Linked.{AreLinked, held_at}
 use Rattle.daig_graph.proofs.Cases.{has_number, nat_eq-false, none-some}
 use Rattle.std.proofs.lemmas.Option.{same_Some}
 use Rattle.std.proofs.lemmas.Bool.{cases_eq}
-use Rattle.plain_values.proofs.Cases.{equal_test}
+use Rattle.base_values.proofs.Cases.{equal_test}
 
 module _ {T : Type 0} (old new : ℕ → Option (Member T)) (firsts new_firsts : ℕ → Option ℕ) (list key : ℕ) (item : T) where
   abbrev pub put_member : Member T

@@ -13,7 +13,7 @@ use crate::index::{Index, Link};
 use crate::inputs::Inputs;
 use crate::pool::Lists;
 use crate::value::Value;
-use plain_values::Memory;
+use base_values::Memory;
 use slab::Slab;
 use smallvec::SmallVec;
 use std::alloc::{AllocError, Global};

@@ -1,7 +1,7 @@
 //! The inputs of a cell that is to be filled.
 ghost use Rattle.std.specs.Prelude.{◌≡◌, [], ◌∷◌, ◌++◌, length, OnOk, OnErr};
 
-use plain_values::Memory;
+use base_values::Memory;
 use smallvec::SmallVec;
 use std::alloc::Global;
 use std::marker::Model;

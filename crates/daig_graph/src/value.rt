@@ -1,8 +1,8 @@
 //! Values of cells.
 ghost use Rattle.std.specs.Prelude.{◌≡◌, IfOk};
 
+use base_values::Memory;
 use imp_syntax::{Chain, StmtId};
-use plain_values::Memory;
 use std::alloc::{AllocError, Global};
 use std::marker::Model;
 use std::rc::Rc;

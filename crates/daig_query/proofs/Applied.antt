@@ -7,8 +7,8 @@ use Rattle.cell_names.specs.declared.frame.Point.{Point}
 use Rattle.cell_names.specs.Paths.{CellName}
 use Rattle.cell_rows.specs.Cells.{Cell, cell, asks_row, operation_row}
 use Rattle.imp_flow.specs.Plans.{Plan}
-use Rattle.flow_rows.specs.declared.row.Row.{Row}
-use Rattle.flow_rows.specs.declared.row.Row.TheVariants.{Fixed}
+use Rattle.imp_flow_rows.specs.declared.row.Row.{Row}
+use Rattle.imp_flow_rows.specs.declared.row.Row.TheVariants.{Fixed}
 use Rattle.daig_graph.specs.declared.value.Value.TheVariants.{State}
 use Rattle.loop_unroll.specs.Iterates.{iterate_of, state_in}
 use Rattle.daig_query.specs.declared.held.Held.{Held}
@@ -17,7 +17,7 @@ use Rattle.daig_query.specs.declared.store.Store.{Store}
 use Rattle.daig_query.specs.Kept.{IsValue}
 use Rattle.daig_query.specs.Made.{row_result, index_in, alone_in, number, state_at}
 use Rattle.daig_query.specs.Overs.{HasNoOver}
-use Rattle.named_cells.specs.Asked.{inputs}
+use Rattle.cell_graph.specs.Asked.{inputs}
 use Rattle.daig_query.specs.Right.{found}
 use Rattle.daig_query.specs.Opened.{IsReady}
 use Rattle.daig_query.proofs.Asked.{X, I, F, r, law, asks}

@@ -3,37 +3,37 @@ use Rattle.std.proofs.Common.{◌≡◌, ◌≢◌, ℕ, zero, suc, ◌≤◌, L
 use Rattle.std.proofs.lemmas.List.{length-map, length-take-le}
 use Rattle.domain_laws.specs.Operations.{Operations}
 use Rattle.batch_meaning.specs.Values as batch
-use Rattle.batch_meaning.specs.Batch.{Engine}
-use Rattle.demand_order.specs.Asking.{gather, gather_next, inputs_of, value_of}
-use Rattle.cell_names.specs.declared.frame.Frame.{Frame}
+use Rattle.batch_meaning.specs.Batch.{LoopOptions}
+use Rattle.daig_order.specs.Asking.{gather, gather_next, inputs_of, value_of}
+use Rattle.cell_names.specs.declared.frame.NameFrame.{NameFrame}
 use Rattle.cell_names.specs.declared.frame.Point.{Point}
 use Rattle.cell_names.specs.Paths.{CellName}
 use Rattle.cell_rows.specs.Names.{name, bare, iterate_point}
 use Rattle.cell_rows.specs.Rows as plain
 use Rattle.cell_rows.specs.Cells.{Cell, asks_row, most_row, by_row, right_of}
 use Rattle.cell_rows.specs.Claims.{rows_of}
-use Rattle.demand_laws.specs.Claims.{Answered}
-use Rattle.demand_laws.proofs.Machine.{answered}
-use Rattle.flow_rows.specs.Near.{row_in}
-use Rattle.flow_rows.specs.NodeRows.{iterate_at}
+use Rattle.daig_demands.specs.Claims.{Answered}
+use Rattle.daig_demands.proofs.Machine.{answered}
+use Rattle.imp_flow_rows.specs.Near.{row_in}
+use Rattle.imp_flow_rows.specs.NodeRows.{iterate_at}
 use Rattle.imp_flow.specs.Plans.{Plan}
-use Rattle.flow_rows.specs.declared.row.Row.{Row}
-use Rattle.flow_rows.specs.declared.row.Row.TheVariants.{Init, One, Two, Fixed, Joins}
+use Rattle.imp_flow_rows.specs.declared.row.Row.{Row}
+use Rattle.imp_flow_rows.specs.declared.row.Row.TheVariants.{Init, One, Two, Fixed, Joins}
 use Rattle.daig_graph.specs.Cells.{AreCells}
 use Rattle.daig_graph.specs.declared.value.Value.{Value}
 use Rattle.daig_graph.specs.declared.value.Value.TheVariants.{State, Over}
 use Rattle.daig_query.specs.declared.held.Held.{Held}
 use Rattle.daig_query.specs.declared.opening.Open.{Open}
 use Rattle.daig_query.specs.declared.store.Store.{Store}
-use Rattle.named_cells.specs.Same.{same_name}
-use Rattle.named_cells.specs.Named.{AreNumbers}
+use Rattle.cell_graph.specs.Same.{same_name}
+use Rattle.cell_graph.specs.Named.{AreNumbers}
 use Rattle.daig_query.specs.Kept.{IsValue}
 use Rattle.daig_query.specs.Asked.{by_count, round_of, by_round, joined_next}
-use Rattle.named_cells.specs.Asked.{inputs}
+use Rattle.cell_graph.specs.Asked.{inputs}
 use Rattle.daig_query.specs.Right.{found, IsRight}
 use Rattle.daig_query.specs.Opened.{name_of, IsAt, next_of}
-use Rattle.named_cells.proofs.Same.{same_is}
-use Rattle.named_cells.proofs.Numbers.{numbers_length}
+use Rattle.cell_graph.proofs.Same.{same_is}
+use Rattle.cell_graph.proofs.Numbers.{numbers_length}
 use Rattle.daig_query.proofs.Found.{stored, is_there}
 
 next_length : {T V : Type 0} (value : T → V) (rest : List V → List T) (n : ℕ) (vs : List V) (o : Option T) → ((us : List V) → length (rest us) ≤ n) → length (gather_next value rest vs o) ≤ suc n
@@ -45,14 +45,14 @@ unfolding gather
 gather_length value asks zero vs = omega arith
 gather_length {T} {V} value asks (suc n) vs = next_length value (gather value asks n) n vs (asks vs) (λ us. gather_length value asks n us)
 
-pub same_iterate : (engine : Engine) (n : ℕ) (p : Point) (k : ℕ) → iterate_at n p k ≡ iterate_point engine bare n p k
+pub same_iterate : (engine : LoopOptions) (n : ℕ) (p : Point) (k : ℕ) → iterate_at n p k ≡ iterate_point engine bare n p k
 same_iterate engine n p zero = refl
 same_iterate engine n p (suc k) = refl
 
-module _ {S : Type 0} (dom : Operations S) (engine : Engine) where
+module _ {S : Type 0} (dom : Operations S) (engine : LoopOptions) where
   -- an operation on one value or two asks by the count
   pub count_asks : (row : Row) → ((n : ℕ) (p : Point) → row ≢ Fixed n p) → ((s : Bool) (l : Point) (n : ℕ) (p : Point) → row ≢ Joins s l n p) →
-      (w : List Frame) (vs : List (Cell S)) → by_count (length vs) (row_in w row) ≡ asks_row dom engine (row_in w row) vs
+      (w : List NameFrame) (vs : List (Cell S)) → by_count (length vs) (row_in w row) ≡ asks_row dom engine (row_in w row) vs
   count_asks (Init layout) f j w [] = refl
   count_asks (Init layout) f j w (v ∷ []) = refl
   count_asks (Init layout) f j w (v ∷ u ∷ vs) = refl
@@ -65,7 +65,7 @@ module _ {S : Type 0} (dom : Operations S) (engine : Engine) where
   count_asks (Fixed n p) f j w vs = absurd (f n p refl)
   count_asks (Joins s l n p) f j w vs = absurd (j s l n p refl)
 
-  round_asks : (states : List S) (u : Value Held) (v : Cell S) → IsValue states u v → (stays : Bool) (l : CellName) (n : ℕ) (w : List Frame) (p : Point) →
+  round_asks : (states : List S) (u : Value Held) (v : Cell S) → IsValue states u v → (stays : Bool) (l : CellName) (n : ℕ) (w : List NameFrame) (p : Point) →
       by_round (round_of engine.budget (Some u)) (plain.Joins stays l n w p) ≡ right_of dom engine n w p v.value v.index
   round_asks states (Over m chain) v e stays l n w p = ap (λ x. right_of dom engine n w p x v.index) (sym e)
   round_asks states (State h) v (s, at, e) stays l n w p = by (nat_lt h.index engine.budget) refl ∙ ap (λ (c : Cell S). right_of dom engine n w p c.value c.index) (sym e)
@@ -76,7 +76,7 @@ module _ {S : Type 0} (dom : Operations S) (engine : Engine) where
 
 module _ {S : Type 0} (dom : Operations S) (plan : Plan) (store : Store S) (right : IsRight dom plan store) where
   -- a join behind a loop with breaks, behind these inputs
-  pub joined_asks : (ns : List ℕ) (xs : List CellName) → AreNumbers store.names.names ns xs → AreCells store.graph.cells ns → (stays : Bool) (l : CellName) (n : ℕ) (w : List Frame) (p : Point) →
+  pub joined_asks : (ns : List ℕ) (xs : List CellName) → AreNumbers store.names.names ns xs → AreCells store.graph.cells ns → (stays : Bool) (l : CellName) (n : ℕ) (w : List NameFrame) (p : Point) →
       joined_next plan.engine.budget store.graph.cells ns (plain.Joins stays l n w p) ≡ asks_row dom plan.engine (plain.Joins stays l n w p) (map (found dom plan) xs)
   joined_asks [] [] e c stays l n w p = refl
   joined_asks [] (x ∷ xs) e c stays l n w p = absurd cc

@@ -7,7 +7,7 @@ use Rattle.cell_names.specs.declared.path.Name.{Name}
 use Rattle.cell_names.specs.Known.{IsOnce, Adds}
 use Rattle.cell_names.specs.Paths.{CellName, name_in}
 use Rattle.cell_rows.specs.Targets.{Target}
-use Rattle.demand_laws.specs.Walks.{asks}
+use Rattle.daig_demands.specs.Walks.{asks}
 use Rattle.imp_flow.specs.Plans.{Plan}
 use Rattle.daig_query.specs.declared.opening.Open.{Open}
 use Rattle.daig_query.specs.declared.store.Store.{Store}
@@ -16,7 +16,7 @@ use Rattle.daig_query.specs.Kept.{kept}
 use Rattle.daig_query.specs.Right.{IsRight}
 use Rattle.daig_query.specs.Walked.{AreTargets, place_of, IsPlaced, IsAsked}
 use Rattle.daig_query.proofs.Growing.{keeps_refl, names_grow}
-use Rattle.named_cells.proofs.Numbers.{filled_number}
+use Rattle.cell_graph.proofs.Numbers.{filled_number}
 use Rattle.daig_query.proofs.Looking.{Named, named_by, later, fresh, is_absent}
 use Rattle.daig_query.proofs.Walks.{place_stays, placed_grows, asked_named}
 

@@ -9,7 +9,7 @@ use Rattle.cell_names.specs.Known.{IsOnce}
 use Rattle.cell_names.specs.Paths.{CellName}
 use Rattle.imp_flow.specs.Plans.{Plan}
 use Rattle.memo_table.specs.Results.{AreResults}
-use Rattle.named_cells.specs.Named.{filled_at, number_of}
+use Rattle.cell_graph.specs.Named.{filled_at, number_of}
 use Rattle.daig_query.specs.declared.store.Store.{Store}
 use Rattle.daig_query.specs.Kept.{kept}
 use Rattle.daig_query.specs.Right.{IsRight}

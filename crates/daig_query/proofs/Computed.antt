@@ -5,20 +5,20 @@ use Rattle.std.specs.FinMap.{get}
 use Rattle.std.proofs.lemmas.Option.{slice_get_within}
 use Rattle.domain_laws.specs.Operations.{Operations}
 use Rattle.batch_meaning.specs.Values as batch
-use Rattle.batch_meaning.specs.Batch.{Engine}
-use Rattle.cell_names.specs.declared.frame.Frame.{Frame}
+use Rattle.batch_meaning.specs.Batch.{LoopOptions}
+use Rattle.cell_names.specs.declared.frame.NameFrame.{NameFrame}
 use Rattle.cell_names.specs.declared.frame.Point.{Point}
 use Rattle.cell_names.specs.Paths.{CellName}
 use Rattle.cell_rows.specs.Cells.{Cell, cell, asks_row, operation_row}
-use Rattle.flow_rows.specs.Near.{row_in}
+use Rattle.imp_flow_rows.specs.Near.{row_in}
 use Rattle.imp_flow.specs.Plans.{Plan}
-use Rattle.flow_rows.specs.declared.input.Input.{Input}
-use Rattle.flow_rows.specs.declared.row.Unary.{Unary}
-use Rattle.flow_rows.specs.declared.row.Unary.TheVariants as one
-use Rattle.flow_rows.specs.declared.row.Binary.{Binary}
-use Rattle.flow_rows.specs.declared.row.Binary.TheVariants as two
-use Rattle.flow_rows.specs.declared.row.Row.{Row}
-use Rattle.flow_rows.specs.declared.row.Row.TheVariants.{Init, One, Two, Fixed, Joins}
+use Rattle.imp_flow_rows.specs.declared.input.Input.{Input}
+use Rattle.imp_flow_rows.specs.declared.row.Unary.{Unary}
+use Rattle.imp_flow_rows.specs.declared.row.Unary.TheVariants as one
+use Rattle.imp_flow_rows.specs.declared.row.Binary.{Binary}
+use Rattle.imp_flow_rows.specs.declared.row.Binary.TheVariants as two
+use Rattle.imp_flow_rows.specs.declared.row.Row.{Row}
+use Rattle.imp_flow_rows.specs.declared.row.Row.TheVariants.{Init, One, Two, Fixed, Joins}
 use Rattle.memo_table.specs.declared.operation.Operation.{Operation}
 use Rattle.memo_table.specs.Results.{result_of, operand, both}
 use Rattle.daig_graph.specs.Cells.{AreCells, Filled}
@@ -27,7 +27,7 @@ use Rattle.daig_graph.specs.declared.value.Value.TheVariants.{State, Over}
 use Rattle.loop_unroll.specs.Iterates.{iterate_of, state_in}
 use Rattle.daig_query.specs.declared.held.Held.{Held}
 use Rattle.daig_query.specs.declared.store.Store.{Store}
-use Rattle.named_cells.specs.Named.{AreNumbers}
+use Rattle.cell_graph.specs.Named.{AreNumbers}
 use Rattle.daig_query.specs.Kept.{Cells, IsValue}
 use Rattle.daig_query.specs.Made.{IsOperationOf, unary_state, binary_state, row_result, index_in, alone_in, number, state_at}
 use Rattle.daig_query.specs.Overs.{HasNoOver}
@@ -44,7 +44,7 @@ module _ {S : Type 0} (dom : Operations S) where
   made (One (one.Exit c) a) o e l r = ap (λ x. result_of dom x l r) e
   made (Two two.Join a b) o e l r = ap (λ x. result_of dom x l r) e
   made (Two (two.Leave call) a b) o (t, e, k) l r = ap (λ x. result_of dom x l r) e ∙ ap (λ x. both (dom.leave x) l r) k
-  made (Two (two.Widen marks) a b) o e l r = ap (λ x. result_of dom x l r) e
+  made (Two (two.Widen thresholds) a b) o e l r = ap (λ x. result_of dom x l r) e
   made (Fixed n p) o e l r = ap (λ x. result_of dom x l r) e
   made (Joins stays left n right) o e l r = ap (λ x. result_of dom x l r) e
 
@@ -64,7 +64,7 @@ module _ {S : Type 0} (states : List S) where
   known (more h v s at e rest) zero = slice_get_within states h.state s at
   known (more h v s at e rest) (suc i) = known rest i
 
-  module _ (dom : Operations S) (engine : Engine) where
+  module _ (dom : Operations S) (engine : LoopOptions) where
     abbrev pub left : List Held → Option S
     left hs = state_at states (number (slice_get hs 0))
 
@@ -72,34 +72,34 @@ module _ {S : Type 0} (states : List S) where
     right hs = state_at states (number (slice_get hs 1))
 
     -- where all inputs are found, there is a result, but of a join with its left input alone
-    pub data Made (row : Row) (w : List Frame) (hs : List Held) (vs : List (Cell S)) : Type 0 where
+    pub data Made (row : Row) (w : List NameFrame) (hs : List Held) (vs : List (Cell S)) : Type 0 where
       result : (t : S) → row_result dom row (left hs) (right hs) ≡ Some t → operation_row dom engine (row_in w row) vs ≡ cell (batch.State t) (index_in row (slice_get hs 0)) → alone_in row (slice_get hs 0) (slice_get hs 1) ≡ None → Made row w hs vs
       alone : (h : Held) (s : S) → alone_in row (slice_get hs 0) (slice_get hs 1) ≡ Some h → slice_get states h.state ≡ Some s → operation_row dom engine (row_in w row) vs ≡ cell (batch.State s) (index_in row (slice_get hs 0)) → Made row w hs vs
 
-    one_row : (op : Unary) (a : Input) (w : List Frame) (h : Held) (s : S) (vs : List (Cell S)) → operation_row dom engine (row_in w (One op a)) (cell (batch.State s) h.index ∷ vs) ≡ cell (batch.State (unary_state dom op s)) (index_in (One op a) (Some h))
+    one_row : (op : Unary) (a : Input) (w : List NameFrame) (h : Held) (s : S) (vs : List (Cell S)) → operation_row dom engine (row_in w (One op a)) (cell (batch.State s) h.index ∷ vs) ≡ cell (batch.State (unary_state dom op s)) (index_in (One op a) (Some h))
     one_row (one.Post x) a w h s vs = refl
     one_row (one.Assume c b) a w h s vs = refl
     one_row (one.Enter call) a w h s vs = refl
     one_row (one.Exit c) a w h s vs = refl
 
-    two_row : (op : Binary) (a b : Input) (w : List Frame) (s t : S) (i j : ℕ) (vs : List (Cell S)) → operation_row dom engine (row_in w (Two op a b)) (cell (batch.State s) i ∷ cell (batch.State t) j ∷ vs) ≡ cell (batch.State (binary_state dom op s t)) 0
+    two_row : (op : Binary) (a b : Input) (w : List NameFrame) (s t : S) (i j : ℕ) (vs : List (Cell S)) → operation_row dom engine (row_in w (Two op a b)) (cell (batch.State s) i ∷ cell (batch.State t) j ∷ vs) ≡ cell (batch.State (binary_state dom op s t)) 0
     two_row two.Join a b w s t i j vs = refl
     two_row (two.Leave call) a b w s t i j vs = refl
-    two_row (two.Widen marks) a b w s t i j vs = refl
+    two_row (two.Widen thresholds) a b w s t i j vs = refl
 
-    join_row : (b : Bool) (l : Point) (n : ℕ) (q : Point) (w : List Frame) (h : Held) (s t : S) (j : ℕ) (vs : List (Cell S)) →
+    join_row : (b : Bool) (l : Point) (n : ℕ) (q : Point) (w : List NameFrame) (h : Held) (s t : S) (j : ℕ) (vs : List (Cell S)) →
         operation_row dom engine (row_in w (Joins b l n q)) (cell (batch.State s) h.index ∷ cell (batch.State t) j ∷ vs) ≡ cell (batch.State (dom.join s t)) (index_in (Joins b l n q) (Some h))
     join_row true l n q w h s t j vs = refl
     join_row false l n q w h s t j vs = refl
 
-    alone_row : (b : Bool) (l : Point) (n : ℕ) (q : Point) (w : List Frame) (h : Held) (s : S) → operation_row dom engine (row_in w (Joins b l n q)) (cell (batch.State s) h.index ∷ []) ≡ cell (batch.State s) (index_in (Joins b l n q) (Some h))
+    alone_row : (b : Bool) (l : Point) (n : ℕ) (q : Point) (w : List NameFrame) (h : Held) (s : S) → operation_row dom engine (row_in w (Joins b l n q)) (cell (batch.State s) h.index ∷ []) ≡ cell (batch.State s) (index_in (Joins b l n q) (Some h))
     alone_row true l n q w h s = refl
     alone_row false l n q w h s = refl
 
     both_there : (f : S → S → S) (m k : ℕ) (s t : S) → slice_get states m ≡ Some s → slice_get states k ≡ Some t → both f (slice_get states m) (slice_get states k) ≡ Some (f s t)
     both_there f m k s t e g = rw (e, g) refl
 
-    pub row_made : (row : Row) → ((n : ℕ) (p : Point) → row ≢ Fixed n p) → (w : List Frame) (hs : List Held) (vs : List (Cell S)) → AreHeld hs vs → asks_row dom engine (row_in w row) vs ≡ None → Made row w hs vs
+    pub row_made : (row : Row) → ((n : ℕ) (p : Point) → row ≢ Fixed n p) → (w : List NameFrame) (hs : List Held) (vs : List (Cell S)) → AreHeld hs vs → asks_row dom engine (row_in w row) vs ≡ None → Made row w hs vs
     row_made (Init layout) f w hs vs held e = result (dom.init layout.now) refl refl refl
     row_made (One op x) f w _ _ none e = absurd cc
     row_made (One op x) f w _ _ (more {hs = hs} {vs = vs} h v s at is rest) e =

@@ -9,12 +9,12 @@ use Rattle.cell_names.specs.Paths.{CellName}
 use Rattle.cell_rows.specs.Targets.{Target}
 use Rattle.imp_flow.specs.Plans.{Plan}
 use Rattle.daig_query.specs.declared.advance.Progress.{Progress}
-use Rattle.daig_query.specs.declared.advance.Turn.{Turn}
-use Rattle.daig_query.specs.declared.advance.Turn.TheVariants.{Pushed, Filled, Spent, Done}
+use Rattle.daig_query.specs.declared.advance.AdvanceResult.{AdvanceResult}
+use Rattle.daig_query.specs.declared.advance.AdvanceResult.TheVariants.{Pushed, Filled, Spent, Done}
 use Rattle.daig_query.specs.declared.store.Store.{Store}
 use Rattle.daig_query.specs.declared.walk.Walk.{Walk}
 use Rattle.daig_query.specs.Kept.{AddsFew, Names}
-use Rattle.daig_query.specs.Filled.{added, missing, Fills}
+use Rattle.daig_query.specs.Filled.{cells_added, missing, Fills}
 use Rattle.daig_query.specs.Turned.{stacked_names, fills_of, Obeys, Pushes, FillsTop, Waits, Ends}
 use Rattle.daig_query.specs.Walked.{IsDone, IsGood}
 use Rattle.daig_query.proofs.Growing.{few_more, few_trans, names_few}
@@ -23,17 +23,17 @@ use Rattle.daig_query.proofs.Turns.{IsRunning, running_left, stops, pushes, push
 
 -- What the clauses of a demand say, of a result.
 pub record IsDemand {S E : Type 0} (dom : Operations S) (plan : Plan) (ts : List Target) (old new : Store S) (after : Walk) (limit : Option ℕ) (each ticks later : ℕ) (result : Result Progress E) : Type 0 where
-  pub fills : Fills dom plan ts old new (added old new)
+  pub fills : Fills dom plan ts old new (cells_added old new)
   pub walk : IsGood dom plan ts new after
-  pub within : IfSome limit (λ n. added old new ≤ n)
-  pub counted : IfOk result (λ p. p.filled ≡ added old new)
+  pub within : IfSome limit (λ n. cells_added old new ≤ n)
+  pub counted : IfOk result (λ p. p.filled ≡ cells_added old new)
   pub all : IfOk result (λ p. p.done ≡ true → p.filled ≡ length (missing dom plan ts old))
   pub done : IfOk result (λ p. p.done ≡ true → IsDone dom plan ts new after)
   pub more : IfOk result (λ p. p.done ≡ false → p.filled < length (missing dom plan ts old))
   pub limited : IfOk result (λ p. p.done ≡ false → limit ≡ Some p.filled)
   pub least : ticks ≤ later
   pub ticked : IfOk result (λ p. later ≤ ticks + each * p.filled)
-  pub most : later ≤ ticks + each * suc (added old new)
+  pub most : later ≤ ticks + each * suc (cells_added old new)
 
 -- a limit that is met
 pub limit_met : (limit : Option ℕ) (m : ℕ) → option_eq eqb limit (Some m) ≡ true → limit ≡ Some m
@@ -54,10 +54,10 @@ module _ {S : Type 0} (dom : Operations S) (plan : Plan) (ts : List Target) (fir
   -- turns have come to a store, a walk and these ticks
   pub record HasCome (store : Store S) (w : Walk) (ticks : ℕ) : Type 0 where
     pub running : IsRunning dom plan ts first store w
-    pub within : IfSome limit (λ n. added first store ≤ n)
+    pub within : IfSome limit (λ n. cells_added first store ≤ n)
     pub least : start ≤ ticks
-    pub most : ticks ≤ start + each * added first store
-    pub few : AddsFew (added first store) first store
+    pub most : ticks ≤ start + each * cells_added first store
+    pub few : AddsFew (cells_added first store) first store
 
   -- a few more, and those of a cell more
   few_past : (old new : Store S) (a b : ℕ) → b ≡ a → AddsFew a first old → AddsFew 1 old new → AddsFew (suc b) first new
@@ -73,16 +73,16 @@ module _ {S : Type 0} (dom : Operations S) (plan : Plan) (ts : List Target) (fir
     abbrev names : List CellName
     names = stacked_names old before.stack.items
 
-    still : new.graph.cells ≡ old.graph.cells → added first new ≡ added first old
+    still : new.graph.cells ≡ old.graph.cells → cells_added first new ≡ cells_added first old
     still cells = ap (λ m. len m - len first.graph.cells) cells
 
     pub demand_failed : {E : Type 0} {e : E} → IsTurn dom plan ts old new names after spent each ticks later (Err e) → {F : Type 0} (f : F) (r : Result Progress F) → r ≡ Err f → IsDemand dom plan ts first new after limit each start later r
     demand_failed t {F} f r is =
-        let same : added first new ≡ added first old = still t.err.cells in
+        let same : cells_added first new ≡ cells_added first old = still t.err.cells in
         subst (IsDemand {E = F} dom plan ts first new after limit each start later) (sym is) (record {
-          fills = stops dom plan ts first old new before after come.running t.right t.grows t.walk t.err.cells (few_past old new (added first old) (added first new) same come.few t.err.few);
+          fills = stops dom plan ts first old new before after come.running t.right t.grows t.walk t.err.cells (few_past old new (cells_added first old) (cells_added first new) same come.few t.err.few);
           walk = t.walk;
-          within = within_still dom plan ts limit (added first old) (added first new) same come.within;
+          within = within_still dom plan ts limit (cells_added first old) (cells_added first new) same come.within;
           counted = tt;
           all = tt;
           done = tt;
@@ -90,11 +90,11 @@ module _ {S : Type 0} (dom : Operations S) (plan : Plan) (ts : List Target) (fir
           limited = tt;
           least = omega (arith, come.least, t.least);
           ticked = tt;
-          most = ticks_past start ticks later each (added first old) (added first new) same come.most t.most;
+          most = ticks_past start ticks later each (cells_added first old) (cells_added first new) same come.most t.most;
         })
 
-    module _ {E : Type 0} (turn : Turn) (t : IsTurn {E = E} dom plan ts old new names after spent each ticks later (Ok turn)) where
-      ticked_by : (is : Turn) → turn ≡ is → later ≤ ticks + each * fills_of is
+    module _ {E : Type 0} (turn : AdvanceResult) (t : IsTurn {E = E} dom plan ts old new names after spent each ticks later (Ok turn)) where
+      ticked_by : (is : AdvanceResult) → turn ≡ is → later ≤ ticks + each * fills_of is
       ticked_by is e = subst (λ u. later ≤ ticks + each * fills_of u) e t.ticked
 
       least_by : start ≤ later
@@ -106,13 +106,13 @@ module _ {S : Type 0} (dom : Operations S) (plan : Plan) (ts : List Target) (fir
 
         pub come_pushed : HasCome new after later
         come_pushed =
-            let same : added first new ≡ added first old = still (ap (λ g. g.cells) pushed.only.graph) in
+            let same : cells_added first new ≡ cells_added first old = still (ap (λ g. g.cells) pushed.only.graph) in
             record {
               running = pushes dom plan ts first old new before after come.running t.right t.grows t.walk pushed;
-              within = within_still dom plan ts limit (added first old) (added first new) same come.within;
+              within = within_still dom plan ts limit (cells_added first old) (cells_added first new) same come.within;
               least = least_by;
-              most = ticks_same start ticks later each (added first old) (added first new) same come.most (ticked_by Pushed e);
-              few = few_still old new (added first old) (added first new) same come.few pushed.only;
+              most = ticks_same start ticks later each (cells_added first old) (cells_added first new) same come.most (ticked_by Pushed e);
+              few = few_still old new (cells_added first old) (cells_added first new) same come.few pushed.only;
             }
 
         pub pushed_smaller : running_left dom plan ts first new after < running_left dom plan ts first old before
@@ -122,58 +122,58 @@ module _ {S : Type 0} (dom : Operations S) (plan : Plan) (ts : List Target) (fir
         abbrev filled : FillsTop dom plan ts old new names after
         filled = turned dom plan ts old new names after turn Filled e t.turns
 
-        pub come_filled : (spent ≡ false → limit ≡ Some (added first old) → ⊥) → HasCome new after later
+        pub come_filled : (spent ≡ false → limit ≡ Some (cells_added first old) → ⊥) → HasCome new after later
         come_filled free =
-            let more : added first new ≡ added first old + 1 = fills_more dom plan ts first old new before after come.running t.right t.grows t.walk filled in
+            let more : cells_added first new ≡ cells_added first old + 1 = fills_more dom plan ts first old new before after come.running t.right t.grows t.walk filled in
             record {
               running = fills_one dom plan ts first old new before after come.running t.right t.grows t.walk filled;
-              within = within_more dom plan ts limit (added first old) (added first new) more (free (subst (Obeys spent) e t.obeys)) come.within;
+              within = within_more dom plan ts limit (cells_added first old) (cells_added first new) more (free (subst (Obeys spent) e t.obeys)) come.within;
               least = least_by;
-              most = ticks_more start ticks later each (added first old) (added first new) more come.most (ticked_by Filled e);
-              few = few_more first new (added first old + 1) (added first new) (omega (arith, more)) (few_trans first old new (added first old) 1 come.few filled.puts.few);
+              most = ticks_more start ticks later each (cells_added first old) (cells_added first new) more come.most (ticked_by Filled e);
+              few = few_more first new (cells_added first old + 1) (cells_added first new) (omega (arith, more)) (few_trans first old new (cells_added first old) 1 come.few filled.puts.few);
             }
 
         pub filled_smaller : running_left dom plan ts first new after < running_left dom plan ts first old before
         filled_smaller = fills_smaller dom plan ts first old new before after come.running t.right t.grows t.walk filled
 
       -- the demand ends here
-      module _ (count : ℕ) (counted : count ≡ added first old) where
+      module _ (count : ℕ) (counted : count ≡ cells_added first old) where
         pub demand_spent : turn ≡ Spent → (spent ≡ true → limit ≡ Some count) → {F : Type 0} → IsDemand {E = F} dom plan ts first new after limit each start later (Ok (record { filled = count; done = false }))
         demand_spent e met =
             let waits : Waits dom plan ts old new names after = turned dom plan ts old new names after turn Spent e t.turns in
             let cells : new.graph.cells ≡ old.graph.cells = ap (λ g. g.cells) waits.only.graph in
-            let same : added first new ≡ added first old = still cells in
-            let more : added first new < length (missing dom plan ts first) = waits_more dom plan ts first old new before after come.running t.right t.grows t.walk waits in
+            let same : cells_added first new ≡ cells_added first old = still cells in
+            let more : cells_added first new < length (missing dom plan ts first) = waits_more dom plan ts first old new before after come.running t.right t.grows t.walk waits in
             record {
-              fills = stops dom plan ts first old new before after come.running t.right t.grows t.walk cells (few_ends old new (added first old) (added first new) same come.few waits.only);
+              fills = stops dom plan ts first old new before after come.running t.right t.grows t.walk cells (few_ends old new (cells_added first old) (cells_added first new) same come.few waits.only);
               walk = t.walk;
-              within = within_still dom plan ts limit (added first old) (added first new) same come.within;
+              within = within_still dom plan ts limit (cells_added first old) (cells_added first new) same come.within;
               counted = counted ∙ sym same;
               all = λ d. absurd cc;
               done = λ d. absurd cc;
               more = λ d. omega (arith, more, same, counted);
               limited = λ d. met (subst (Obeys spent) e t.obeys);
               least = least_by;
-              ticked = ticks_same start ticks later each (added first old) count counted come.most (ticked_by Spent e);
-              most = ticks_past start ticks later each (added first old) (added first new) same come.most t.most;
+              ticked = ticks_same start ticks later each (cells_added first old) count counted come.most (ticked_by Spent e);
+              most = ticks_past start ticks later each (cells_added first old) (cells_added first new) same come.most t.most;
             }
 
         pub demand_done : turn ≡ Done → {F : Type 0} → IsDemand {E = F} dom plan ts first new after limit each start later (Ok (record { filled = count; done = true }))
         demand_done e =
             let ends : Ends dom plan ts old new names after = turned dom plan ts old new names after turn Done e t.turns in
             let cells : new.graph.cells ≡ old.graph.cells = ap (λ g. g.cells) ends.only.graph in
-            let same : added first new ≡ added first old = still cells in
-            let all : added first new ≡ length (missing dom plan ts first) = ends_all dom plan ts first old new before after come.running t.right t.grows t.walk ends in
+            let same : cells_added first new ≡ cells_added first old = still cells in
+            let all : cells_added first new ≡ length (missing dom plan ts first) = ends_all dom plan ts first old new before after come.running t.right t.grows t.walk ends in
             record {
-              fills = stops dom plan ts first old new before after come.running t.right t.grows t.walk cells (few_ends old new (added first old) (added first new) same come.few ends.only);
+              fills = stops dom plan ts first old new before after come.running t.right t.grows t.walk cells (few_ends old new (cells_added first old) (cells_added first new) same come.few ends.only);
               walk = t.walk;
-              within = within_still dom plan ts limit (added first old) (added first new) same come.within;
+              within = within_still dom plan ts limit (cells_added first old) (cells_added first new) same come.within;
               counted = counted ∙ sym same;
               all = λ d. counted ∙ (sym same ∙ all);
               done = λ d. ends.done;
               more = λ d. absurd cc;
               limited = λ d. absurd cc;
               least = least_by;
-              ticked = ticks_same start ticks later each (added first old) count counted come.most (ticked_by Done e);
-              most = ticks_past start ticks later each (added first old) (added first new) same come.most t.most;
+              ticked = ticks_same start ticks later each (cells_added first old) count counted come.most (ticked_by Done e);
+              most = ticks_past start ticks later each (cells_added first old) (cells_added first new) same come.most t.most;
             }

@@ -5,33 +5,33 @@ use Rattle.std.proofs.Math.Seq.{take-length}
 use Rattle.std.specs.Option.{option_and_then}
 use Rattle.std.specs.Cmp.{nat_cmp_total}
 use Rattle.std.specs.FinMap.{get, insert, len, len-insert, contains_key}
-use Rattle.plain_values.proofs.Cases.{by_bool}
+use Rattle.base_values.proofs.Cases.{by_bool}
 use Rattle.domain_laws.specs.Operations.{Operations}
-use Rattle.demand_order.specs.Order.{member}
+use Rattle.daig_order.specs.Order.{member}
 use Rattle.cell_names.specs.Known.{IsOnce}
 use Rattle.cell_names.specs.Paths.{CellName}
 use Rattle.cell_rows.specs.Claims.{HasName}
-use Rattle.kept_set.specs.Touched as touched
+use Rattle.cell_kept_set.specs.Touched as touched
 use Rattle.imp_flow.specs.Plans.{Plan}
 use Rattle.memo_table.specs.Results.{AreResults}
 use Rattle.daig_graph.specs.Cells.{AreCells, Filled}
 use Rattle.daig_graph.proofs.Maps.{get-insert-here, get-insert-other}
 use Rattle.daig_query.specs.declared.held.Held.{Held}
-use Rattle.flow_rows.specs.declared.row.Row.{Row}
+use Rattle.imp_flow_rows.specs.declared.row.Row.{Row}
 use Rattle.daig_query.specs.declared.opening.Open.{Open}
 use Rattle.daig_query.specs.declared.store.Store.{Store}
-use Rattle.named_cells.specs.Same.{same_name}
-use Rattle.named_cells.specs.Named.{filled_at, number_of, AreNumbers}
+use Rattle.cell_graph.specs.Same.{same_name}
+use Rattle.cell_graph.specs.Named.{filled_at, number_of, AreNumbers}
 use Rattle.daig_query.specs.Kept.{kept, IsValue, Grows}
-use Rattle.named_cells.specs.Asked.{inputs}
+use Rattle.cell_graph.specs.Asked.{inputs}
 use Rattle.daig_query.specs.Right.{found, IsCellOf, IsRight}
 use Rattle.daig_query.specs.Opened.{name_of, IsReady, Puts, Computes}
-use Rattle.named_cells.proofs.Same.{same_is}
+use Rattle.cell_graph.proofs.Same.{same_is}
 use Rattle.daig_query.proofs.Growing.{few_same, few_trans, keeps_same, grows_trans, kept_alike}
-use Rattle.named_cells.proofs.Numbers.{number_there, filled_number, numbers_of, member_at}
+use Rattle.cell_graph.proofs.Numbers.{number_there, filled_number, numbers_of, member_at}
 use Rattle.std.proofs.lemmas.Bool.{or_cases, or_right, or_left, cases_eq as same_number}
 use Rattle.std.proofs.lemmas.Option.{same_Some}
-use Rattle.plain_values.proofs.Lists.{none_past}
+use Rattle.base_values.proofs.Lists.{none_past}
 use mathlib.Core.Bool.{or-false}
 
 pub on_ok : {A E P Q : Type 0} (r : Result A E) → OnOk r P → (P → Q) → OnOk r Q

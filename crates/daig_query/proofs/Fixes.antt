@@ -11,11 +11,11 @@ use Rattle.cell_names.specs.Paths.{CellName}
 use Rattle.cell_rows.specs.Names.{name, bare, iterate_point}
 use Rattle.cell_rows.specs.Rows.{sites_of}
 use Rattle.cell_rows.specs.Cells.{Cell, cell, plain, operation_row, ends_first, wants_first}
-use Rattle.demand_laws.specs.Stops.{last_state, stops_with}
-use Rattle.demand_laws.proofs.Stopping.{ends_by_last}
+use Rattle.daig_demands.specs.Stops.{last_state, stops_with}
+use Rattle.daig_demands.proofs.Stopping.{ends_by_last}
 use Rattle.imp_flow.specs.Plans.{Plan}
-use Rattle.flow_rows.specs.declared.row.Row.{Row}
-use Rattle.flow_rows.specs.declared.row.Row.TheVariants.{Fixed}
+use Rattle.imp_flow_rows.specs.declared.row.Row.{Row}
+use Rattle.imp_flow_rows.specs.declared.row.Row.TheVariants.{Fixed}
 use Rattle.daig_graph.specs.Cells.{AreCells, Filled}
 use Rattle.daig_graph.specs.declared.value.Value.{Value}
 use Rattle.daig_graph.specs.declared.value.Value.TheVariants.{State, Over}
@@ -24,7 +24,7 @@ use Rattle.daig_query.specs.declared.held.Held.{Held}
 use Rattle.daig_query.specs.declared.opening.Open.{Open}
 use Rattle.daig_query.specs.declared.store.Store.{Store}
 use Rattle.daig_query.specs.Kept.{Cells, IsValue}
-use Rattle.named_cells.specs.Asked.{inputs}
+use Rattle.cell_graph.specs.Asked.{inputs}
 use Rattle.daig_query.specs.Right.{found}
 use Rattle.daig_query.specs.Overs.{HasNoOver}
 use Rattle.daig_query.specs.Opened.{IsReady}
@@ -34,7 +34,7 @@ use Rattle.daig_query.proofs.Stopping.{Before, nothing, some, held_state, held_s
 use Rattle.daig_query.proofs.Asked.{law, front_length}
 use Rattle.daig_query.proofs.Iterates.{N, J, G, first, row_is, asks_fix, wants_before, before, index_none, going}
 use Rattle.std.proofs.lemmas.Option.{same_Some}
-use Rattle.plain_values.proofs.Lists.{get_some}
+use Rattle.base_values.proofs.Lists.{get_some}
 
 data Side : ℕ → ℕ → Type 0 where
   low : {a b : ℕ} → a ≤ b → Side a b

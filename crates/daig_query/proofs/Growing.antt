@@ -16,13 +16,13 @@ use Rattle.memo_table.specs.Results.{AreResults}
 use Rattle.daig_query.specs.declared.held.Held.{Held}
 use Rattle.daig_query.specs.declared.opening.Open.{Open}
 use Rattle.daig_query.specs.declared.store.Store.{Store}
-use Rattle.named_cells.specs.Named.{filled_at, AreNumbers}
+use Rattle.cell_graph.specs.Named.{filled_at, AreNumbers}
 use Rattle.daig_query.specs.Kept.{Cells, kept, IsValue, AddsFew, AddsNoCell, Grows, Lasts, Names}
-use Rattle.named_cells.specs.Asked.{inputs}
+use Rattle.cell_graph.specs.Asked.{inputs}
 use Rattle.daig_query.specs.Right.{found, IsCellOf, IsRight}
 use Rattle.daig_query.specs.Opened.{name_of, IsOpen, next_of}
-use Rattle.named_cells.proofs.Numbers.{filled_number, filled_named, numbers_grow}
-use Rattle.plain_values.proofs.Lists.{get_some}
+use Rattle.cell_graph.proofs.Numbers.{filled_number, filled_named, numbers_grow}
+use Rattle.base_values.proofs.Lists.{get_some}
 
 pub keeps_refl : {A : Type 0} (xs : List A) → KeepsNumbers xs xs
 keeps_refl xs n x e = e

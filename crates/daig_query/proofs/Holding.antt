@@ -10,8 +10,8 @@ use Rattle.daig_graph.specs.Cells.{Filled}
 use Rattle.daig_graph.proofs.Maps.{get-remove-here, get-remove-other}
 use Rattle.imp_flow.specs.Plans.{Plan}
 use Rattle.memo_table.specs.Results.{AreResults}
-use Rattle.named_cells.specs.Holds.{HoldsCells}
-use Rattle.named_cells.proofs.Numbers.{filled_number}
+use Rattle.cell_graph.specs.Holds.{HoldsCells}
+use Rattle.cell_graph.proofs.Numbers.{filled_number}
 use Rattle.daig_query.specs.declared.held.Held.{Held}
 use Rattle.daig_query.specs.declared.store.Store.{Store}
 use Rattle.daig_query.specs.Kept.{kept, IsValue}

@@ -1,10 +1,10 @@
 -- The iterates that a fixed point asks for, by what the cells of those so far store.
 use Rattle.std.proofs.Common.{◌≡◌, ℕ, zero, suc, ◌<◌, ◌≤◌, List, [], length, Option, Some, None, true, false, if◌then◌else◌, option_map, slice_get, refl, sym, ap, subst, ◌∙◌, inl, arith}
 use Rattle.std.specs.Prelude.{◌↔◌, reverse}
-use Rattle.plain_values.proofs.Cases.{by_bool, given_test}
+use Rattle.base_values.proofs.Cases.{by_bool, given_test}
 use Rattle.domain_laws.specs.Operations.{Operations}
 use Rattle.batch_meaning.specs.Values as batch
-use Rattle.demand_order.specs.Asking.{inputs_of, value_of}
+use Rattle.daig_order.specs.Asking.{inputs_of, value_of}
 use Rattle.cell_names.specs.declared.frame.Point.{Point}
 use Rattle.cell_names.specs.declared.frame.Point.TheVariants.{Fix}
 use Rattle.cell_names.specs.Paths.{CellName}
@@ -14,32 +14,32 @@ use Rattle.cell_rows.specs.Rows.{sites_of}
 use Rattle.cell_rows.specs.Cells.{Cell, asks_row, most_row, by_row, wants_first}
 use Rattle.cell_rows.specs.Claims.{rows_of}
 use Rattle.cell_rows.proofs.FlatShapes.{Shaped, flat_shaped}
-use Rattle.demand_laws.specs.Stops.{state_of, last_state, goes_on}
-use Rattle.demand_laws.proofs.Indexing.{iterates_none}
-use Rattle.demand_laws.proofs.Stopping.{wants_by_last}
-use Rattle.flow_rows.specs.Near.{row_in, input_name}
-use Rattle.flow_rows.specs.declared.input.Input.{Input}
-use Rattle.flow_rows.specs.Inputs.{iterate_of as iterate_in}
+use Rattle.daig_demands.specs.Stops.{state_of, last_state, goes_on}
+use Rattle.daig_demands.proofs.Indexing.{iterates_none}
+use Rattle.daig_demands.proofs.Stopping.{wants_by_last}
+use Rattle.imp_flow_rows.specs.Near.{row_in, input_name}
+use Rattle.imp_flow_rows.specs.declared.input.Input.{Input}
+use Rattle.imp_flow_rows.specs.Inputs.{iterate_of as iterate_in}
 use Rattle.imp_flow.specs.Plans.{Plan}
-use Rattle.flow_rows.specs.declared.row.Row.{Row}
-use Rattle.flow_rows.specs.declared.row.Row.TheVariants.{Fixed}
+use Rattle.imp_flow_rows.specs.declared.row.Row.{Row}
+use Rattle.imp_flow_rows.specs.declared.row.Row.TheVariants.{Fixed}
 use Rattle.daig_graph.specs.declared.value.Value.{Value}
 use Rattle.daig_graph.specs.declared.value.Value.TheVariants.{State, Over}
 use Rattle.loop_unroll.specs.Iterates.{iterate_of, Stops, GoesOnTo, StopsWithin}
 use Rattle.daig_query.specs.declared.held.Held.{Held}
 use Rattle.daig_query.specs.declared.opening.Open.{Open}
 use Rattle.daig_query.specs.declared.store.Store.{Store}
-use Rattle.named_cells.specs.Same.{same_name}
+use Rattle.cell_graph.specs.Same.{same_name}
 use Rattle.daig_query.specs.Kept.{IsValue}
-use Rattle.named_cells.specs.Asked.{inputs}
+use Rattle.cell_graph.specs.Asked.{inputs}
 use Rattle.daig_query.specs.Right.{found}
 use Rattle.daig_query.specs.Opened.{IsAt, next_of}
-use Rattle.named_cells.proofs.Same.{same_is}
+use Rattle.cell_graph.proofs.Same.{same_is}
 use Rattle.daig_query.proofs.Lists.{map_next}
 use Rattle.daig_query.proofs.Found.{Input as Found, input_found, input_value}
 use Rattle.daig_query.proofs.Stopping.{Before, nothing, some, last_snoc, goes_state, stops_state}
 use Rattle.daig_query.proofs.Asked.{gather_length, same_iterate, X, I, F, r, front, asks, front_length}
-use Rattle.named_cells.proofs.Numbers.{at_member}
+use Rattle.cell_graph.proofs.Numbers.{at_member}
 
 module _ {S : Type 0} (dom : Operations S) (plan : Plan) (store : Store S) (row : Row) (o : Open) (at : IsAt dom plan store row o) (same : (s t : S) → (dom.same s t ≡ true) ↔ (s ≡ t))
     (n : ℕ) (p : Point) (fixed : row ≡ Fixed n p) where

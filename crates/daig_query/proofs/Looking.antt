@@ -5,7 +5,7 @@ use Rattle.std.specs.FinMap.{get}
 use Rattle.std.proofs.lemmas.List.{length-append}
 use Rattle.std.proofs.lemmas.Option.{slice_get_within, same_Some}
 use Rattle.domain_laws.specs.Operations.{Operations}
-use Rattle.demand_order.specs.Order.{member}
+use Rattle.daig_order.specs.Order.{member}
 use Rattle.cell_names.specs.declared.path.Name.{Name}
 use Rattle.cell_names.specs.Known.{Known, KeepsNumbers, IsOnce, Adds}
 use Rattle.cell_names.specs.Paths.{CellName, name_in}
@@ -15,7 +15,7 @@ use Rattle.cell_rows.proofs.FlatOnce.{all_fine, flat_once}
 use Rattle.cell_rows.proofs.Package.{inputs_have}
 use Rattle.cell_rows.proofs.TotalRows.{total_inputs}
 use Rattle.imp_flow.specs.Plans.{Plan}
-use Rattle.flow_rows.specs.declared.row.Row.{Row}
+use Rattle.imp_flow_rows.specs.declared.row.Row.{Row}
 use Rattle.daig_graph.specs.Cells.{Filled}
 use Rattle.daig_graph.specs.declared.value.Value.{Value}
 use Rattle.daig_graph.specs.declared.value.Value.TheVariants.{State, Over}
@@ -23,17 +23,17 @@ use Rattle.loop_unroll.specs.Iterates.{state_in, value_at}
 use Rattle.daig_query.specs.declared.held.Held.{Held}
 use Rattle.daig_query.specs.declared.opening.Open.{Open}
 use Rattle.daig_query.specs.declared.store.Store.{Store}
-use Rattle.named_cells.specs.Same.{same_name}
-use Rattle.named_cells.specs.Named.{AreNumbers}
+use Rattle.cell_graph.specs.Same.{same_name}
+use Rattle.cell_graph.specs.Named.{AreNumbers}
 use Rattle.daig_query.specs.Kept.{Cells, kept, Names}
-use Rattle.named_cells.specs.Asked.{inputs}
+use Rattle.cell_graph.specs.Asked.{inputs}
 use Rattle.daig_query.specs.Right.{IsRight}
 use Rattle.daig_query.specs.Opened.{name_of, IsRowOf, IsOpen, next_of, IsAt, IsNext, Looks}
-use Rattle.named_cells.proofs.Same.{same_is}
+use Rattle.cell_graph.proofs.Same.{same_is}
 use Rattle.daig_query.proofs.Growing.{keeps_same, keeps_trans, names_grow, name_stays, right_named, open_grows, next_grows}
-use Rattle.named_cells.proofs.Numbers.{adds_here, adds_keeps, adds_once, filled_number, numbers_push, at_member}
+use Rattle.cell_graph.proofs.Numbers.{adds_here, adds_keeps, adds_once, filled_number, numbers_push, at_member}
 use Rattle.daig_query.proofs.Walks.{pushed_there}
-use Rattle.plain_values.proofs.Lists.{take_next}
+use Rattle.base_values.proofs.Lists.{take_next}
 
 -- a store in which one more name has a number
 pub record Named {S : Type 0} (old new : Store S) (y : CellName) (x : Name) (cell : ℕ) : Type 0 where

@@ -6,20 +6,20 @@ use Rattle.std.proofs.lemmas.Option.{slice_get_within, slice_get-map, same_Some}
 use Rattle.domain_laws.specs.Operations.{Operations}
 use Rattle.batch_meaning.specs.Values as batch
 use Rattle.batch_meaning.specs.Values.{lift, lift2}
-use Rattle.batch_meaning.specs.Batch.{Engine}
-use Rattle.cell_names.specs.declared.frame.Frame.{Frame}
+use Rattle.batch_meaning.specs.Batch.{LoopOptions}
+use Rattle.cell_names.specs.declared.frame.NameFrame.{NameFrame}
 use Rattle.cell_names.specs.declared.frame.Point.{Point}
 use Rattle.cell_names.specs.Paths.{CellName}
 use Rattle.cell_rows.specs.Cells.{Cell, asks_row, operation_row, most_row}
-use Rattle.flow_rows.specs.Near.{row_in}
+use Rattle.imp_flow_rows.specs.Near.{row_in}
 use Rattle.imp_flow.specs.Plans.{Plan}
-use Rattle.flow_rows.specs.declared.input.Input.{Input}
-use Rattle.flow_rows.specs.declared.row.Unary.{Unary}
-use Rattle.flow_rows.specs.declared.row.Unary.TheVariants as one
-use Rattle.flow_rows.specs.declared.row.Binary.{Binary}
-use Rattle.flow_rows.specs.declared.row.Binary.TheVariants as two
-use Rattle.flow_rows.specs.declared.row.Row.{Row}
-use Rattle.flow_rows.specs.declared.row.Row.TheVariants.{Init, One, Two, Fixed, Joins}
+use Rattle.imp_flow_rows.specs.declared.input.Input.{Input}
+use Rattle.imp_flow_rows.specs.declared.row.Unary.{Unary}
+use Rattle.imp_flow_rows.specs.declared.row.Unary.TheVariants as one
+use Rattle.imp_flow_rows.specs.declared.row.Binary.{Binary}
+use Rattle.imp_flow_rows.specs.declared.row.Binary.TheVariants as two
+use Rattle.imp_flow_rows.specs.declared.row.Row.{Row}
+use Rattle.imp_flow_rows.specs.declared.row.Row.TheVariants.{Init, One, Two, Fixed, Joins}
 use Rattle.daig_graph.specs.declared.value.Value.{Value}
 use Rattle.daig_graph.specs.declared.value.Value.TheVariants.{State, Over}
 use Rattle.loop_unroll.specs.Iterates.{iterate_of, value_at}
@@ -28,7 +28,7 @@ use Rattle.daig_query.specs.declared.opening.Open.{Open}
 use Rattle.daig_query.specs.declared.store.Store.{Store}
 use Rattle.daig_query.specs.Kept.{Cells, IsValue}
 use Rattle.daig_query.specs.Overs.{IsFirstOver}
-use Rattle.named_cells.specs.Asked.{inputs}
+use Rattle.cell_graph.specs.Asked.{inputs}
 use Rattle.daig_query.specs.Right.{found}
 use Rattle.daig_query.specs.Opened.{IsReady}
 use Rattle.daig_query.proofs.Found.{Input as Found, input_found, input_value}
@@ -39,8 +39,8 @@ use Rattle.daig_query.proofs.Filling.{all_found, front_is_all}
 abbrev IsState : {S : Type 0} → Cell S → Type 0
 IsState {S} c = (s : S) × (c.value ≡ batch.State s)
 
-module _ {S : Type 0} (dom : Operations S) (engine : Engine) (n : ℕ) (z : List ℕ) where
-  one_over : (op : Unary) (a : Input) (w : List Frame) (v : Cell S) (vs : List (Cell S)) → v.value ≡ batch.Over n z → (operation_row dom engine (row_in w (One op a)) (v ∷ vs)).value ≡ batch.Over n z
+module _ {S : Type 0} (dom : Operations S) (engine : LoopOptions) (n : ℕ) (z : List ℕ) where
+  one_over : (op : Unary) (a : Input) (w : List NameFrame) (v : Cell S) (vs : List (Cell S)) → v.value ≡ batch.Over n z → (operation_row dom engine (row_in w (One op a)) (v ∷ vs)).value ≡ batch.Over n z
   one_over (one.Post s) a w v vs e = ap (lift _) e
   one_over (one.Assume c b) a w v vs e = ap (lift _) e
   one_over (one.Enter call) a w v vs e = ap (lift _) e
@@ -52,18 +52,18 @@ module _ {S : Type 0} (dom : Operations S) (engine : Engine) (n : ℕ) (z : List
   right_over : (f : S → S → S) (a b : batch.Value S) (s : S) → a ≡ batch.State s → b ≡ batch.Over n z → lift2 f a b ≡ batch.Over n z
   right_over f a b s e h = ap₂ (lift2 f) e h
 
-  two_left : (op : Binary) (a b : Input) (w : List Frame) (v u : Cell S) (vs : List (Cell S)) → v.value ≡ batch.Over n z → (operation_row dom engine (row_in w (Two op a b)) (v ∷ u ∷ vs)).value ≡ batch.Over n z
+  two_left : (op : Binary) (a b : Input) (w : List NameFrame) (v u : Cell S) (vs : List (Cell S)) → v.value ≡ batch.Over n z → (operation_row dom engine (row_in w (Two op a b)) (v ∷ u ∷ vs)).value ≡ batch.Over n z
   two_left two.Join a b w v u vs e = left_over dom.join v.value u.value e
   two_left (two.Leave call) a b w v u vs e = left_over (dom.leave call.now.returning) v.value u.value e
-  two_left (two.Widen marks) a b w v u vs e = left_over (dom.widen marks.now) v.value u.value e
+  two_left (two.Widen thresholds) a b w v u vs e = left_over (dom.widen thresholds.now) v.value u.value e
 
-  two_right : (op : Binary) (a b : Input) (w : List Frame) (v u : Cell S) (vs : List (Cell S)) → IsState v → u.value ≡ batch.Over n z → (operation_row dom engine (row_in w (Two op a b)) (v ∷ u ∷ vs)).value ≡ batch.Over n z
+  two_right : (op : Binary) (a b : Input) (w : List NameFrame) (v u : Cell S) (vs : List (Cell S)) → IsState v → u.value ≡ batch.Over n z → (operation_row dom engine (row_in w (Two op a b)) (v ∷ u ∷ vs)).value ≡ batch.Over n z
   two_right two.Join a b w v u vs (s, e) h = right_over dom.join v.value u.value s e h
   two_right (two.Leave call) a b w v u vs (s, e) h = right_over (dom.leave call.now.returning) v.value u.value s e h
-  two_right (two.Widen marks) a b w v u vs (s, e) h = right_over (dom.widen marks.now) v.value u.value s e h
+  two_right (two.Widen thresholds) a b w v u vs (s, e) h = right_over (dom.widen thresholds.now) v.value u.value s e h
 
   -- The first Over among the values, at place i.
-  pub over_row : (row : Row) → ((m : ℕ) (p : Point) → row ≢ Fixed m p) → (w : List Frame) (vs : List (Cell S)) (i : ℕ) (v : Cell S) → slice_get vs i ≡ Some v → v.value ≡ batch.Over n z →
+  pub over_row : (row : Row) → ((m : ℕ) (p : Point) → row ≢ Fixed m p) → (w : List NameFrame) (vs : List (Cell S)) (i : ℕ) (v : Cell S) → slice_get vs i ≡ Some v → v.value ≡ batch.Over n z →
       ((j : ℕ) (u : Cell S) → j < i → slice_get vs j ≡ Some u → IsState u) → i < most_row dom engine (row_in w row) → asks_row dom engine (row_in w row) vs ≡ None → (operation_row dom engine (row_in w row) vs).value ≡ batch.Over n z
   over_row (Init layout) f w vs i v at e before few none = absurd (omega arith)
   over_row (One op a) f w [] i v at e before few none = absurd cc

@@ -15,7 +15,7 @@ use Rattle.concrete_sem.specs.Reach.{top, Reach}
 use Rattle.concrete_sem.specs.WellFormed.{variables_of}
 use Rattle.domain_laws.specs.Operations.{Operations}
 use Rattle.batch_meaning.specs.Values as plain
-use Rattle.batch_meaning.specs.Batch.{Engine}
+use Rattle.batch_meaning.specs.Batch.{LoopOptions}
 use Rattle.batch_meaning.specs.Answers.{Answer, Answers, In, answer_in, summed}
 use Rattle.call_contexts.specs.Joined.{joined, joined_ticks}
 use Rattle.cell_names.specs.Paths.{CellName}
@@ -24,15 +24,15 @@ use Rattle.cell_rows.specs.Targets.{Target, targets, value_of_target}
 use Rattle.daig_graph.specs.Cells.{AreCells, Filled}
 use Rattle.daig_graph.specs.declared.value.Value.{Value}
 use Rattle.daig_graph.specs.declared.value.Value.TheVariants.{State, Over}
-use Rattle.demand_laws.specs.Walks.{asks_at, values_at, values_left}
-use Rattle.demand_laws.specs.Walks as law
-use Rattle.demand_laws.proofs.Demanded.{answer_at}
-use Rattle.demand_laws.proofs.Summing.{states_are_joined, first_over}
+use Rattle.daig_demands.specs.Walks.{asks_at, values_at, values_left}
+use Rattle.daig_demands.specs.Walks as law
+use Rattle.daig_demands.proofs.Demanded.{answer_at}
+use Rattle.daig_demands.proofs.Summing.{states_are_joined, first_over}
 use Rattle.loop_unroll.specs.Iterates.{value_at}
 use Rattle.imp_flow.specs.Plans.{Plan}
-use Rattle.named_cells.specs.Named.{AreNumbers}
-use Rattle.named_cells.specs.Same.{same_name}
-use Rattle.named_cells.proofs.Same.{same_is}
+use Rattle.cell_graph.specs.Named.{AreNumbers}
+use Rattle.cell_graph.specs.Same.{same_name}
+use Rattle.cell_graph.proofs.Same.{same_is}
 use Rattle.daig_query.specs.declared.held.Held.{Held}
 use Rattle.daig_query.specs.declared.store.Store.{Store}
 use Rattle.daig_query.specs.declared.walk.Walk.{Walk}
@@ -41,9 +41,9 @@ use Rattle.daig_query.specs.Right.{found, IsRight}
 use Rattle.daig_query.specs.Walked.{IsDone, place_of}
 use Rattle.daig_query.specs.Answered.{plain_value, value_in, HoldValues, joined_all, Covers, Says}
 use Rattle.daig_query.proofs.Found.{stored, is_there}
-use Rattle.plain_values.proofs.Lists.{take_next}
+use Rattle.base_values.proofs.Lists.{take_next}
 
-module _ {S : Type 0} (dom : Operations S) (engine : Engine) where
+module _ {S : Type 0} (dom : Operations S) (engine : LoopOptions) where
   folded : (s : S) (ss : List S) → joined_all dom (Some s) ss ≡ Some (fold dom.join s (map dom.shed ss))
   folded s [] = refl
   folded s (t ∷ ss) = folded (dom.join s (dom.shed t)) ss
@@ -159,7 +159,7 @@ module _ {S : Type 0} (dom : Operations S) (store : Store S) (cells : List ℕ) 
         )
 
     -- all cells hold states
-    pub joined_says : (engine : Engine) (i : ℕ) (o : Option S) → i ≤ length cells → length cells ≤ i → IsJoined vs i o → Says (summed dom engine vs) (option_map State o)
+    pub joined_says : (engine : LoopOptions) (i : ℕ) (o : Option S) → i ≤ length cells → length cells ≤ i → IsJoined vs i o → Says (summed dom engine vs) (option_map State o)
     joined_says engine i o a b (ss, front, all) =
         let n : length vs ≡ length cells = sym (length-map vs Some) ∙ (sym (ap length holds) ∙ length-map cells (value_in store)) in
         let m : i ≡ length vs = omega arith in
@@ -167,7 +167,7 @@ module _ {S : Type 0} (dom : Operations S) (store : Store S) (cells : List ℕ) 
         subst (λ us. Says (summed dom engine us) (option_map State o)) (sym whole) (says_joined dom engine ss o all)
 
     -- one holds an Over
-    pub over_says : (engine : Engine) (i n : ℕ) (chain : List ℕ) (o : Option S) → i < length cells → value_at store.graph.cells (get_or cells i 0) ≡ Some (Over n chain) → IsJoined vs i o → Says (summed dom engine vs) (Some (Over n chain))
+    pub over_says : (engine : LoopOptions) (i n : ℕ) (chain : List ℕ) (o : Option S) → i < length cells → value_at store.graph.cells (get_or cells i 0) ≡ Some (Over n chain) → IsJoined vs i o → Says (summed dom engine vs) (Some (Over n chain))
     over_says engine i n chain o l e (ss, front, all) =
         let p = held_at i l in
         let is : plain.Over n (reverse chain) ≡ p.0 = same_Some (plain.Over n (reverse chain)) p.0 (sym (ap (option_and_then (plain_value store.states)) e) ∙ p.2) in

@@ -5,12 +5,12 @@ use Rattle.std.specs.Map.{lookup}
 use Rattle.state_table.specs.Numbers.{AreOnce, KeepsNumbers}
 use Rattle.imp_slots.specs.CallViews.{taken_of, returning_of, returning_from, returning_from-returning_of}
 use Rattle.imp_slots.specs.declared.calls.Returning.{Returning}
-use Rattle.flow_rows.specs.declared.row.Unary.{Unary}
-use Rattle.flow_rows.specs.declared.row.Unary.TheVariants as one
-use Rattle.flow_rows.specs.declared.row.Binary.{Binary}
-use Rattle.flow_rows.specs.declared.row.Binary.TheVariants as two
-use Rattle.flow_rows.specs.declared.row.Row.{Row}
-use Rattle.flow_rows.specs.declared.row.Row.TheVariants.{Init, One, Two, Fixed, Joins}
+use Rattle.imp_flow_rows.specs.declared.row.Unary.{Unary}
+use Rattle.imp_flow_rows.specs.declared.row.Unary.TheVariants as one
+use Rattle.imp_flow_rows.specs.declared.row.Binary.{Binary}
+use Rattle.imp_flow_rows.specs.declared.row.Binary.TheVariants as two
+use Rattle.imp_flow_rows.specs.declared.row.Row.{Row}
+use Rattle.imp_flow_rows.specs.declared.row.Row.TheVariants.{Init, One, Two, Fixed, Joins}
 use Rattle.memo_table.specs.declared.operation.Operation.{Operation}
 use Rattle.memo_table.specs.declared.operation.Operation.TheVariants as owned
 use Rattle.memo_table.specs.contracts.memo.KeyPartialEq.TheImpl as key_impl
@@ -38,7 +38,7 @@ same_taken (Some r) (Some s) h =
 two_of : (u : Binary) (o p : Operation) → IsBinaryOf u o → IsBinaryOf u p → o ≡ p
 two_of two.Join o p a b = a ∙ sym b
 two_of (two.Leave call) o p a b = a.1 ∙ ap owned.Leave (same_taken a.0 b.0 (a.2 ∙ sym b.2)) ∙ sym b.1
-two_of (two.Widen marks) o p a b = a ∙ sym b
+two_of (two.Widen thresholds) o p a b = a ∙ sym b
 
 one_operation : (row : Row) (o p : Operation) → IsOperationOf row o → IsOperationOf row p → o ≡ p
 one_operation (Init layout) o p a b = a ∙ sym b

@@ -8,7 +8,7 @@ use Rattle.cell_names.specs.Paths.{CellName}
 use Rattle.cell_rows.specs.Cells.{Cell}
 use Rattle.state_table.specs.Numbers.{AreOnce}
 use Rattle.imp_flow.specs.Plans.{Plan}
-use Rattle.flow_rows.specs.declared.row.Row.{Row}
+use Rattle.imp_flow_rows.specs.declared.row.Row.{Row}
 use Rattle.memo_table.specs.declared.operation.Operation.{Operation}
 use Rattle.memo_table.specs.declared.memo.Key.{Key}
 use Rattle.memo_table.specs.Results.{AreResults, IsResult, result_of, operand}
@@ -17,15 +17,15 @@ use Rattle.daig_graph.specs.declared.value.Value.{Value}
 use Rattle.daig_graph.specs.declared.value.Value.TheVariants.{State, Over}
 use Rattle.daig_query.specs.declared.held.Held.{Held}
 use Rattle.daig_query.specs.declared.store.Store.{Store}
-use Rattle.named_cells.specs.Named.{AreNumbers}
+use Rattle.cell_graph.specs.Named.{AreNumbers}
 use Rattle.daig_query.specs.Kept.{kept, AddsFew, IsValue}
 use Rattle.daig_query.specs.Made.{IsOperationOf, row_result, state_at}
-use Rattle.named_cells.specs.Asked.{inputs}
+use Rattle.cell_graph.specs.Asked.{inputs}
 use Rattle.daig_query.specs.Right.{found, IsCellOf, IsRight}
 use Rattle.daig_query.specs.Opened.{Computes}
 use Rattle.daig_query.proofs.Computed.{made, operand_is}
 use Rattle.daig_query.proofs.Growing.{kept_alike}
-use Rattle.plain_values.proofs.Lists.{get_some}
+use Rattle.base_values.proofs.Lists.{get_some}
 
 pub value_grows : {S : Type 0} (old new : List S) → KeepsNumbers old new → (u : Value Held) (v : Cell S) → IsValue old u v → IsValue new u v
 value_grows old new keeps (State h) v (s, at, e) = (s, keeps h.state s at, e)

@@ -3,19 +3,19 @@ use Rattle.std.proofs.Common.{◌≡◌, ℕ, zero, suc, ◌||◌, Bool, true, f
 use Rattle.std.proofs.Math.Seq.{take-length}
 use std.Path.{fun_ext}
 use Rattle.std.specs.List.{filter}
-use Rattle.plain_values.proofs.Cases.{by_bool}
+use Rattle.base_values.proofs.Cases.{by_bool}
 use Rattle.domain_laws.specs.Operations.{Operations}
-use Rattle.demand_order.specs.Order.{member}
-use Rattle.demand_order.specs.OrderLaws.{IsDistinct, order}
-use Rattle.demand_order.specs.InTurn.{missing_in_turn}
-use Rattle.demand_order.proofs.TheoremProofs.{missing as missing_rest}
-use Rattle.demand_order.proofs.OrderLawProofs.{order-distinct}
+use Rattle.daig_order.specs.Order.{member}
+use Rattle.daig_order.specs.OrderLaws.{IsDistinct, order}
+use Rattle.daig_order.specs.InTurn.{missing_in_turn}
+use Rattle.daig_order.proofs.TheoremProofs.{missing as missing_rest}
+use Rattle.daig_order.proofs.OrderLawProofs.{order-distinct}
 use Rattle.cell_names.specs.Paths.{CellName}
 use Rattle.cell_rows.specs.Targets.{Target}
 use Rattle.imp_flow.specs.Plans.{Plan}
-use Rattle.named_cells.specs.Same.{same_name}
-use Rattle.named_cells.proofs.Same.{same_is}
-use Rattle.named_cells.proofs.Numbers.{at_member}
+use Rattle.cell_graph.specs.Same.{same_name}
+use Rattle.cell_graph.proofs.Same.{same_is}
+use Rattle.cell_graph.proofs.Numbers.{at_member}
 use Rattle.daig_query.specs.declared.store.Store.{Store}
 use Rattle.daig_query.specs.Kept.{kept}
 use Rattle.daig_query.specs.Right.{IsRight}

@@ -5,23 +5,23 @@ use Rattle.std.proofs.lemmas.List.{reverse-append}
 use Rattle.std.proofs.Math.Bool.{or-true}
 use Rattle.imp_slots.specs.Fits.{IsChecked}
 use Rattle.domain_laws.specs.Operations.{Operations}
-use Rattle.demand_order.specs.Order.{System, IsAcyclic, member, fill_all}
-use Rattle.demand_order.specs.Store.{first_absent, Puts as PutsName, missing_of, Leaves}
-use Rattle.demand_order.specs.Machine.{AreBelow, waits, Run, run_left}
-use Rattle.demand_order.proofs.AskingProofs.{system-acyclic}
-use Rattle.demand_order.proofs.RunLemmas.{run-start, run-push, run-lower, leaves-at, demand-end, name-more, name-fill, fill-smaller}
-use Rattle.demand_order.proofs.TheoremProofs.{ceiling, below}
+use Rattle.daig_order.specs.Order.{System, IsAcyclic, member, fill_all}
+use Rattle.daig_order.specs.Store.{first_absent, Puts as PutsName, missing_of, Leaves}
+use Rattle.daig_order.specs.Machine.{AreBelow, waits, Run, run_left}
+use Rattle.daig_order.proofs.AskingProofs.{system-acyclic}
+use Rattle.daig_order.proofs.RunLemmas.{run-start, run-push, run-lower, leaves-at, demand-end, name-more, name-fill, fill-smaller}
+use Rattle.daig_order.proofs.TheoremProofs.{ceiling, below}
 use Rattle.cell_names.specs.Paths.{CellName}
 use Rattle.cell_rows.specs.Cells.{Cell}
 use Rattle.cell_rows.specs.Claims.{rows_of}
 use Rattle.cell_rows.specs.Targets.{Target, demanded}
-use Rattle.demand_laws.specs.Claims.{names_of}
-use Rattle.demand_laws.proofs.Machine.{law}
+use Rattle.daig_demands.specs.Claims.{names_of}
+use Rattle.daig_demands.proofs.Machine.{law}
 use Rattle.imp_flow.specs.Plans.{Plan}
-use Rattle.named_cells.specs.Same.{same_name}
-use Rattle.named_cells.specs.Asked.{inputs}
-use Rattle.named_cells.proofs.Same.{same_is}
-use Rattle.named_cells.proofs.Numbers.{at_member}
+use Rattle.cell_graph.specs.Same.{same_name}
+use Rattle.cell_graph.specs.Asked.{inputs}
+use Rattle.cell_graph.proofs.Same.{same_is}
+use Rattle.cell_graph.proofs.Numbers.{at_member}
 use Rattle.daig_query.specs.declared.store.Store.{Store}
 use Rattle.daig_query.specs.Kept.{kept}
 use Rattle.daig_query.specs.Right.{found}

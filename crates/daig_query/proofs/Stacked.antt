@@ -3,23 +3,23 @@ use Rattle.std.proofs.Common.{◌≡◌, ℕ, zero, suc, ◌+◌, ◌-◌, ◌<�
 use Rattle.std.specs.FinMap.{get}
 use Rattle.std.proofs.lemmas.List.{reverse-append}
 use Rattle.std.proofs.lemmas.Option.{slice_get_within, slice_get-map, same_Some}
-use Rattle.plain_values.proofs.Cases.{by_bool}
-use Rattle.plain_values.proofs.Lists.{get_last, get_some, take_next}
+use Rattle.base_values.proofs.Cases.{by_bool}
+use Rattle.base_values.proofs.Lists.{get_last, get_some, take_next}
 use Rattle.domain_laws.specs.Operations.{Operations}
-use Rattle.demand_order.specs.Order.{System}
-use Rattle.demand_order.specs.Store.{has, Holds, first_absent}
-use Rattle.demand_order.specs.Machine.{waits}
+use Rattle.daig_order.specs.Order.{System}
+use Rattle.daig_order.specs.Store.{has, Holds, first_absent}
+use Rattle.daig_order.specs.Machine.{waits}
 use Rattle.cell_names.specs.Paths.{CellName}
 use Rattle.cell_rows.specs.Cells.{Cell}
 use Rattle.cell_rows.specs.Targets.{Target, demanded}
-use Rattle.demand_laws.specs.Claims.{names_of}
-use Rattle.demand_laws.specs.Walks.{asks, names_left}
-use Rattle.demand_laws.specs.Walks as law
-use Rattle.demand_laws.proofs.Walking.{walk_asks}
+use Rattle.daig_demands.specs.Claims.{names_of}
+use Rattle.daig_demands.specs.Walks.{asks, names_left}
+use Rattle.daig_demands.specs.Walks as law
+use Rattle.daig_demands.proofs.Walking.{walk_asks}
 use Rattle.imp_flow.specs.Plans.{Plan}
-use Rattle.named_cells.specs.Same.{same_name}
-use Rattle.named_cells.specs.Asked.{inputs}
-use Rattle.named_cells.proofs.Numbers.{filled_number, numbers_of, member_at, at_member}
+use Rattle.cell_graph.specs.Same.{same_name}
+use Rattle.cell_graph.specs.Asked.{inputs}
+use Rattle.cell_graph.proofs.Numbers.{filled_number, numbers_of, member_at, at_member}
 use Rattle.daig_query.specs.declared.opening.Open.{Open}
 use Rattle.daig_query.specs.declared.store.Store.{Store}
 use Rattle.daig_query.specs.Kept.{kept, Grows}

@@ -4,13 +4,13 @@ use Rattle.std.proofs.Math.Seq.{take-length}
 use Rattle.std.specs.Prelude.{is_some}
 use Rattle.std.proofs.lemmas.List.{length-map}
 use Rattle.std.proofs.lemmas.Option.{slice_get_within}
-use Rattle.plain_values.proofs.Lists.{get_last, get_some, take_next, get_take}
+use Rattle.base_values.proofs.Lists.{get_last, get_some, take_next, get_take}
 use Rattle.domain_laws.specs.Operations.{Operations}
 use Rattle.cell_names.specs.Paths.{path_at, or_root}
 use Rattle.cell_rows.specs.Targets.{Target}
-use Rattle.demand_laws.specs.Walks as law
+use Rattle.daig_demands.specs.Walks as law
 use Rattle.imp_flow.specs.Plans.{Plan}
-use Rattle.named_cells.proofs.Numbers.{filled_number}
+use Rattle.cell_graph.proofs.Numbers.{filled_number}
 use Rattle.daig_query.specs.declared.opening.Open.{Open}
 use Rattle.daig_query.specs.declared.store.Store.{Store}
 use Rattle.daig_query.specs.declared.walk.Walk.{Walk}
@@ -18,7 +18,7 @@ use Rattle.daig_query.specs.Kept.{kept}
 use Rattle.daig_query.specs.Right.{IsRight}
 use Rattle.daig_query.specs.Opened.{name_of}
 use Rattle.daig_query.specs.Turned.{stacked_names}
-use Rattle.daig_query.specs.Filled.{added}
+use Rattle.daig_query.specs.Filled.{cells_added}
 use Rattle.daig_query.specs.Walked.{AreStacked, Drops, IsGood, IsNew, Stands, behind_steps, place_of}
 use Rattle.daig_query.proofs.Growing.{grows_refl}
 use Rattle.daig_query.proofs.Stepping.{behind_none, place_same, placed_same}
@@ -78,7 +78,7 @@ module _ {S : Type 0} (dom : Operations S) (plan : Plan) where
 
         pub begins : IsRunning dom plan ts store store w
         begins =
-            let z : added store store ≡ 0 = omega arith in
+            let z : cells_added store store ≡ 0 = omega arith in
             record {
               right = right;
               grows = grows_refl store;

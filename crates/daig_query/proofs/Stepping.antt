@@ -6,15 +6,15 @@ use Rattle.std.proofs.lemmas.Option.{slice_get_within}
 use Rattle.std.proofs.lemmas.List.{drop_all}
 use Rattle.domain_laws.specs.Operations.{Operations}
 use Rattle.batch_meaning.specs.Values as batch
-use Rattle.cell_names.specs.declared.frame.Frame.{Frame}
-use Rattle.cell_names.specs.declared.frame.Frame.TheVariants.{InCall, InLoop}
+use Rattle.cell_names.specs.declared.frame.NameFrame.{NameFrame}
+use Rattle.cell_names.specs.declared.frame.NameFrame.TheVariants.{InCall, InLoop}
 use Rattle.cell_names.specs.declared.frame.Point.TheVariants.{Fix}
 use Rattle.cell_names.specs.Paths.{CellName, path_at, or_root}
 use Rattle.cell_rows.specs.Names.{name}
 use Rattle.cell_rows.specs.Cells.{Cell}
-use Rattle.cell_rows.specs.Targets.{Step, Take, Go, Target, to_point, unless_over}
-use Rattle.demand_laws.specs.Walks.{asks, goes}
-use Rattle.demand_laws.specs.Walks as law
+use Rattle.cell_rows.specs.Targets.{TargetStep, Take, Go, Target, to_point, unless_over}
+use Rattle.daig_demands.specs.Walks.{asks, goes}
+use Rattle.daig_demands.specs.Walks as law
 use Rattle.imp_flow.specs.Plans.{Plan}
 use Rattle.daig_graph.specs.Cells.{Filled}
 use Rattle.daig_graph.specs.declared.value.Value.TheVariants.{State, Over}
@@ -25,10 +25,10 @@ use Rattle.daig_query.specs.Kept.{kept, IsValue, Names}
 use Rattle.daig_query.specs.Right.{found, IsRight}
 use Rattle.daig_query.specs.Walked.{behind_steps, place_of, Stands, IsPlaced, Leaves, Enters, Stays, steps_from, steps_left}
 use Rattle.daig_query.proofs.Growing.{grows_last, names_grow}
-use Rattle.named_cells.proofs.Numbers.{filled_number}
+use Rattle.cell_graph.proofs.Numbers.{filled_number}
 use Rattle.daig_query.proofs.Found.{stored}
 use Rattle.daig_query.proofs.Walks.{stands_go, stands_on, stands_next, stands_last}
-use Rattle.plain_values.proofs.Lists.{drop_next}
+use Rattle.base_values.proofs.Lists.{drop_next}
 
 pub behind_none : (ts : List Target) → behind_steps 0 ts ≡ ts
 behind_none [] = refl
@@ -38,17 +38,17 @@ module _ {S : Type 0} (ts : List Target) (store : Store S) (w : Walk) (t : Targe
   abbrev rest : List Target
   rest = drop (suc w.target) ts
 
-  abbrev path : List Frame
+  abbrev path : List NameFrame
   path = path_at store.names.paths w.path
 
   -- where a walk stands in its target
-  pub place_is : (ss : List Step) → drop w.step t.steps ≡ ss → place_of ts store w ≡ law.walk path (to_point ss t.last ∷ rest)
+  pub place_is : (ss : List TargetStep) → drop w.step t.steps ≡ ss → place_of ts store w ≡ law.walk path (to_point ss t.last ∷ rest)
   place_is ss e = ap (λ us. law.walk path (behind_steps w.step us)) (drop_next ts w.target t here) ∙ ap (λ us. law.walk path (to_point us t.last ∷ rest)) e
 
   pub place_end : length t.steps ≤ w.step → place_of ts store w ≡ law.walk path (to_point [] t.last ∷ rest)
   place_end h = place_is [] (drop_all w.step t.steps h)
 
-  pub place_step : (s : Step) → slice_get t.steps w.step ≡ Some s → place_of ts store w ≡ law.walk path (to_point (s ∷ drop (suc w.step) t.steps) t.last ∷ rest)
+  pub place_step : (s : TargetStep) → slice_get t.steps w.step ≡ Some s → place_of ts store w ≡ law.walk path (to_point (s ∷ drop (suc w.step) t.steps) t.last ∷ rest)
   place_step s e = place_is (s ∷ drop (suc w.step) t.steps) (drop_next t.steps w.step s e)
 
   steps_are : steps_left ts w ≡ suc ((length t.steps - w.step) + steps_from 0 rest)
@@ -111,14 +111,14 @@ module _ {S : Type 0} (dom : Operations S) (plan : Plan) (ts : List Target) wher
           ∙ ap (law.walk []) (behind_none (drop (suc old.target) ts))
 
   -- where a walk stands that went on by a frame
-  place_entered : (store later : Store S) (old new : Walk) (frame : Frame) (t : Target) → slice_get ts old.target ≡ Some t → Enters frame store.names later.names old new → place_of ts later new ≡ law.walk (frame ∷ path_at store.names.paths old.path) (to_point (drop (suc old.step) t.steps) t.last ∷ drop (suc old.target) ts)
+  place_entered : (store later : Store S) (old new : Walk) (frame : NameFrame) (t : Target) → slice_get ts old.target ≡ Some t → Enters frame store.names later.names old new → place_of ts later new ≡ law.walk (frame ∷ path_at store.names.paths old.path) (to_point (drop (suc old.step) t.steps) t.last ∷ drop (suc old.target) ts)
   place_entered store later old new frame t here h =
       ap (λ w. law.walk w (behind_steps new.step (drop new.target ts))) h.path
       ∙ ap (λ n. law.walk (frame ∷ path_at store.names.paths old.path) (behind_steps n (drop new.target ts))) h.step
       ∙ ap (λ n. law.walk (frame ∷ path_at store.names.paths old.path) (behind_steps (suc old.step) (drop n ts))) h.target
       ∙ ap (λ us. law.walk (frame ∷ path_at store.names.paths old.path) (behind_steps (suc old.step) us)) (drop_next ts old.target t here)
 
-  placed_by : (store later : Store S) → IsRight dom plan later → Names store later → (old new : Walk) (frame : Frame) (t : Target) → slice_get ts old.target ≡ Some t → Enters frame store.names later.names old new →
+  placed_by : (store later : Store S) → IsRight dom plan later → Names store later → (old new : Walk) (frame : NameFrame) (t : Target) → slice_get ts old.target ≡ Some t → Enters frame store.names later.names old new →
       Stands dom plan ts store (law.walk (frame ∷ path_at store.names.paths old.path) (to_point (drop (suc old.step) t.steps) t.last ∷ drop (suc old.target) ts)) old.found.items → IsPlaced dom plan ts later new
   placed_by store later right names old new frame t here h s = record {
     path = h.within;

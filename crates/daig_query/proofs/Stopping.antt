@@ -1,12 +1,12 @@
 -- Where iterates stop, by the numbers of their states.
 use Rattle.std.proofs.Common.{◌≡◌, ℕ, suc, ◌<◌, ◌≤◌, List, [], ◌∷◌, ◌++◌, Option, Some, None, true, false, if◌then◌else◌, nat_lt, slice_get, refl, sym, ap, ap₂, subst, ◌∙◌, inl, inr, arith}
 use Rattle.std.proofs.lemmas.Bool.Decides.{nat_tests}
-use Rattle.plain_values.proofs.Cases.{by_bool, less_of}
+use Rattle.base_values.proofs.Cases.{by_bool, less_of}
 use Rattle.domain_laws.specs.Operations.{Operations}
 use Rattle.batch_meaning.specs.Values as plain
 use Rattle.cell_names.specs.Known.{IsOnce}
 use Rattle.cell_rows.specs.Cells.{Cell}
-use Rattle.demand_laws.specs.Stops.{state_of, last_state, goes_on}
+use Rattle.daig_demands.specs.Stops.{state_of, last_state, goes_on}
 use Rattle.daig_graph.specs.declared.value.Value.{Value}
 use Rattle.daig_graph.specs.declared.value.Value.TheVariants.{State, Over}
 use Rattle.loop_unroll.specs.Iterates.{IsOver, IsEqual, Stops}

@@ -17,13 +17,13 @@ use Rattle.memo_table.specs.declared.operation.Operation.{Operation}
 use Rattle.state_table.specs.Marks.{marked_states, rank, states_in, IsMarked}
 use Rattle.state_table.specs.Numbers.{AreOnce}
 use Rattle.state_table.proofs.MarkLemmas.{marked-at}
-use Rattle.named_cells.specs.Named.{AreNumbers, filled_at, number_of}
-use Rattle.named_cells.specs.Asked.{inputs}
+use Rattle.cell_graph.specs.Named.{AreNumbers, filled_at, number_of}
+use Rattle.cell_graph.specs.Asked.{inputs}
 use Rattle.daig_query.specs.declared.held.Held.{Held}
 use Rattle.daig_query.specs.declared.store.Store.{Store}
 use Rattle.daig_query.specs.Kept.{Cells, kept, IsValue, Lasts}
 use Rattle.daig_query.specs.Right.{found, IsCellOf, IsRight}
-use Rattle.daig_query.specs.Filled.{added, Fills}
+use Rattle.daig_query.specs.Filled.{cells_added, Fills}
 use Rattle.daig_query.specs.Claims.{Lessens}
 use Rattle.daig_query.specs.Swept.{held_by, most_held, renumbered, renumbered_value, AreKnown, AreMarked, AreRenumbered, FillsFew, IsBounded, IsInTables, IsWithin, StaysRight, Swept}
 use Rattle.daig_query.proofs.Growing.{few_more, few_same, keeps_same}
@@ -172,11 +172,11 @@ module _ {S : Type 0} where
     operations = omega (arith, h.operations, f.more, f.few.operations);
   }
 
-  pub fills-few : (dom : Operations S) (plan : Plan) (ts : List Target) (old new : Store S) → Fills dom plan ts old new (added old new) → FillsFew old new
+  pub fills-few : (dom : Operations S) (plan : Plan) (ts : List Target) (old new : Store S) → Fills dom plan ts old new (cells_added old new) → FillsFew old new
   fills-few dom plan ts old new fills = record { more = omega (arith, fills.counted); few = fills.few }
 
   pub few-none : (store : Store S) → FillsFew store store
-  few-none store = record { more = omega arith; few = few_more store store 0 (suc (added store store)) (omega arith) (few_same store store refl refl) }
+  few-none store = record { more = omega arith; few = few_more store store 0 (suc (cells_added store store)) (omega arith) (few_same store store refl refl) }
 
   -- a store that has fewer cells is still in the tables
   pub lessens-in-tables : (old new : Store S) → Lessens old new → IsInTables old → IsInTables new

@@ -4,15 +4,15 @@ use Rattle.std.specs.Prelude.{Result, Ok, Err, IfOk}
 use Rattle.std.specs.FinMap.{get}
 use Rattle.std.proofs.lemmas.Option.{slice_get-map}
 use Rattle.domain_laws.specs.Operations.{Operations}
-use Rattle.cell_names.specs.declared.frame.Frame.{Frame}
+use Rattle.cell_names.specs.declared.frame.NameFrame.{NameFrame}
 use Rattle.cell_names.specs.declared.path.Name.{Name}
 use Rattle.cell_names.specs.Known.{Known, IsOnce, Adds}
 use Rattle.cell_names.specs.Paths.{name_in}
 use Rattle.cell_rows.specs.Targets as plain
-use Rattle.demand_laws.specs.Walks.{asks}
+use Rattle.daig_demands.specs.Walks.{asks}
 use Rattle.imp_flow.specs.Plans.{Plan}
 use Rattle.imp_flow.specs.Reached.{target_of, step_of}
-use Rattle.imp_flow.specs.declared.steps.Step.{Step}
+use Rattle.imp_flow.specs.declared.steps.TargetStep.{TargetStep}
 use Rattle.imp_flow.specs.declared.steps.Target.{Target}
 use Rattle.daig_query.specs.declared.opening.Open.{Open}
 use Rattle.daig_query.specs.declared.store.Store.{Store}
@@ -29,7 +29,7 @@ use Rattle.daig_query.proofs.Stepping.{placed_stays}
 pub target_here : (ts : List Target) (n : ℕ) (t : Target) → slice_get ts n ≡ Some t → slice_get (map target_of ts) n ≡ Some (target_of t)
 target_here ts n t e = slice_get-map target_of ts n ∙ ap (option_map target_of) e
 
-pub step_here : (ss : List Step) (n : ℕ) (s : Step) → slice_get ss n ≡ Some s → slice_get (map step_of ss) n ≡ Some (step_of s)
+pub step_here : (ss : List TargetStep) (n : ℕ) (s : TargetStep) → slice_get ss n ≡ Some s → slice_get (map step_of ss) n ≡ Some (step_of s)
 step_here ss n s e = slice_get-map step_of ss n ∙ ap (option_map step_of) e
 
 -- What the clauses of a step say, of a result.
@@ -80,13 +80,13 @@ module _ {S : Type 0} (dom : Operations S) (plan : Plan) (ts : List plain.Target
       )
 
   -- into a frame
-  pub entered : (new : Store S) (w after : Walk) (frame : Frame) (names : Known) → Enters frame new.names names w after → Names new (record new { names = names })
+  pub entered : (new : Store S) (w after : Walk) (frame : NameFrame) (names : Known) → Enters frame new.names names w after → Names new (record new { names = names })
   entered new w after frame names e = record { paths = e.kept; names = keeps_same new.names.names names.names e.same; states = refl; operations = refl; memo = refl; graph = refl }
 
-  pub entered_right : (new : Store S) (w after : Walk) (frame : Frame) (names : Known) → Enters frame new.names names w after → IsRight dom plan new → IsRight dom plan (record new { names = names })
+  pub entered_right : (new : Store S) (w after : Walk) (frame : NameFrame) (names : Known) → Enters frame new.names names w after → IsRight dom plan new → IsRight dom plan (record new { names = names })
   entered_right new w after frame names e right = right_named dom plan new (record new { names = names }) right (entered new w after frame names e) (subst (λ xs. IsOnce xs) (sym e.same) right.once)
 
-  pub step_enters : (old new : Store S) (w after : Walk) (frame : Frame) (names : Known) → Names old new → IsRight dom plan new → (e : Enters frame new.names names w after) → IsPlaced dom plan ts (record new { names = names }) after → steps_left ts after < steps_left ts w → {E : Type 0} →
+  pub step_enters : (old new : Store S) (w after : Walk) (frame : NameFrame) (names : Known) → Names old new → IsRight dom plan new → (e : Enters frame new.names names w after) → IsPlaced dom plan ts (record new { names = names }) after → steps_left ts after < steps_left ts w → {E : Type 0} →
       IsStep {E = E} dom plan ts old (record new { names = names }) w after (Ok None)
   step_enters old new w after frame names more right e placed fewer = record {
     names = names_trans old new (record new { names = names }) more (entered new w after frame names e);

@@ -4,18 +4,18 @@ use Rattle.std.specs.FinMap.{get, len}
 use Rattle.std.proofs.lemmas.List.{map-append}
 use Rattle.std.proofs.lemmas.Option.{slice_get_within}
 use Rattle.std.proofs.Math.Bool.{or-true}
-use Rattle.plain_values.proofs.Lists.{get_last, get_front, get_pushed}
+use Rattle.base_values.proofs.Lists.{get_last, get_front, get_pushed}
 use Rattle.domain_laws.specs.Operations.{Operations}
 use Rattle.cell_names.specs.Paths.{CellName}
 use Rattle.cell_rows.proofs.Rowed.{has_row}
 use Rattle.cell_rows.specs.Targets.{Target}
-use Rattle.demand_laws.specs.Walks as law
+use Rattle.daig_demands.specs.Walks as law
 use Rattle.imp_flow.specs.Plans.{Plan}
-use Rattle.flow_rows.specs.declared.row.Row.{Row}
-use Rattle.named_cells.specs.Same.{same_name}
-use Rattle.named_cells.specs.Asked.{inputs}
-use Rattle.named_cells.proofs.Numbers.{filled_number}
-use Rattle.named_cells.proofs.Same.{same_is}
+use Rattle.imp_flow_rows.specs.declared.row.Row.{Row}
+use Rattle.cell_graph.specs.Same.{same_name}
+use Rattle.cell_graph.specs.Asked.{inputs}
+use Rattle.cell_graph.proofs.Numbers.{filled_number}
+use Rattle.cell_graph.proofs.Same.{same_is}
 use Rattle.daig_query.specs.declared.opening.Open.{Open}
 use Rattle.daig_query.specs.declared.store.Store.{Store}
 use Rattle.daig_query.specs.declared.walk.Walk.{Walk}

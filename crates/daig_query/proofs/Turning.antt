@@ -4,8 +4,8 @@ use Rattle.domain_laws.specs.Operations.{Operations}
 use Rattle.cell_names.specs.Paths.{CellName}
 use Rattle.cell_rows.specs.Targets.{Target}
 use Rattle.imp_flow.specs.Plans.{Plan}
-use Rattle.daig_query.specs.declared.advance.Turn.{Turn}
-use Rattle.daig_query.specs.declared.advance.Turn.TheVariants.{Pushed, Filled, Spent}
+use Rattle.daig_query.specs.declared.advance.AdvanceResult.{AdvanceResult}
+use Rattle.daig_query.specs.declared.advance.AdvanceResult.TheVariants.{Pushed, Filled, Spent}
 use Rattle.daig_query.specs.declared.store.Store.{Store}
 use Rattle.daig_query.specs.declared.walk.Walk.{Walk}
 use Rattle.daig_query.specs.Kept.{AddsNoCell, Grows, Names}
@@ -18,7 +18,7 @@ use Rattle.daig_query.proofs.Growing.{few_trans, grows_trans, names_few, names_g
 use Rattle.daig_query.proofs.Walks.{good_grows}
 
 -- What the clauses of a turn say, of a result.
-pub record IsTurn {S E : Type 0} (dom : Operations S) (plan : Plan) (ts : List Target) (old new : Store S) (before : List CellName) (after : Walk) (spent : Bool) (each ticks later : ℕ) (result : Result Turn E) : Type 0 where
+pub record IsTurn {S E : Type 0} (dom : Operations S) (plan : Plan) (ts : List Target) (old new : Store S) (before : List CellName) (after : Walk) (spent : Bool) (each ticks later : ℕ) (result : Result AdvanceResult E) : Type 0 where
   pub right : IsRight dom plan new
   pub grows : Grows old new
   pub walk : IsGood dom plan ts new after
@@ -32,7 +32,7 @@ pub record IsTurn {S E : Type 0} (dom : Operations S) (plan : Plan) (ts : List T
 module _ {S : Type 0} (dom : Operations S) (plan : Plan) (ts : List Target) where
   -- Turns that fill nothing, behind a look that gave names numbers.
   module _ (old mid : Store S) (before : List CellName) (after : Walk) (spent : Bool) (each ticks : ℕ) (right : IsRight dom plan mid) (names : Names old mid) (good : IsGood dom plan ts mid after) where
-    pub turn_failed : {E : Type 0} (e : E) (r : Result Turn E) → r ≡ Err e → IsTurn dom plan ts old mid before after spent each ticks ticks r
+    pub turn_failed : {E : Type 0} (e : E) (r : Result AdvanceResult E) → r ≡ Err e → IsTurn dom plan ts old mid before after spent each ticks ticks r
     turn_failed {E} e r is =
         subst (IsTurn {E = E} dom plan ts old mid before after spent each ticks ticks) (sym is) (record {
           right = right;
@@ -74,7 +74,7 @@ module _ {S : Type 0} (dom : Operations S) (plan : Plan) (ts : List Target) wher
 
   -- Turns that come to a fill, behind such a look.
   module _ (old mid new : Store S) (before : List CellName) (spent : Bool) (each ticks later : ℕ) (names : Names old mid) (least : ticks ≤ later) (most : later ≤ ticks + each) where
-    pub turn_unfilled : (w : Walk) → Computes dom plan mid new → IsGood dom plan ts mid w → {E : Type 0} (e : E) (r : Result Turn E) → r ≡ Err e → IsTurn dom plan ts old new before w spent each ticks later r
+    pub turn_unfilled : (w : Walk) → Computes dom plan mid new → IsGood dom plan ts mid w → {E : Type 0} (e : E) (r : Result AdvanceResult E) → r ≡ Err e → IsTurn dom plan ts old new before w spent each ticks later r
     turn_unfilled w computes good {E} e r is =
         subst (IsTurn {E = E} dom plan ts old new before w spent each ticks later) (sym is) (record {
           right = computes.right;

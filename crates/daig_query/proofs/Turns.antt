@@ -5,24 +5,24 @@ use Rattle.std.specs.FinMap.{len}
 use Rattle.std.specs.Option.{option_eq}
 use Rattle.std.proofs.lemmas.Bool.Decides.{nat_tests}
 use Rattle.std.proofs.lemmas.List.{length-map}
-use Rattle.plain_values.proofs.Lists.{get_last, get_some}
+use Rattle.base_values.proofs.Lists.{get_last, get_some}
 use Rattle.domain_laws.specs.Operations.{Operations}
-use Rattle.demand_order.specs.Order.{member}
-use Rattle.demand_order.specs.Store.{first_absent, missing_of}
-use Rattle.demand_order.specs.Machine.{waits}
+use Rattle.daig_order.specs.Order.{member}
+use Rattle.daig_order.specs.Store.{first_absent, missing_of}
+use Rattle.daig_order.specs.Machine.{waits}
 use Rattle.cell_names.specs.Paths.{CellName}
 use Rattle.cell_rows.specs.Targets.{Target}
 use Rattle.imp_flow.specs.Plans.{Plan}
-use Rattle.named_cells.specs.Same.{same_name}
-use Rattle.named_cells.specs.Named.{filled_at}
-use Rattle.daig_query.specs.declared.advance.Turn.{Turn}
+use Rattle.cell_graph.specs.Same.{same_name}
+use Rattle.cell_graph.specs.Named.{filled_at}
+use Rattle.daig_query.specs.declared.advance.AdvanceResult.{AdvanceResult}
 use Rattle.daig_query.specs.declared.store.Store.{Store}
 use Rattle.daig_query.specs.declared.walk.Walk.{Walk}
 use Rattle.daig_query.specs.Kept.{kept, AddsFew, Grows}
 use Rattle.daig_query.specs.Right.{found, IsRight}
 use Rattle.daig_query.specs.Opened.{name_of}
 use Rattle.daig_query.specs.Turned.{stacked_names, Pushes, FillsTop, Waits, Ends, Turns}
-use Rattle.daig_query.specs.Filled.{added, missing, Fills}
+use Rattle.daig_query.specs.Filled.{cells_added, missing, Fills}
 use Rattle.daig_query.specs.Walked.{IsGood, place_of}
 use Rattle.daig_query.proofs.Growing.{grows_trans, filled_same}
 use Rattle.daig_query.proofs.Stacked.{has_kept, stack_waits, targets_kept, name_at}
@@ -36,12 +36,12 @@ module _ {S : Type 0} (dom : Operations S) (plan : Plan) (ts : List Target) wher
     pub right : IsRight dom plan store
     pub grows : Grows first store
     pub good : IsGood dom plan ts store w
-    pub run : Runs dom plan ts (kept first) (kept store) (stacked_names store w.stack.items) (added first store)
-    pub counted : len store.graph.cells ≡ len first.graph.cells + added first store
+    pub run : Runs dom plan ts (kept first) (kept store) (stacked_names store w.stack.items) (cells_added first store)
+    pub counted : len store.graph.cells ≡ len first.graph.cells + cells_added first store
 
   -- how far it is from its end
   abbrev pub running_left : (first store : Store S) → Walk → ℕ
-  running_left first store w = left dom plan ts (kept first) (stacked_names store w.stack.items) (added first store)
+  running_left first store w = left dom plan ts (kept first) (stacked_names store w.stack.items) (cells_added first store)
 
   -- where no cell is added the same names have cells
   pub kept_still : (old new : Store S) → IsRight dom plan old → IsRight dom plan new → Grows old new → new.graph.cells ≡ old.graph.cells → (x : CellName) → kept new x ≡ kept old x
@@ -51,7 +51,7 @@ module _ {S : Type 0} (dom : Operations S) (plan : Plan) (ts : List Target) wher
       ∙ filled_same old.graph.cells old.names.names new.names.names before.once after.once grows.names (λ n f e. let p = before.cells n f e in (p.0, p.1)) x
       )
 
-  added_still : (first old new : Store S) → new.graph.cells ≡ old.graph.cells → added first new ≡ added first old
+  added_still : (first old new : Store S) → new.graph.cells ≡ old.graph.cells → cells_added first new ≡ cells_added first old
   added_still first old new cells = ap (λ m. len m - len first.graph.cells) cells
 
   -- what the names under the top wait for is the top
@@ -69,32 +69,32 @@ module _ {S : Type 0} (dom : Operations S) (plan : Plan) (ts : List Target) wher
 
   module _ (first old new : Store S) (before after : Walk) (run : IsRunning first old before) (right : IsRight dom plan new) (grows : Grows old new) (good : IsGood dom plan ts new after) where
     -- the run goes on where no cell is added
-    still : new.graph.cells ≡ old.graph.cells → Runs dom plan ts (kept first) (kept new) (stacked_names old before.stack.items) (added first new)
+    still : new.graph.cells ≡ old.graph.cells → Runs dom plan ts (kept first) (kept new) (stacked_names old before.stack.items) (cells_added first new)
     still cells =
         subst (λ n. Runs dom plan ts (kept first) (kept new) (stacked_names old before.stack.items) n) (sym (added_still first old new cells)) (
-        runs_same dom plan ts (kept first) (kept old) (kept new) (stacked_names old before.stack.items) (added first old) (kept_still old new run.right right grows cells) run.run
+        runs_same dom plan ts (kept first) (kept old) (kept new) (stacked_names old before.stack.items) (cells_added first old) (kept_still old new run.right right grows cells) run.run
         )
 
-    still_counted : new.graph.cells ≡ old.graph.cells → len new.graph.cells ≡ len first.graph.cells + added first new
+    still_counted : new.graph.cells ≡ old.graph.cells → len new.graph.cells ≡ len first.graph.cells + cells_added first new
     still_counted cells =
         let a : len new.graph.cells ≡ len old.graph.cells = ap len cells in
-        let b : added first new ≡ added first old = added_still first old new cells in
+        let b : cells_added first new ≡ cells_added first old = added_still first old new cells in
         let c = run.counted in
         omega arith
 
     -- what a run leaves where it stops with no fill
-    pub stops : new.graph.cells ≡ old.graph.cells → AddsFew (suc (added first new)) first new → Fills dom plan ts first new (added first new)
+    pub stops : new.graph.cells ≡ old.graph.cells → AddsFew (suc (cells_added first new)) first new → Fills dom plan ts first new (cells_added first new)
     stops cells few =
-        let s = runs_leave dom plan ts run.right.checked (kept first) (kept new) (stacked_names old before.stack.items) (added first new) (still cells) in
+        let s = runs_leave dom plan ts run.right.checked (kept first) (kept new) (stacked_names old before.stack.items) (cells_added first new) (still cells) in
         record {
           right = right;
           grows = grows_trans first old new run.grows grows;
           adds = λ x.
               sym (has_kept (found dom plan) (kept new) x)
               ∙ (s.adds x
-              ∙ (ap (λ b. b || member same_name (take (added first new) (missing_of (system dom plan ts) (cells_of dom plan ts (kept first)) (wanted dom plan ts))) x) (has_kept (found dom plan) (kept first) x)
-              ∙ ap (λ xs. kept first x || member same_name (take (added first new) xs) x) (missing_is dom plan ts first)));
-          needed = subst (λ xs. added first new ≤ length xs) (missing_is dom plan ts first) s.needed;
+              ∙ (ap (λ b. b || member same_name (take (cells_added first new) (missing_of (system dom plan ts) (cells_of dom plan ts (kept first)) (wanted dom plan ts))) x) (has_kept (found dom plan) (kept first) x)
+              ∙ ap (λ xs. kept first x || member same_name (take (cells_added first new) xs) x) (missing_is dom plan ts first)));
+          needed = subst (λ xs. cells_added first new ≤ length xs) (missing_is dom plan ts first) s.needed;
           counted = still_counted cells;
           few = few;
         }
@@ -106,8 +106,8 @@ module _ {S : Type 0} (dom : Operations S) (plan : Plan) (ts : List Target) wher
       grows = grows_trans first old new run.grows grows;
       good = good;
       run =
-          subst (λ xs. Runs dom plan ts (kept first) (kept new) xs (added first new)) (sym p.names) (
-          runs_push dom plan ts run.right.checked (kept first) (kept new) (stacked_names old before.stack.items) (added first new) (still cells) p.top
+          subst (λ xs. Runs dom plan ts (kept first) (kept new) xs (cells_added first new)) (sym p.names) (
+          runs_push dom plan ts run.right.checked (kept first) (kept new) (stacked_names old before.stack.items) (cells_added first new) (still cells) p.top
           (waits_top new after right good (stacked_names old before.stack.items) p.top p.names p.absent)
           );
       counted = still_counted cells;
@@ -119,9 +119,9 @@ module _ {S : Type 0} (dom : Operations S) (plan : Plan) (ts : List Target) wher
     pub pushes_smaller : Pushes old new (stacked_names old before.stack.items) after → running_left first new after < running_left first old before
     pushes_smaller p =
         let cells : new.graph.cells ≡ old.graph.cells = ap (λ g. g.cells) p.only.graph in
-        let s = push_smaller dom plan ts run.right.checked (kept first) (kept new) (stacked_names old before.stack.items) (added first new) (still cells) p.top (waits_top new after right good (stacked_names old before.stack.items) p.top p.names p.absent) in
+        let s = push_smaller dom plan ts run.right.checked (kept first) (kept new) (stacked_names old before.stack.items) (cells_added first new) (still cells) p.top (waits_top new after right good (stacked_names old before.stack.items) p.top p.names p.absent) in
         subst (λ n. running_left first new after < left dom plan ts (kept first) (stacked_names old before.stack.items) n) (added_still first old new cells) (
-        subst (λ xs. left dom plan ts (kept first) xs (added first new) < left dom plan ts (kept first) (stacked_names old before.stack.items) (added first new)) (sym p.names) s
+        subst (λ xs. left dom plan ts (kept first) xs (cells_added first new) < left dom plan ts (kept first) (stacked_names old before.stack.items) (cells_added first new)) (sym p.names) s
         )
 
     -- a fill
@@ -132,7 +132,7 @@ module _ {S : Type 0} (dom : Operations S) (plan : Plan) (ts : List Target) wher
       abbrev rest : List CellName
       rest = stacked_names new after.stack.items
 
-      pub fills_more : added first new ≡ added first old + 1
+      pub fills_more : cells_added first new ≡ cells_added first old + 1
       fills_more =
           let a : len new.graph.cells ≡ suc (len old.graph.cells) = p.puts.count in
           let c = run.counted in
@@ -145,7 +145,7 @@ module _ {S : Type 0} (dom : Operations S) (plan : Plan) (ts : List Target) wher
         good = good;
         run =
             subst (λ n. Runs dom plan ts (kept first) (kept new) rest n) (sym fills_more) (
-            runs_fill dom plan ts run.right.checked (kept first) (kept old) names (added first old) run.run rest p.top p.names p.ready (kept new) p.puts.adds
+            runs_fill dom plan ts run.right.checked (kept first) (kept old) names (cells_added first old) run.run rest p.top p.names p.ready (kept new) p.puts.adds
             );
         counted =
             let a : len new.graph.cells ≡ suc (len old.graph.cells) = p.puts.count in
@@ -156,28 +156,28 @@ module _ {S : Type 0} (dom : Operations S) (plan : Plan) (ts : List Target) wher
 
       pub fills_smaller : running_left first new after < running_left first old before
       fills_smaller =
-          subst (λ n. left dom plan ts (kept first) rest n < left dom plan ts (kept first) names (added first old)) (sym fills_more) (
-          fill_less dom plan ts run.right.checked (kept first) (kept old) names (added first old) run.run rest p.top p.names p.ready
+          subst (λ n. left dom plan ts (kept first) rest n < left dom plan ts (kept first) names (cells_added first old)) (sym fills_more) (
+          fill_less dom plan ts run.right.checked (kept first) (kept old) names (cells_added first old) run.run rest p.top p.names p.ready
           )
 
     -- a name that waits shows that more is missing
-    pub waits_more : Waits dom plan ts old new (stacked_names old before.stack.items) after → added first new < length (missing dom plan ts first)
+    pub waits_more : Waits dom plan ts old new (stacked_names old before.stack.items) after → cells_added first new < length (missing dom plan ts first)
     waits_more p =
         let cells : new.graph.cells ≡ old.graph.cells = ap (λ g. g.cells) p.only.graph in
-        subst (λ xs. added first new < length xs) (missing_is dom plan ts first) (
-        top_more dom plan ts run.right.checked (kept first) (kept new) (stacked_names old before.stack.items) (added first new) (still cells) p.rest p.top p.split p.ready
+        subst (λ xs. cells_added first new < length xs) (missing_is dom plan ts first) (
+        top_more dom plan ts run.right.checked (kept first) (kept new) (stacked_names old before.stack.items) (cells_added first new) (still cells) p.rest p.top p.split p.ready
         )
 
     -- at the end all that was missing is filled
-    pub ends_all : Ends dom plan ts old new (stacked_names old before.stack.items) after → added first new ≡ length (missing dom plan ts first)
+    pub ends_all : Ends dom plan ts old new (stacked_names old before.stack.items) after → cells_added first new ≡ length (missing dom plan ts first)
     ends_all p =
         let cells : new.graph.cells ≡ old.graph.cells = ap (λ g. g.cells) p.only.graph in
-        runs_end dom plan ts run.right.checked (kept first) (kept new) (stacked_names old before.stack.items) (added first new) (still cells) p.bottom
+        runs_end dom plan ts run.right.checked (kept first) (kept new) (stacked_names old before.stack.items) (cells_added first new) (still cells) p.bottom
         (targets_kept dom plan new right ts (place_of ts new after) after.found.items p.done.placed.stands p.done.asks_none)
         ∙ ap length (missing_is dom plan ts first)
 
   -- how many cells more, at most so many
-  pub within_start : (limit : Option ℕ) (store : Store S) → IfSome limit (λ n. added store store ≤ n)
+  pub within_start : (limit : Option ℕ) (store : Store S) → IfSome limit (λ n. cells_added store store ≤ n)
   within_start None store = tt
   within_start (Some n) store = omega arith
 
@@ -193,7 +193,7 @@ module _ {S : Type 0} (dom : Operations S) (plan : Plan) (ts : List Target) wher
       more other = grind (arith, other)
 
 -- what a turn did, by what it was
-pub turned : {S : Type 0} (dom : Operations S) (plan : Plan) (ts : List Target) (old new : Store S) (before : List CellName) (after : Walk) (turn is : Turn) → turn ≡ is → Turns dom plan ts old new before after turn → Turns dom plan ts old new before after is
+pub turned : {S : Type 0} (dom : Operations S) (plan : Plan) (ts : List Target) (old new : Store S) (before : List CellName) (after : Walk) (turn is : AdvanceResult) → turn ≡ is → Turns dom plan ts old new before after turn → Turns dom plan ts old new before after is
 turned dom plan ts old new before after turn is e h = subst (Turns dom plan ts old new before after) e h
 
 -- a limit that is not reached

@@ -6,34 +6,34 @@ use Rattle.std.proofs.lemmas.Bool.{or_left, or_right, or_cases}
 use Rattle.std.proofs.lemmas.List.{map-append}
 use Rattle.domain_laws.specs.Operations.{Operations}
 use Rattle.batch_meaning.specs.Values as batch
-use Rattle.demand_order.specs.Order.{member}
-use Rattle.demand_order.proofs.OrderLemmas.{member-append}
-use Rattle.cell_names.specs.declared.frame.Frame.{Frame}
-use Rattle.cell_names.specs.declared.frame.Frame.TheVariants.{InCall, InLoop}
+use Rattle.daig_order.specs.Order.{member}
+use Rattle.daig_order.proofs.OrderLemmas.{member-append}
+use Rattle.cell_names.specs.declared.frame.NameFrame.{NameFrame}
+use Rattle.cell_names.specs.declared.frame.NameFrame.TheVariants.{InCall, InLoop}
 use Rattle.cell_names.specs.declared.frame.Point.{Point}
 use Rattle.cell_names.specs.declared.frame.Point.TheVariants.{Fix}
 use Rattle.cell_names.specs.Paths.{CellName}
 use Rattle.cell_rows.specs.Claims.{HasName}
 use Rattle.cell_rows.specs.Names.{name}
 use Rattle.cell_rows.specs.Cells.{Cell}
-use Rattle.cell_rows.specs.Targets.{Step, Take, Go, Target, to_point, unless_over, demanded}
-use Rattle.demand_laws.specs.Walks.{asks, goes, names_left, values_left}
-use Rattle.demand_laws.specs.Walks as law
-use Rattle.demand_laws.proofs.Walking.{start_names, start_values, walk_goes}
-use Rattle.demand_laws.proofs.Demanded.{demanded_named}
+use Rattle.cell_rows.specs.Targets.{TargetStep, Take, Go, Target, to_point, unless_over, demanded}
+use Rattle.daig_demands.specs.Walks.{asks, goes, names_left, values_left}
+use Rattle.daig_demands.specs.Walks as law
+use Rattle.daig_demands.proofs.Walking.{start_names, start_values, walk_goes}
+use Rattle.daig_demands.proofs.Demanded.{demanded_named}
 use Rattle.imp_flow.specs.Plans.{Plan}
 use Rattle.daig_graph.specs.Cells.{AreCells, Filled}
 use Rattle.daig_query.specs.declared.held.Held.{Held}
 use Rattle.daig_query.specs.declared.store.Store.{Store}
 use Rattle.daig_query.specs.declared.walk.Walk.{Walk}
-use Rattle.named_cells.specs.Same.{same_name}
-use Rattle.named_cells.specs.Named.{filled_at}
+use Rattle.cell_graph.specs.Same.{same_name}
+use Rattle.cell_graph.specs.Named.{filled_at}
 use Rattle.daig_query.specs.Kept.{kept, Grows, Lasts}
 use Rattle.daig_query.specs.Right.{found, IsRight}
 use Rattle.daig_query.specs.Walked.{AreTargets, behind_steps, place_of, Stands, IsPlaced, AreStacked, IsGood, IsDone, fixes, with_fixes, AreAmong}
-use Rattle.named_cells.proofs.Same.{same_is}
+use Rattle.cell_graph.proofs.Same.{same_is}
 use Rattle.daig_query.proofs.Growing.{path_stays, keeps_within, grows_last, cells_last, open_lasts, next_lasts, name_stays}
-use Rattle.named_cells.proofs.Numbers.{filled_number, filled_named, numbers_grow, numbers_push}
+use Rattle.cell_graph.proofs.Numbers.{filled_number, filled_named, numbers_grow, numbers_push}
 use Rattle.std.proofs.lemmas.Option.{same_Some}
 
 -- a name that has a cell keeps one
@@ -79,43 +79,43 @@ first_or x y ys m f g = elim (or_cases (same_name x y) (member same_name ys x) m
 
 -- Into a loop's last round there is one fixed point more on the way.
 module _ {S : Type 0} (y : CellName) (c : Cell S) where
-  round_fixes : (ts : List Target) (w : List Frame) → asks (law.walk w ts) ≡ Some y → law.found c (law.walk w ts) ≡ [] → fixes (goes c (law.walk w ts)).path ≡ y ∷ fixes w
+  round_fixes : (ts : List Target) (w : List NameFrame) → asks (law.walk w ts) ≡ Some y → law.found c (law.walk w ts) ≡ [] → fixes (goes c (law.walk w ts)).path ≡ y ∷ fixes w
   round_fixes [] w e none = absurd cc
   round_fixes (t ∷ ts) w e none = go t.steps w e none
     where
-      by : (n : ℕ) (ss : List Step) (w : List Frame) (v : batch.Value S) → y ≡ name w (Fix n) → unless_over v (v ∷ []) [] ≡ [] → fixes (unless_over v (law.start ts) (law.walk (InLoop n c.index ∷ w) (to_point ss t.last ∷ ts))).path ≡ y ∷ fixes w
+      by : (n : ℕ) (ss : List TargetStep) (w : List NameFrame) (v : batch.Value S) → y ≡ name w (Fix n) → unless_over v (v ∷ []) [] ≡ [] → fixes (unless_over v (law.start ts) (law.walk (InLoop n c.index ∷ w) (to_point ss t.last ∷ ts))).path ≡ y ∷ fixes w
       by n ss w (batch.Over m z) i none = absurd cc
       by n ss w (batch.State s) i none = ap (λ x. x ∷ fixes w) (sym i)
 
-      go : (ss : List Step) (w : List Frame) → Some (law.asks_in ss t.last w) ≡ Some y → law.found_in c ss ≡ [] → fixes (law.goes_in c ss t.last w ts).path ≡ y ∷ fixes w
+      go : (ss : List TargetStep) (w : List NameFrame) → Some (law.asks_in ss t.last w) ≡ Some y → law.found_in c ss ≡ [] → fixes (law.goes_in c ss t.last w ts).path ≡ y ∷ fixes w
       go [] w e none = absurd cc
       go (Go n ∷ ss) w e none = go ss (InCall n ∷ w) e none
       go (Take n ∷ ss) w e none = by n ss w c.value (sym (same_Some _ _ e)) none
 
-  goes_on : (ts : List Target) (w : List Frame) → asks (law.walk w ts) ≡ Some y → law.found c (law.walk w ts) ≡ [] → (goes c (law.walk w ts)).left ≡ [] → (goes c (law.walk w ts)).path ≡ []
+  goes_on : (ts : List Target) (w : List NameFrame) → asks (law.walk w ts) ≡ Some y → law.found c (law.walk w ts) ≡ [] → (goes c (law.walk w ts)).left ≡ [] → (goes c (law.walk w ts)).path ≡ []
   goes_on [] w e none i = absurd cc
   goes_on (t ∷ ts) w e none i = go t.steps w none i
     where
-      by : (n : ℕ) (ss : List Step) (w : List Frame) (v : batch.Value S) → unless_over v (v ∷ []) [] ≡ [] → (unless_over v (law.start ts) (law.walk (InLoop n c.index ∷ w) (to_point ss t.last ∷ ts))).left ≡ [] →
+      by : (n : ℕ) (ss : List TargetStep) (w : List NameFrame) (v : batch.Value S) → unless_over v (v ∷ []) [] ≡ [] → (unless_over v (law.start ts) (law.walk (InLoop n c.index ∷ w) (to_point ss t.last ∷ ts))).left ≡ [] →
           (unless_over v (law.start ts) (law.walk (InLoop n c.index ∷ w) (to_point ss t.last ∷ ts))).path ≡ []
       by n ss w (batch.Over m z) none i = absurd cc
       by n ss w (batch.State s) none i = absurd cc
 
-      go : (ss : List Step) (w : List Frame) → law.found_in c ss ≡ [] → (law.goes_in c ss t.last w ts).left ≡ [] → (law.goes_in c ss t.last w ts).path ≡ []
+      go : (ss : List TargetStep) (w : List NameFrame) → law.found_in c ss ≡ [] → (law.goes_in c ss t.last w ts).left ≡ [] → (law.goes_in c ss t.last w ts).path ≡ []
       go [] w none i = absurd cc
       go (Go n ∷ ss) w none i = go ss (InCall n ∷ w) none i
       go (Take n ∷ ss) w none i = by n ss w c.value none i
 
   -- Behind a target's last name the next target begins; that name's path has the fixed points on the way.
-  ends_here : (ts : List Target) (w : List Frame) → asks (law.walk w ts) ≡ Some y → law.found c (law.walk w ts) ≡ c.value ∷ [] → ((goes c (law.walk w ts)).path ≡ []) × (fixes y.path ≡ fixes w)
+  ends_here : (ts : List Target) (w : List NameFrame) → asks (law.walk w ts) ≡ Some y → law.found c (law.walk w ts) ≡ c.value ∷ [] → ((goes c (law.walk w ts)).path ≡ []) × (fixes y.path ≡ fixes w)
   ends_here [] w e one = absurd cc
   ends_here (t ∷ ts) w e one = go t.steps w e one
     where
-      by : (n : ℕ) (ss : List Step) (w : List Frame) (v : batch.Value S) → y ≡ name w (Fix n) → unless_over v (v ∷ []) [] ≡ v ∷ [] → ((unless_over v (law.start ts) (law.walk (InLoop n c.index ∷ w) (to_point ss t.last ∷ ts))).path ≡ []) × (fixes y.path ≡ fixes w)
+      by : (n : ℕ) (ss : List TargetStep) (w : List NameFrame) (v : batch.Value S) → y ≡ name w (Fix n) → unless_over v (v ∷ []) [] ≡ v ∷ [] → ((unless_over v (law.start ts) (law.walk (InLoop n c.index ∷ w) (to_point ss t.last ∷ ts))).path ≡ []) × (fixes y.path ≡ fixes w)
       by n ss w (batch.Over m z) i one = (refl, ap (λ (x : CellName). fixes x.path) i)
       by n ss w (batch.State s) i one = absurd cc
 
-      go : (ss : List Step) (w : List Frame) → Some (law.asks_in ss t.last w) ≡ Some y → law.found_in c ss ≡ c.value ∷ [] → ((law.goes_in c ss t.last w ts).path ≡ []) × (fixes y.path ≡ fixes w)
+      go : (ss : List TargetStep) (w : List NameFrame) → Some (law.asks_in ss t.last w) ≡ Some y → law.found_in c ss ≡ c.value ∷ [] → ((law.goes_in c ss t.last w ts).path ≡ []) × (fixes y.path ≡ fixes w)
       go [] w e one = (refl, ap (λ (x : CellName). fixes x.path) (sym (same_Some _ _ e)))
       go (Go n ∷ ss) w e one = go ss (InCall n ∷ w) e one
       go (Take n ∷ ss) w e one = by n ss w c.value (sym (same_Some _ _ e)) one
@@ -141,7 +141,7 @@ module _ {S : Type 0} (dom : Operations S) (plan : Plan) (ts : List Target) wher
   }
 
   -- through a call
-  pub stands_go : (store : Store S) (w : List Frame) (n : ℕ) (ss : List Step) (p : Point) (rest : List Target) (cells : List ℕ) →
+  pub stands_go : (store : Store S) (w : List NameFrame) (n : ℕ) (ss : List TargetStep) (p : Point) (rest : List Target) (cells : List ℕ) →
       Stands dom plan ts store (law.walk w (to_point (Go n ∷ ss) p ∷ rest)) cells → Stands dom plan ts store (law.walk (InCall n ∷ w) (to_point ss p ∷ rest)) cells
   stands_go store w n ss p rest cells h = record {
     asked = h.asked;

@@ -7,7 +7,7 @@ use Rattle.concrete_sem.specs.Values.{Variables, Heap}
 use Rattle.concrete_sem.specs.Steps.{Config}
 use Rattle.concrete_sem.specs.Reach.{top, Reach}
 use Rattle.concrete_sem.specs.WellFormed.{variables_of}
-use Rattle.analysis_words.specs.declared.refusal.Refusal.TheVariants.{NoChain}
+use Rattle.imp_words.specs.declared.refusal.QueryRefusal.TheVariants.{NoChain}
 use Rattle.domain_laws.specs.Operations.{Operations}
 use Rattle.batch_meaning.specs.Values as plain
 use Rattle.batch_meaning.specs.Answers.{Answer, Refuses, Answers}

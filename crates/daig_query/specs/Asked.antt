@@ -5,7 +5,7 @@ use Rattle.daig_graph.specs.declared.value.Value.TheVariants.{State, Over}
 use Rattle.loop_unroll.specs.Iterates.{value_at}
 use Rattle.cell_names.specs.Paths.{CellName}
 use Rattle.cell_rows.specs.Rows.{Row}
-use Rattle.flow_rows.specs.Inputs.{first_of, second_of, break_of}
+use Rattle.imp_flow_rows.specs.Inputs.{first_of, second_of, break_of}
 use Rattle.daig_query.specs.declared.held.Held.{Held}
 use Rattle.daig_query.specs.Kept.{Cells}
 

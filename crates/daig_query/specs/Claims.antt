@@ -2,14 +2,14 @@
 use Rattle.std.specs.Prelude.{◌≡◌, ℕ, List, ◌∷◌, ◌++◌, drop, length, Some, true}
 use Rattle.std.specs.FinMap.{get}
 use Rattle.domain_laws.specs.Operations.{Operations}
-use Rattle.demand_order.specs.InTurn.{missing_in_turn}
+use Rattle.daig_order.specs.InTurn.{missing_in_turn}
 use Rattle.cell_names.specs.Paths.{CellName}
 use Rattle.cell_rows.specs.Targets.{Target, demanded}
-use Rattle.demand_laws.specs.Claims.{names_of}
+use Rattle.daig_demands.specs.Claims.{names_of}
 use Rattle.daig_graph.specs.Cells.{Filled}
 use Rattle.imp_flow.specs.Plans.{Plan}
-use Rattle.named_cells.specs.Same.{same_name}
-use Rattle.named_cells.specs.Holds.{HoldsCells}
+use Rattle.cell_graph.specs.Same.{same_name}
+use Rattle.cell_graph.specs.Holds.{HoldsCells}
 use Rattle.daig_query.specs.declared.held.Held.{Held}
 use Rattle.daig_query.specs.declared.store.Store.{Store}
 use Rattle.daig_query.specs.declared.walk.Walk.{Walk}

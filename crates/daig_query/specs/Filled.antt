@@ -2,19 +2,19 @@
 use Rattle.std.specs.Prelude.{◌≡◌, ℕ, suc, ◌+◌, ◌-◌, ◌≤◌, ◌||◌, List, [], take, length}
 use Rattle.std.specs.FinMap.{len}
 use Rattle.domain_laws.specs.Operations.{Operations}
-use Rattle.demand_order.specs.Order.{member, fill_all}
+use Rattle.daig_order.specs.Order.{member, fill_all}
 use Rattle.cell_names.specs.Paths.{CellName}
 use Rattle.cell_rows.specs.Targets.{Target, demanded}
-use Rattle.demand_laws.specs.Claims.{names_of}
+use Rattle.daig_demands.specs.Claims.{names_of}
 use Rattle.imp_flow.specs.Plans.{Plan}
-use Rattle.named_cells.specs.Same.{same_name}
+use Rattle.cell_graph.specs.Same.{same_name}
 use Rattle.daig_query.specs.declared.store.Store.{Store}
 use Rattle.daig_query.specs.Kept.{kept, AddsFew, Grows}
 use Rattle.daig_query.specs.Right.{found, IsRight}
 
 -- how many cells were added
-abbrev pub added : {S : Type 0} → (old new : Store S) → ℕ
-added old new = len new.graph.cells - len old.graph.cells
+abbrev pub cells_added : {S : Type 0} → (old new : Store S) → ℕ
+cells_added old new = len new.graph.cells - len old.graph.cells
 
 module _ {S : Type 0} (dom : Operations S) (plan : Plan) (ts : List Target) where
   -- what is missing of these targets, in the order in which it is filled

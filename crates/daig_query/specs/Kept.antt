@@ -11,7 +11,7 @@ use Rattle.cell_names.specs.Paths.{CellName}
 use Rattle.cell_rows.specs.Cells.{Cell, cell}
 use Rattle.daig_query.specs.declared.held.Held.{Held}
 use Rattle.daig_query.specs.declared.store.Store.{Store}
-use Rattle.named_cells.specs.Named as named
+use Rattle.cell_graph.specs.Named as named
 
 abbrev pub Cells : Type 0
 Cells = FinMap nat_cmp (Filled Held)

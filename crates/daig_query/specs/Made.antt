@@ -4,12 +4,12 @@ use Rattle.imp_slots.specs.ActionViews.{act_of}
 use Rattle.imp_slots.specs.CallViews.{taken_of}
 use Rattle.imp_slots.specs.declared.calls.Returning.{Returning}
 use Rattle.domain_laws.specs.Operations.{Operations}
-use Rattle.flow_rows.specs.declared.row.Unary.{Unary}
-use Rattle.flow_rows.specs.declared.row.Unary.TheVariants as one
-use Rattle.flow_rows.specs.declared.row.Binary.{Binary}
-use Rattle.flow_rows.specs.declared.row.Binary.TheVariants as two
-use Rattle.flow_rows.specs.declared.row.Row.{Row}
-use Rattle.flow_rows.specs.declared.row.Row.TheVariants.{Init, One, Two, Fixed, Joins}
+use Rattle.imp_flow_rows.specs.declared.row.Unary.{Unary}
+use Rattle.imp_flow_rows.specs.declared.row.Unary.TheVariants as one
+use Rattle.imp_flow_rows.specs.declared.row.Binary.{Binary}
+use Rattle.imp_flow_rows.specs.declared.row.Binary.TheVariants as two
+use Rattle.imp_flow_rows.specs.declared.row.Row.{Row}
+use Rattle.imp_flow_rows.specs.declared.row.Row.TheVariants.{Init, One, Two, Fixed, Joins}
 use Rattle.memo_table.specs.declared.operation.Operation.{Operation}
 use Rattle.memo_table.specs.declared.operation.Operation.TheVariants as owned
 use Rattle.memo_table.specs.Results.{both}
@@ -25,7 +25,7 @@ IsUnaryOf (one.Exit c) o = o ≡ owned.Assume c.now false
 abbrev pub IsBinaryOf : Binary → Operation → Type 0
 IsBinaryOf two.Join o = o ≡ owned.Join
 IsBinaryOf (two.Leave call) o = (taken : Option Returning) × (o ≡ owned.Leave taken) × (taken_of taken ≡ call.now.returning)
-IsBinaryOf (two.Widen marks) o = o ≡ owned.Widen marks.now
+IsBinaryOf (two.Widen thresholds) o = o ≡ owned.Widen thresholds.now
 
 abbrev pub IsOperationOf : Row → Operation → Type 0
 IsOperationOf (Init layout) o = o ≡ owned.Init layout.now
@@ -57,7 +57,7 @@ module _ {S : Type 0} (dom : Operations S) where
   abbrev pub binary_state : Binary → S → S → S
   binary_state two.Join s t = dom.join s t
   binary_state (two.Leave call) s t = dom.leave call.now.returning s t
-  binary_state (two.Widen marks) s t = dom.widen marks.now s t
+  binary_state (two.Widen thresholds) s t = dom.widen thresholds.now s t
 
   -- what a row makes of the states that it is applied to, where they are there
   abbrev pub row_result : Row → Option S → Option S → Option S

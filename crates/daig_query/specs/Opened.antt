@@ -8,15 +8,15 @@ use Rattle.cell_rows.specs.Claims.{HasName}
 use Rattle.cell_rows.specs.Rows as plain
 use Rattle.cell_rows.specs.Flat.{flat_row}
 use Rattle.daig_graph.specs.Cells.{AreCells}
-use Rattle.flow_rows.specs.Near.{row_in}
+use Rattle.imp_flow_rows.specs.Near.{row_in}
 use Rattle.imp_flow.specs.Plans.{Plan}
-use Rattle.flow_rows.specs.declared.row.Row.{Row}
+use Rattle.imp_flow_rows.specs.declared.row.Row.{Row}
 use Rattle.daig_query.specs.declared.opening.Open.{Open}
 use Rattle.daig_query.specs.declared.store.Store.{Store}
-use Rattle.named_cells.specs.Same.{same_name}
-use Rattle.named_cells.specs.Named.{AreNumbers}
+use Rattle.cell_graph.specs.Same.{same_name}
+use Rattle.cell_graph.specs.Named.{AreNumbers}
 use Rattle.daig_query.specs.Kept.{kept, AddsFew, Grows}
-use Rattle.named_cells.specs.Asked.{inputs}
+use Rattle.cell_graph.specs.Asked.{inputs}
 use Rattle.daig_query.specs.Right.{IsRight}
 
 -- the name

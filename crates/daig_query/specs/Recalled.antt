@@ -2,7 +2,7 @@
 use Rattle.std.specs.Prelude.{◌≡◌, ℕ, Option, Some, slice_get}
 use Rattle.std.specs.Map.{lookup}
 use Rattle.loop_unroll.specs.Iterates.{iterate_of, state_in}
-use Rattle.flow_rows.specs.declared.row.Row.{Row}
+use Rattle.imp_flow_rows.specs.declared.row.Row.{Row}
 use Rattle.memo_table.specs.declared.operation.Operation.{Operation}
 use Rattle.memo_table.specs.contracts.memo.KeyPartialEq.TheImpl as key_impl
 use Rattle.daig_query.specs.declared.opening.Open.{Open}

@@ -7,16 +7,16 @@ use Rattle.cell_names.specs.Known.{IsOnce}
 use Rattle.cell_names.specs.Owners.{owner}
 use Rattle.cell_names.specs.Paths.{CellName}
 use Rattle.cell_rows.specs.Cells.{Cell}
-use Rattle.kept_set.specs.Touched.{AreCells}
-use Rattle.demand_laws.specs.Claims.{found_by}
+use Rattle.cell_kept_set.specs.Touched.{AreCells}
+use Rattle.daig_demands.specs.Claims.{found_by}
 use Rattle.imp_flow.specs.Plans.{Plan}
 use Rattle.memo_table.specs.Results.{AreResults}
 use Rattle.daig_graph.specs.Cells.{Filled}
 use Rattle.daig_query.specs.declared.held.Held.{Held}
 use Rattle.daig_query.specs.declared.store.Store.{Store}
-use Rattle.named_cells.specs.Same.{same_name}
-use Rattle.named_cells.specs.Named.{AreNumbers}
-use Rattle.named_cells.specs.Asked.{inputs}
+use Rattle.cell_graph.specs.Same.{same_name}
+use Rattle.cell_graph.specs.Named.{AreNumbers}
+use Rattle.cell_graph.specs.Asked.{inputs}
 use Rattle.daig_query.specs.Kept.{kept, IsValue}
 
 module _ {S : Type 0} (dom : Operations S) (plan : Plan) where

@@ -11,7 +11,7 @@ use Rattle.state_table.specs.Marks.{IsMarked}
 use Rattle.daig_query.specs.declared.held.Held.{Held}
 use Rattle.daig_query.specs.declared.store.Store.{Store}
 use Rattle.daig_query.specs.Kept.{AddsFew, Cells}
-use Rattle.daig_query.specs.Filled.{added}
+use Rattle.daig_query.specs.Filled.{cells_added}
 use Rattle.daig_query.specs.Right.{IsRight}
 
 -- what the cell of a number holds, where that is a state
@@ -74,4 +74,4 @@ module _ {S : Type 0} where
   -- Cells are only added, and for each a state and an operation at most, and one for a cell that could not be filled.
   pub record FillsFew (old new : Store S) : Type 0 where
     pub more : len old.graph.cells ≤ len new.graph.cells
-    pub few : AddsFew (suc (added old new)) old new
+    pub few : AddsFew (suc (cells_added old new)) old new

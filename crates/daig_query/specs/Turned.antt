@@ -1,14 +1,14 @@
 -- What a turn of the machine does to the names that are being filled.
 use Rattle.std.specs.Prelude.{◌≡◌, ℕ, ◌⊎◌, Bool, true, false, List, [], ◌∷◌, ◌++◌, map}
 use Rattle.domain_laws.specs.Operations.{Operations}
-use Rattle.demand_order.specs.Order.{member}
+use Rattle.daig_order.specs.Order.{member}
 use Rattle.cell_names.specs.Paths.{CellName}
 use Rattle.cell_rows.specs.Targets.{Target}
 use Rattle.imp_flow.specs.Plans.{Plan}
-use Rattle.named_cells.specs.Same.{same_name}
-use Rattle.named_cells.specs.Asked.{inputs}
-use Rattle.daig_query.specs.declared.advance.Turn.{Turn}
-use Rattle.daig_query.specs.declared.advance.Turn.TheVariants.{Pushed, Filled, Spent, Done}
+use Rattle.cell_graph.specs.Same.{same_name}
+use Rattle.cell_graph.specs.Asked.{inputs}
+use Rattle.daig_query.specs.declared.advance.AdvanceResult.{AdvanceResult}
+use Rattle.daig_query.specs.declared.advance.AdvanceResult.TheVariants.{Pushed, Filled, Spent, Done}
 use Rattle.daig_query.specs.declared.opening.Open.{Open}
 use Rattle.daig_query.specs.declared.store.Store.{Store}
 use Rattle.daig_query.specs.declared.walk.Walk.{Walk}
@@ -33,14 +33,14 @@ abbrev pub AreKept : {S : Type 0} → Store S → List CellName → Type 0
 AreKept store xs = (x : CellName) → member same_name xs x ≡ true → kept store x ≡ true
 
 -- how many cells it fills
-abbrev pub fills_of : Turn → ℕ
+abbrev pub fills_of : AdvanceResult → ℕ
 fills_of Pushed = 0
 fills_of Filled = 1
 fills_of Spent = 0
 fills_of Done = 0
 
 -- A name is filled where one may be, and is waited with where none may be.
-abbrev pub Obeys : (spent : Bool) → Turn → Type 0
+abbrev pub Obeys : (spent : Bool) → AdvanceResult → Type 0
 Obeys spent Pushed = Unit {0}
 Obeys spent Filled = spent ≡ false
 Obeys spent Spent = spent ≡ true
@@ -77,7 +77,7 @@ module _ {S : Type 0} (dom : Operations S) (plan : Plan) (ts : List Target) wher
     pub done : IsDone dom plan ts new after
     pub only : Names old new
 
-  abbrev pub Turns : (old new : Store S) → (before : List CellName) → (after : Walk) → Turn → Type 0
+  abbrev pub Turns : (old new : Store S) → (before : List CellName) → (after : Walk) → AdvanceResult → Type 0
   Turns old new before after Pushed = Pushes old new before after
   Turns old new before after Filled = FillsTop old new before after
   Turns old new before after Spent = Waits old new before after

@@ -2,30 +2,30 @@
 use Rattle.std.specs.Prelude.{◌≡◌, ℕ, suc, ◌+◌, ◌-◌, ◌<◌, true, false, List, [], ◌∷◌, ◌++◌, map, take, drop, length, Option, Some, None, slice_get}
 use Rattle.imp_syntax.specs.declared.edit.Location.{Location}
 use Rattle.domain_laws.specs.Operations.{Operations}
-use Rattle.demand_order.specs.Order.{member}
+use Rattle.daig_order.specs.Order.{member}
 use Rattle.std.specs.FinMap.{get}
-use Rattle.cell_names.specs.declared.frame.Frame.{Frame}
-use Rattle.cell_names.specs.declared.frame.Frame.TheVariants.{InCall, InLoop}
+use Rattle.cell_names.specs.declared.frame.NameFrame.{NameFrame}
+use Rattle.cell_names.specs.declared.frame.NameFrame.TheVariants.{InCall, InLoop}
 use Rattle.cell_names.specs.declared.frame.Point.TheVariants.{Fix}
 use Rattle.cell_names.specs.Known.{Known, KeepsNumbers}
 use Rattle.cell_names.specs.Paths.{CellName, path_at}
 use Rattle.cell_rows.specs.Names.{name}
 use Rattle.cell_rows.specs.Targets.{Target, to_point, demanded, targets, value_of_target}
-use Rattle.demand_laws.specs.Walks.{asks, names_left, values_left}
-use Rattle.demand_laws.specs.Walks as law
+use Rattle.daig_demands.specs.Walks.{asks, names_left, values_left}
+use Rattle.daig_demands.specs.Walks as law
 use Rattle.imp_flow.specs.Plans.{Plan}
 use Rattle.daig_graph.specs.Cells.{AreCells}
 use Rattle.daig_query.specs.declared.opening.Open.{Open}
 use Rattle.daig_query.specs.declared.store.Store.{Store}
 use Rattle.daig_query.specs.declared.walk.Walk.{Walk}
-use Rattle.named_cells.specs.Same.{same_name}
-use Rattle.named_cells.specs.Named.{AreNumbers}
+use Rattle.cell_graph.specs.Same.{same_name}
+use Rattle.cell_graph.specs.Named.{AreNumbers}
 use Rattle.daig_query.specs.Kept.{Cells, kept}
 use Rattle.daig_query.specs.Right.{found}
 use Rattle.daig_query.specs.Opened.{name_of, IsOpen, next_of}
 
 -- the fixed points of the loops that a path goes into
-abbrev pub fixes : List Frame → List CellName
+abbrev pub fixes : List NameFrame → List CellName
 fixes [] = []
 fixes (InCall n ∷ w) = fixes w
 fixes (InLoop n k ∷ w) = name w (Fix n) ∷ fixes w
@@ -72,7 +72,7 @@ pub record IsNew (w : Walk) : Type 0 where
   pub stack : w.stack.items ≡ []
 
 -- one step further, into a frame
-pub record Enters (frame : Frame) (names later : Known) (old new : Walk) : Type 0 where
+pub record Enters (frame : NameFrame) (names later : Known) (old new : Walk) : Type 0 where
   pub target : new.target ≡ old.target
   pub step : new.step ≡ suc old.step
   pub path : path_at later.paths new.path ≡ frame ∷ path_at names.paths old.path

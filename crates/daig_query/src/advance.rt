@@ -6,16 +6,16 @@ ghost use Rattle.daig_query.specs.Kept.{kept, AddsNoCell, Grows, Names as OnlyNa
 ghost use Rattle.daig_query.specs.Right.{IsRight};
 ghost use Rattle.daig_query.specs.Opened.{name_of};
 ghost use Rattle.daig_query.specs.Walked.{AreStacked, AreTargets, IsDone, IsGood, IsPlaced, place_of};
-ghost use Rattle.daig_query.specs.Filled.{added, missing, Fills};
+ghost use Rattle.daig_query.specs.Filled.{cells_added, missing, Fills};
 ghost use Rattle.daig_query.specs.Turned.{fills_of, stacked_names, HandsDown, IsTopAbsent, Obeys, Turns};
 
 use crate::engine::Engine;
 use crate::opening::{Open, fill, next_absent, row_of};
 use crate::store::Store;
 use crate::walk::{Walk, next_demanded};
+use base_values::Memory;
 use domain_laws::{Domain, Steps};
 use imp_flow::{Flow, Target};
-use plain_values::Memory;
 use std::alloc::Global;
 use std::sync::ledger::Ledger;
 
@@ -28,7 +28,7 @@ pub struct Progress {
 
 /// What a turn of the machine did.
 #[derive(Clone, Copy)]
-pub(crate) enum Turn {
+pub(crate) enum AdvanceResult {
     /// It pushed the first input, or demanded name, that is missing.
     Pushed,
     /// It filled the name on top.
@@ -47,7 +47,7 @@ fn turn_walk<D: Domain>(
     store: &mut Store<D::State>,
     targets: &[Target],
     walk: &mut Walk,
-) -> Result<Turn, Memory>
+) -> Result<AdvanceResult, Memory>
     requires right { IsRight (D.operations dom.now) flow.now store.old }
     requires targets { AreTargets flow.now (map target_of targets.now) }
     requires placed { IsPlaced (D.operations dom.now) flow.now (map target_of targets.now) store.old walk.old }
@@ -59,10 +59,10 @@ fn turn_walk<D: Domain>(
     ensures only { OnlyNames store.old store.new }
 {
     match next_demanded(alloc, dom, flow, store, targets, walk)? {
-        None => Ok(Turn::Done),
+        None => Ok(AdvanceResult::Done),
         Some(entry) => {
             walk.stack.push(entry)?;
-            Ok(Turn::Pushed)
+            Ok(AdvanceResult::Pushed)
         }
     }
 }
@@ -102,7 +102,7 @@ fn turn_open<D: Domain, L: Ledger>(
     top: Open,
     spent: bool,
     steps: &mut Steps<L>,
-) -> Result<Turn, Memory>
+) -> Result<AdvanceResult, Memory>
     requires right { IsRight (D.operations dom.now) flow.now store.old }
     requires placed { IsPlaced (D.operations dom.now) flow.now (map target_of targets.now) store.old walk.old }
     requires stacked { AreStacked (D.operations dom.now) flow.now store.old (place_of (map target_of targets.now) store.old walk.old) (walk.old.stack.items ++ top ∷ []) }
@@ -123,16 +123,16 @@ fn turn_open<D: Domain, L: Ledger>(
     };
     if let Some(input) = next_absent(alloc, dom, flow, store, &row, &mut entry)? {
         push_both(&mut walk.stack, entry, input)?;
-        return Ok(Turn::Pushed);
+        return Ok(AdvanceResult::Pushed);
     }
     if spent {
         walk.stack.push(entry)?;
-        return Ok(Turn::Spent);
+        return Ok(AdvanceResult::Spent);
     }
     let cell = entry.cell;
     fill(alloc, dom, flow, store, &row, entry, steps)?;
     hand_down(&mut walk.stack, cell);
-    Ok(Turn::Filled)
+    Ok(AdvanceResult::Filled)
 }
 
 /// A turn of the machine. Where `spent`, nothing is filled.
@@ -146,7 +146,7 @@ fn take_turn<D: Domain, L: Ledger>(
     walk: &mut Walk,
     spent: bool,
     steps: &mut Steps<L>,
-) -> Result<Turn, Memory>
+) -> Result<AdvanceResult, Memory>
     requires right { IsRight (D.operations dom.now) flow.now store.old }
     requires targets { AreTargets flow.now (map target_of targets.now) }
     requires walk { IsGood (D.operations dom.now) flow.now (map target_of targets.now) store.old walk.old }
@@ -181,17 +181,17 @@ fn fill_missing<D: Domain, L: Ledger>(
     requires right { IsRight (D.operations dom.now) flow.now store.old }
     requires targets { AreTargets flow.now (map target_of targets.now) }
     requires walk { IsGood (D.operations dom.now) flow.now (map target_of targets.now) store.old walk.old }
-    ensures fills { Fills (D.operations dom.now) flow.now (map target_of targets.now) store.old store.new (added store.old store.new) }
+    ensures fills { Fills (D.operations dom.now) flow.now (map target_of targets.now) store.old store.new (cells_added store.old store.new) }
     ensures walk { IsGood (D.operations dom.now) flow.now (map target_of targets.now) store.new walk.new }
-    ensures within { IfSome limit (λ n. added store.old store.new ≤ n) }
-    ensures counted { IfOk result (λ p. p.filled ≡ added store.old store.new) }
+    ensures within { IfSome limit (λ n. cells_added store.old store.new ≤ n) }
+    ensures counted { IfOk result (λ p. p.filled ≡ cells_added store.old store.new) }
     ensures all { IfOk result (λ p. p.done ≡ true → p.filled ≡ length (missing (D.operations dom.now) flow.now (map target_of targets.now) store.old)) }
     ensures done { IfOk result (λ p. p.done ≡ true → IsDone (D.operations dom.now) flow.now (map target_of targets.now) store.new walk.new) }
     ensures more { IfOk result (λ p. p.done ≡ false → p.filled < length (missing (D.operations dom.now) flow.now (map target_of targets.now) store.old)) }
     ensures limited { IfOk result (λ p. p.done ≡ false → limit ≡ Some p.filled) }
     ensures least { steps.old ≤ steps.new }
     ensures ticked { IfOk result (λ p. steps.new ≤ steps.old + D.counted dom.now * p.filled) }
-    ensures most { steps.new ≤ steps.old + D.counted dom.now * suc (added store.old store.new) }
+    ensures most { steps.new ≤ steps.old + D.counted dom.now * suc (cells_added store.old store.new) }
 {
     walk.drop_filled(&store.graph);
     let before = store.graph.kept_count();
@@ -199,15 +199,15 @@ fn fill_missing<D: Domain, L: Ledger>(
         let filled = store.graph.kept_count() - before;
         let spent = limit == Some(filled);
         match take_turn(alloc, dom, flow, store, targets, walk, spent, steps)? {
-            Turn::Pushed => {}
-            Turn::Filled => {}
-            Turn::Spent => {
+            AdvanceResult::Pushed => {}
+            AdvanceResult::Filled => {}
+            AdvanceResult::Spent => {
                 return Ok(Progress {
                     filled,
                     done: false,
                 });
             }
-            Turn::Done => return Ok(Progress { filled, done: true }),
+            AdvanceResult::Done => return Ok(Progress { filled, done: true }),
         }
     }
 }
@@ -238,16 +238,16 @@ impl<D: Domain> Engine<D> {
         requires walk { IsGood (D.operations self.old.domain) flow.now (map target_of targets.now) self.old.store walk.old }
         ensures domain { self.new.domain ≡ self.old.domain }
         ensures spare { self.new.spare ≡ self.old.spare }
-        ensures fills { Fills (D.operations self.old.domain) flow.now (map target_of targets.now) self.old.store self.new.store (added self.old.store self.new.store) }
+        ensures fills { Fills (D.operations self.old.domain) flow.now (map target_of targets.now) self.old.store self.new.store (cells_added self.old.store self.new.store) }
         ensures walk { IsGood (D.operations self.old.domain) flow.now (map target_of targets.now) self.new.store walk.new }
-        ensures within { added self.old.store self.new.store ≤ most }
-        ensures counted { IfOk result (λ p. p.filled ≡ added self.old.store self.new.store) }
+        ensures within { cells_added self.old.store self.new.store ≤ most }
+        ensures counted { IfOk result (λ p. p.filled ≡ cells_added self.old.store self.new.store) }
         ensures first { IfOk result (λ p. p.filled ≡ min most (length (missing (D.operations self.old.domain) flow.now (map target_of targets.now) self.old.store))) }
         ensures all { IfOk result (λ p. IsTrue p.done ↔ (length (missing (D.operations self.old.domain) flow.now (map target_of targets.now) self.old.store) ≤ most)) }
         ensures done { IfOk result (λ p. IsTrue p.done → IsDone (D.operations self.old.domain) flow.now (map target_of targets.now) self.new.store walk.new) }
         ensures least { steps.old ≤ steps.new }
         ensures ticked { IfOk result (λ p. steps.new ≤ steps.old + D.counted self.old.domain * p.filled) }
-        ensures most { steps.new ≤ steps.old + D.counted self.old.domain * suc (added self.old.store self.new.store) }
+        ensures most { steps.new ≤ steps.old + D.counted self.old.domain * suc (cells_added self.old.store self.new.store) }
     {
         let dom = &self.domain;
         fill_missing(
@@ -281,14 +281,14 @@ impl<D: Domain> Engine<D> {
         requires walk { IsGood (D.operations self.old.domain) flow.now (map target_of targets.now) self.old.store walk.old }
         ensures domain { self.new.domain ≡ self.old.domain }
         ensures spare { self.new.spare ≡ self.old.spare }
-        ensures fills { Fills (D.operations self.old.domain) flow.now (map target_of targets.now) self.old.store self.new.store (added self.old.store self.new.store) }
+        ensures fills { Fills (D.operations self.old.domain) flow.now (map target_of targets.now) self.old.store self.new.store (cells_added self.old.store self.new.store) }
         ensures walk { IsGood (D.operations self.old.domain) flow.now (map target_of targets.now) self.new.store walk.new }
-        ensures counted { IfOk result (λ n. n ≡ added self.old.store self.new.store) }
+        ensures counted { IfOk result (λ n. n ≡ cells_added self.old.store self.new.store) }
         ensures all { IfOk result (λ n. n ≡ length (missing (D.operations self.old.domain) flow.now (map target_of targets.now) self.old.store)) }
         ensures done { OnOk result (IsDone (D.operations self.old.domain) flow.now (map target_of targets.now) self.new.store walk.new) }
         ensures least { steps.old ≤ steps.new }
         ensures ticked { IfOk result (λ n. steps.new ≤ steps.old + D.counted self.old.domain * n) }
-        ensures most { steps.new ≤ steps.old + D.counted self.old.domain * suc (added self.old.store self.new.store) }
+        ensures most { steps.new ≤ steps.old + D.counted self.old.domain * suc (cells_added self.old.store self.new.store) }
     {
         let dom = &self.domain;
         let progress = fill_missing(

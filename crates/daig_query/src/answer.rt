@@ -2,22 +2,22 @@
 ghost use Rattle.std.specs.Prelude.{◌≡◌, ℕ, ◌+◌, ◌*◌, ◌≤◌, List, length, map, nat_lt, Some, false, IfOk, option_copied};
 ghost use Rattle.imp_syntax.specs.declared.edit.Location.{Location};
 ghost use Rattle.batch_meaning.specs.Values.{Value as PlainValue};
-ghost use Rattle.batch_meaning.specs.Batch.{Engine as BatchEngine};
+ghost use Rattle.batch_meaning.specs.Batch.{LoopOptions};
 ghost use Rattle.batch_meaning.specs.Answers.{In, answer_in, procedure_of, summed};
 ghost use Rattle.cell_rows.specs.Targets.{Target as PlainTarget, targets, value_of_target};
 ghost use Rattle.imp_flow.specs.Plans.{Plan};
 ghost use Rattle.daig_query.specs.Right.{found};
-ghost use Rattle.demand_laws.specs.Stops.{state_of};
+ghost use Rattle.daig_demands.specs.Stops.{state_of};
 ghost use Rattle.daig_query.specs.Answered.{value_in, AreFilled, Covers, HoldValues, Says};
 
 use crate::engine::Engine;
 use crate::store::Store;
 use crate::walk::Walk;
+use base_values::Memory;
 use batch_sound::answers_are_sound;
 use call_contexts::joined;
 use daig_graph::Value;
 use domain_laws::{Domain, Steps};
-use plain_values::Memory;
 use std::alloc::Global;
 use std::sync::ledger::Ledger;
 
@@ -30,7 +30,7 @@ fn read_cells<D: Domain, L: Ledger>(
     steps: &mut Steps<L>,
 ) -> Result<Option<Value<D::State>>, Memory>
     requires there { (vs : List (PlainValue D.State)) × HoldValues store.now cells.now vs }
-    ensures says { (engine : BatchEngine) (vs : List (PlainValue D.State)) → HoldValues store.now cells.now vs → IfOk result (Says (summed (D.operations dom.now) engine vs)) }
+    ensures says { (engine : LoopOptions) (vs : List (PlainValue D.State)) → HoldValues store.now cells.now vs → IfOk result (Says (summed (D.operations dom.now) engine vs)) }
     ensures least { steps.old ≤ steps.new }
     ensures most { steps.new ≤ steps.old + D.counted dom.now * (2 * length cells.now) }
 {

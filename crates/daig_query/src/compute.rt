@@ -10,22 +10,22 @@ ghost use Rattle.daig_query.specs.Made.{IsFixed, IsOperationOf, alone_in, index_
 ghost use Rattle.daig_query.specs.Recalled.{IsRemembered, IsRecalled};
 ghost use Rattle.daig_query.specs.Opened.{name_of, IsReady, Computes};
 ghost use Rattle.daig_query.specs.Overs.{HasNoOver, HasOver, IsFirstOver};
-ghost use Rattle.flow_rows.specs.declared.row.Row.TheVariants.{Fixed};
+ghost use Rattle.imp_flow_rows.specs.declared.row.Row.TheVariants.{Fixed};
 
 use crate::held::Held;
 use crate::opening::Open;
 use crate::operations::{apply, operation_of};
 use crate::store::Store;
+use base_values::{Items, Memory};
 use cell_names::{Names, PathId};
 use daig_graph::{Graph, SharedChain, Value};
 use domain_laws::{Domain, Steps};
-use flow_rows::{Row, Unary};
 use imp_flow::Flow;
+use imp_flow_rows::{Row, Unary};
 use imp_syntax::{Chain, StmtId};
 use loop_unroll::converged;
 use memo_table::{Key, Operation};
-use plain_values::{Items, Memory};
-use state_table::Table;
+use state_table::StateTable;
 use std::alloc::Global;
 use std::hash::Hash;
 use std::sync::ledger::Ledger;
@@ -146,7 +146,7 @@ fn number(held: Option<Held>) -> Option<usize>
 
 /// The state that has a number.
 #[inline]
-fn operand<S: Eq + Hash + Drop>(states: &Table<S>, number: Option<usize>) -> Option<&S>
+fn operand<S: Eq + Hash + Drop>(states: &StateTable<S>, number: Option<usize>) -> Option<&S>
     requires known { IfSome number (λ n. n < length states.now) }
     ensures is { option_copied result ≡ state_at states.now number }
 {
@@ -160,7 +160,7 @@ fn operand<S: Eq + Hash + Drop>(states: &Table<S>, number: Option<usize>) -> Opt
 #[inline]
 fn operation_number(
     alloc: Global,
-    operations: &mut Table<Operation>,
+    operations: &mut StateTable<Operation>,
     row: &Row<'_>,
 ) -> Result<usize, Memory>
     ensures is { IfOk result (λ n. (o : Operation) × IsOperationOf row.now o × (slice_get operations.new n ≡ Some o)) }
@@ -177,7 +177,7 @@ fn operation_number(
 fn make_state<D: Domain, L: Ledger>(
     alloc: Global,
     dom: &D,
-    states: &mut Table<D::State>,
+    states: &mut StateTable<D::State>,
     row: &Row<'_>,
     left: Option<usize>,
     right: Option<usize>,

@@ -12,13 +12,13 @@ ghost use Rattle.daig_query.specs.Swept.{IsBounded};
 
 use crate::held::Held;
 use crate::store::Store;
+use base_values::Memory;
 use cell_names::Names;
 use cell_removal::commit;
 use daig_graph::Graph;
 use domain_laws::Domain;
 use memo_table::Memo;
-use plain_values::Memory;
-use state_table::Table;
+use state_table::StateTable;
 use std::alloc::Global;
 
 // how many states are kept beside four for each cell and each remembered result, before a sweep
@@ -49,8 +49,8 @@ impl<D: Domain + Drop> Engine<D> {
         let store = Store {
             graph: Graph::new(alloc),
             names: Names::new(alloc),
-            states: Table::new(alloc),
-            operations: Table::new(alloc),
+            states: StateTable::new(alloc),
+            operations: StateTable::new(alloc),
             memo,
         };
         Ok(Engine {

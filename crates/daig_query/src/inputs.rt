@@ -2,8 +2,8 @@
 ghost use Rattle.std.specs.Prelude.{◌≡◌, List, length, None, option_map};
 ghost use Rattle.daig_graph.specs.Cells.{AreCells};
 ghost use Rattle.loop_unroll.specs.Iterates.{iterate_of, value_at, GoesOnTo, StopsWithin};
-ghost use Rattle.flow_rows.specs.Near.{PathFrame, input_name, row_in};
-ghost use Rattle.flow_rows.specs.Inputs.{iterate_of as iterate_in};
+ghost use Rattle.imp_flow_rows.specs.Near.{PathFrame, input_name, row_in};
+ghost use Rattle.imp_flow_rows.specs.Inputs.{iterate_of as iterate_in};
 ghost use Rattle.daig_query.specs.Asked.{by_count, round_of, joined_next};
 ghost use Rattle.daig_query.specs.Opened.{name_of, IsAt, next_of};
 
@@ -12,8 +12,8 @@ use crate::opening::Open;
 use crate::store::Store;
 use daig_graph::{Graph, Value};
 use domain_laws::Domain;
-use flow_rows::{Input, Row};
 use imp_flow::Flow;
+use imp_flow_rows::{Input, Row};
 use loop_unroll::next_wanted;
 
 /// Of an operation on one value or two, behind so many inputs.

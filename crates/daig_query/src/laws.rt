@@ -11,7 +11,7 @@ pub fn walks_stay_good<D: Domain>()
 {}
 
 /// Advances one after another fill what one demand fills, in the same order. Demands in turn, as a report makes them,
-/// fill what they demand in turn by the definition, so that crate `demand_laws` says how many cells a report fills.
+/// fill what they demand in turn by the definition, so that crate `daig_demands` says how many cells a report fills.
 pub fn demands_add_up<D: Domain>()
     ensures rest { (d : D) → RestIsMissing (D.operations d) }
     ensures turns { (d : D) → DemandsAreInTurn (D.operations d) }

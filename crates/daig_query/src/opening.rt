@@ -2,7 +2,7 @@
 ghost use Rattle.std.specs.Prelude.{◌≡◌, ◌+◌, ◌≤◌, ◌<◌, [], false, length, option_map, is_some, IfOk, OnOk, OnErr};
 ghost use Rattle.std.specs.FinMap as map;
 ghost use Rattle.cell_names.specs.Paths.{path_at, name_in};
-ghost use Rattle.flow_rows.specs.Near.{row_in};
+ghost use Rattle.imp_flow_rows.specs.Near.{row_in};
 ghost use Rattle.daig_query.specs.Kept.{kept, Names as OnlyNames};
 ghost use Rattle.daig_query.specs.Opened.{name_of, row_at, IsAt, IsReady, Looks, Puts, Computes};
 ghost use Rattle.daig_query.specs.Made.{IsFixed};
@@ -14,12 +14,12 @@ use crate::compute::compute;
 use crate::held::Held;
 use crate::inputs::next_input;
 use crate::store::Store;
+use base_values::Memory;
 use cell_names::{Name, Names};
 use daig_graph::{Graph, Inputs};
 use domain_laws::{Domain, Steps};
-use flow_rows::Row;
 use imp_flow::Flow;
-use plain_values::Memory;
+use imp_flow_rows::Row;
 use std::alloc::Global;
 use std::sync::ledger::Ledger;
 

@@ -2,10 +2,10 @@
 ghost use Rattle.std.specs.Prelude.{◌≡◌, ◌+◌, IsSome, Some, IfOk, option_copied};
 ghost use Rattle.daig_query.specs.Made.{IsUnaryOf, IsBinaryOf, IsOperationOf, unary_state, binary_state, row_result};
 
+use base_values::Memory;
 use domain_laws::{Domain, Steps};
-use flow_rows::{Binary, Row, Unary};
+use imp_flow_rows::{Binary, Row, Unary};
 use memo_table::Operation;
-use plain_values::Memory;
 use std::alloc::Global;
 use std::sync::ledger::Ledger;
 
@@ -30,7 +30,7 @@ fn of_binary(alloc: Global, op: &Binary<'_>) -> Result<Operation, Memory>
     match op {
         Binary::Join => Ok(Operation::Join),
         Binary::Leave(call) => Ok(Operation::Leave(call.returning())),
-        Binary::Widen(marks) => Operation::widen(alloc, marks),
+        Binary::Widen(thresholds) => Operation::widen(alloc, thresholds),
     }
 }
 
@@ -84,7 +84,7 @@ fn apply_binary<D: Domain, L: Ledger>(
     match op {
         Binary::Join => dom.join(alloc, left, right, steps),
         Binary::Leave(call) => dom.leave(alloc, call, left, right, steps),
-        Binary::Widen(marks) => dom.widen(alloc, marks, left, right, steps),
+        Binary::Widen(thresholds) => dom.widen(alloc, thresholds, left, right, steps),
     }
 }
 

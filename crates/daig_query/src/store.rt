@@ -3,7 +3,7 @@ use crate::held::Held;
 use cell_names::Names;
 use daig_graph::Graph;
 use memo_table::{Memo, Operation};
-use state_table::Table;
+use state_table::StateTable;
 use std::hash::Hash;
 
 /// Cells by the numbers of their names, the states that they hold by numbers, and what operations gave.
@@ -11,7 +11,7 @@ use std::hash::Hash;
 pub(crate) struct Store<S: Eq + Hash> {
     pub(crate) graph: Graph<Held>,
     pub(crate) names: Names,
-    pub(crate) states: Table<S>,
-    pub(crate) operations: Table<Operation>,
+    pub(crate) states: StateTable<S>,
+    pub(crate) operations: StateTable<Operation>,
     pub(crate) memo: Memo<S>,
 }

@@ -9,12 +9,12 @@ ghost use Rattle.daig_query.specs.Walked.{IsNew, Enters, Leaves, Stays, Drops, I
 use crate::held::Held;
 use crate::opening::{Open, has_cell, opened};
 use crate::store::Store;
-use cell_names::{Frame, Name, Names, PathId, Point};
+use base_values::Memory;
+use cell_names::{Name, NameFrame, Names, PathId, Point};
 use daig_graph::{Graph, Value};
 use domain_laws::Domain;
-use imp_flow::{Flow, Step, Target};
+use imp_flow::{Flow, Target, TargetStep};
 use imp_syntax::StmtId;
-use plain_values::Memory;
 use std::alloc::Global;
 
 /// How far a demand for some targets has come. It stays good while cells are only added.
@@ -65,7 +65,7 @@ impl Walk {
     }
 
     /// A step on, into a frame.
-    fn enter(&mut self, names: &mut Names, frame: Frame) -> Result<(), Memory>
+    fn enter(&mut self, names: &mut Names, frame: NameFrame) -> Result<(), Memory>
         requires there { self.old.path < length names.old.paths }
         requires room { self.old.step + 1 < 2 ^ 64 }
         ensures enters { OnOk result (Enters frame names.old names.new self.old self.new) }
@@ -124,7 +124,7 @@ fn take<D: Domain>(
     requires targets { AreTargets flow.now (map target_of targets.now) }
     requires placed { IsPlaced (D.operations dom.now) flow.now (map target_of targets.now) store.old walk.old }
     requires here { slice_get targets.now walk.old.target ≡ Some target.now }
-    requires takes { slice_get target.now.steps walk.old.step ≡ Some (Step.Take head) }
+    requires takes { slice_get target.now.steps walk.old.step ≡ Some (TargetStep.Take head) }
     ensures names { OnlyNames store.old store.new }
     ensures right { IsRight (D.operations dom.now) flow.now store.new }
     ensures placed { IsPlaced (D.operations dom.now) flow.now (map target_of targets.now) store.new walk.new }
@@ -143,7 +143,7 @@ fn take<D: Domain>(
         return Ok(Some(opened(alloc, cell, &name)));
     }
     if let Some(held) = held_in(&store.graph, cell) {
-        walk.enter(&mut store.names, Frame::InLoop(head, held.index))?;
+        walk.enter(&mut store.names, NameFrame::InLoop(head, held.index))?;
         return Ok(None);
     }
     walk.next_target(cell)?;
@@ -207,11 +207,11 @@ fn step<D: Domain>(
 {
     let _steps = target.steps.len();
     match target.steps.get(walk.step) {
-        Some(Step::Go(site)) => {
-            walk.enter(&mut store.names, Frame::InCall(*site))?;
+        Some(TargetStep::Go(site)) => {
+            walk.enter(&mut store.names, NameFrame::InCall(*site))?;
             Ok(None)
         }
-        Some(Step::Take(head)) => take(alloc, dom, flow, store, targets, walk, target, *head),
+        Some(TargetStep::Take(head)) => take(alloc, dom, flow, store, targets, walk, target, *head),
         None => last(alloc, dom, flow, store, targets, walk, target),
     }
 }

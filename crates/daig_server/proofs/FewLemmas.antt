@@ -6,7 +6,7 @@ use Rattle.imp_check.specs.declared.fault.Fault.TheVariants.{Procedures, Stateme
 use Rattle.imp_check.specs.Faults.{unless, first, at, in_procedure}
 use Rattle.imp_check.specs.Programs.{program_count, deepest, size_fault, procedures_fault, ending_fault, check_fault, name_of, last_of}
 use Rattle.imp_check.proofs.FewLemmas.{unless_none, at_none, first_left, first_right, in_none}
-use Rattle.edit_entries.proofs.Quiet.{numbers_count}
+use Rattle.edit_entries.proofs.CallFree.{numbers_count}
 
 size_holds : (ps : List Procedure) → check_fault ps ≡ None → size_fault ps ≡ None
 size_holds ps is =

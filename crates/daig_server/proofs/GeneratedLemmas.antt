@@ -4,12 +4,12 @@ use Rattle.imp_parse.specs.Answer.{HasOneAnswer}
 use Rattle.imp_parse.specs.Languages.{ProgramText}
 use Rattle.imp_parse.specs.Limits.{outside}
 use Rattle.daig_gen.specs.Source as generated
-use Rattle.generated_sources.specs.Trees.{tree_of, AreFaultless, AreRead}
-use Rattle.line_answers.specs.Readings.{Readings}
-use Rattle.server_jobs.specs.declared.status.Status.{Status}
-use Rattle.server_jobs.specs.declared.status.Status.TheVariants.{Done, Words, Source, Script, Sink, Memory, Files, LongScript, LongFile}
-use Rattle.server_jobs.specs.Ends.{Fits}
-use Rattle.server_jobs.specs.Sources.{checked, source_of, unless_faulty}
+use Rattle.gen_sources.specs.Trees.{tree_of, AreFaultless, AreRead}
+use Rattle.serve_answers.specs.Readings.{Readings}
+use Rattle.serve_output.specs.declared.status.Status.{Status}
+use Rattle.serve_output.specs.declared.status.Status.TheVariants.{Done, Words, Source, Script, Sink, Memory, Files, LongScript, LongFile}
+use Rattle.serve_output.specs.Ends.{Fits}
+use Rattle.serve_output.specs.Sources.{checked, source_of, unless_faulty}
 
 pub generated_accepted : HasOneAnswer ProgramText outside → AreRead → AreFaultless → (readings : Readings) (seed size : ℕ) → size ≤ 1000 → source_of readings (generated.source_of seed size) ≡ Ok (tree_of seed size)
 generated_accepted one read faultless readings seed size few =

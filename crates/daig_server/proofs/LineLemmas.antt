@@ -1,17 +1,17 @@
 -- Whole lines.
 use Rattle.std.proofs.Common.{ℕ, ◌++◌, inl, inr, List, [], ◌∷◌, Option, Some, None, append_assoc, append-nil, refl, sym, ap, ◌∙◌}
 use Rattle.domain_laws.specs.Operations.{Operations}
-use Rattle.script_loop.specs.Lines.{kept}
-use Rattle.script_loop.specs.Replies.{reply_to, next_to, replies, after, WroteLines}
+use Rattle.serve_script.specs.Lines.{kept}
+use Rattle.serve_script.specs.Replies.{reply_to, next_to, replies, machine_after, WroteLines}
 use Rattle.request_json.specs.declared.reply.Reply.{Reply}
 use Rattle.request_json.specs.declared.reply.Reply.TheVariants.{Refused}
 use Rattle.request_json.specs.declared.reply.Refusal.TheVariants.{LongLine}
 use Rattle.serde_json.specs.Written.{compact_text}
 use Rattle.request_json.specs.Replies.{object_of, reply_fields, reply_text}
-use Rattle.line_replies.specs.Texts.{long_reply}
-use Rattle.line_answers.specs.Lines.{Served, line_turn, server}
-use Rattle.server_jobs.specs.Ends.{IsWholeLines, WroteWholeLines}
-use Rattle.script_loop.proofs.LineLemmas.{replies-append}
+use Rattle.serve_replies.specs.Texts.{long_reply}
+use Rattle.serve_answers.specs.Lines.{Served, line_turn, server}
+use Rattle.serve_output.specs.Ends.{IsWholeLines, WroteWholeLines}
+use Rattle.serve_script.proofs.LineLemmas.{replies-append}
 
 reply_whole : (reply : Reply) → IsWholeLines (reply_text reply)
 unfolding reply_text
@@ -40,7 +40,7 @@ pub wrote_whole : {S : Type 0} (dom : Operations S) (s : Served) (lines : List (
     WroteLines (server dom) s lines taken written → WroteWholeLines (replies (server dom) s lines) taken written
 wrote_whole dom s lines taken written wrote = record {
   sent = replies (server dom) s wrote.answered;
-  unsent = replies (server dom) (after (server dom) s wrote.answered) wrote.unanswered;
+  unsent = replies (server dom) (machine_after (server dom) s wrote.answered) wrote.unanswered;
   split = ap (replies (server dom) s) wrote.split ∙ replies-append (server dom) s wrote.answered wrote.unanswered;
   written = wrote.written;
   whole = replies_whole dom s wrote.answered;

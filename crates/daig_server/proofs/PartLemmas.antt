@@ -1,21 +1,21 @@
 -- What was answered of a script is answered by the session that the words ask for.
 use Rattle.std.proofs.Common.{◌≡◌, ◌∙◌, ◌++◌, ℕ, List, [], Option, Some, None, append_assoc, sym, ap}
 use Rattle.imp_syntax.specs.Plain.{Procedure}
-use Rattle.script_loop.specs.Lines.{all_lines, last_line, last_part, whole_lines}
-use Rattle.script_loop.specs.Replies.{AnsweredRead, replies}
-use Rattle.script_loop.proofs.LineLemmas.{whole_lines-append}
-use Rattle.command_words.specs.declared.job.DomainName.{DomainName}
-use Rattle.command_words.specs.declared.job.Job.{Job}
-use Rattle.command_words.specs.declared.job.Job.TheVariants as job
-use Rattle.line_answers.specs.Fine.{opening}
-use Rattle.line_answers.specs.Lines.{Served, server}
-use Rattle.line_answers.specs.Readings.{Readings}
+use Rattle.serve_script.specs.Lines.{all_lines, last_line, last_part, whole_lines}
+use Rattle.serve_script.specs.Replies.{AnsweredRead, replies}
+use Rattle.serve_script.proofs.LineLemmas.{whole_lines-append}
+use Rattle.serve_command.specs.declared.job.DomainName.{DomainName}
+use Rattle.serve_command.specs.declared.job.Job.{Job}
+use Rattle.serve_command.specs.declared.job.Job.TheVariants as job
+use Rattle.serve_answers.specs.Fine.{opening}
+use Rattle.serve_answers.specs.Lines.{Served, server}
+use Rattle.serve_answers.specs.Readings.{Readings}
 use Rattle.reply_lines.proofs.Replied.{replies_are_told}
-use Rattle.server_jobs.specs.Domains.{meaning_of}
-use Rattle.server_jobs.specs.Ends.{WroteRead}
-use Rattle.server_jobs.specs.Jobs.{AsksToServe, domain_in, engine_in, engine_of}
-use Rattle.server_jobs.specs.Output.{IsAccepted, Output, done, output, served_bytes}
-use Rattle.server_jobs.proofs.OutputLemmas.{of_program}
+use Rattle.serve_output.specs.Domains.{meaning_of}
+use Rattle.serve_output.specs.Ends.{WroteRead}
+use Rattle.serve_output.specs.Jobs.{AsksToServe, domain_in, engine_in, engine_of}
+use Rattle.serve_output.specs.Output.{IsAccepted, Output, done, output, served_bytes}
+use Rattle.serve_output.proofs.OutputLemmas.{of_program}
 
 -- the lines whose LF was read are the first of all lines
 first_lines : (script read left : List ℕ) → script ≡ read ++ left → all_lines script ≡ whole_lines [] read ++ (whole_lines (last_part [] read) left ++ last_line (last_part [] script))

@@ -1,19 +1,19 @@
 -- From what a session does with a line to what its server does.
 use Rattle.std.proofs.Common.{◌≡◌, ◌∙◌, ◌≤◌, ◌+◌, ◌^◌, ℕ, suc, List, Result, Ok, Err, IfOk, OnOk, ap, arith}
 use Rattle.domain_laws.specs.Operations.{Operations}
-use Rattle.session_machine.specs.Machine.{Machine}
+use Rattle.daig_machine.specs.Machine.{Machine}
 use Rattle.request_json.specs.Replies.{reply_text}
-use Rattle.session_lines.specs.Followed.{Follows}
-use Rattle.line_answers.specs.Readings.{Readings}
-use Rattle.line_answers.specs.Turns.{Turn}
-use Rattle.line_answers.specs.Lines.{Served, line_turn, server}
-use Rattle.command_words.specs.declared.job.DomainName.{DomainName}
-use Rattle.server_jobs.specs.Domains.{meaning_of, AnswersAs}
+use Rattle.serve_session.specs.Followed.{Follows}
+use Rattle.serve_answers.specs.Readings.{Readings}
+use Rattle.serve_answers.specs.Turns.{Outcome}
+use Rattle.serve_answers.specs.Lines.{Served, line_turn, server}
+use Rattle.serve_command.specs.declared.job.DomainName.{DomainName}
+use Rattle.serve_output.specs.Domains.{meaning_of, AnswersAs}
 
 module _ {S A E : Type 0} (items : A → List ℕ) (dom : Operations S) (name : DomainName) (line : List ℕ) (old new : Machine → Type 0) (same : AnswersAs name dom) where
   pub reply_by : (r : Result A E) → ((readings : Readings) (m : Machine) → old m → IfOk r (λ v. Follows (line_turn readings dom line m) new (items v))) →
       IfOk r (λ v. (s : Served) → old s.machine → items v ≡ (server (meaning_of name).operations).reply s line)
-  reply_by (Ok v) follows = λ s stands. (follows s.readings s.machine stands).reply ∙ ap (λ (t : Turn). reply_text t.reply) (same.turns s.readings line s.machine)
+  reply_by (Ok v) follows = λ s stands. (follows s.readings s.machine stands).reply ∙ ap (λ (t : Outcome). reply_text t.reply) (same.turns s.readings line s.machine)
   reply_by (Err e) follows = tt
 
   pub next_by : (r : Result A E) → ((readings : Readings) (m : Machine) → old m → IfOk r (λ v. Follows (line_turn readings dom line m) new (items v))) →

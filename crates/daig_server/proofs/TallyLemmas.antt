@@ -9,8 +9,8 @@ use Rattle.domain_laws.specs.Operations.{Operations}
 use Rattle.batch_meaning.specs.Values.{Value, State, Over}
 use Rattle.batch_meaning.specs.Answers.{Answer, Refuses, Answers, Found, In, Misses, procedure_of}
 use Rattle.imp_check.specs.Slots.{routines_of}
-use Rattle.session_machine.specs.Machine.{Machine, Ticket, ticket_of}
-use Rattle.session_machine.specs.Turns.{answer_at, asked, missing_at, redone, undone}
+use Rattle.daig_machine.specs.Machine.{Machine, Ticket, ticket_of}
+use Rattle.daig_machine.specs.Turns.{answer_at, after_question, missing_at, redone, undone}
 use Rattle.request_json.specs.declared.error.ReadError.{ReadError}
 use Rattle.request_json.specs.declared.request.Query.{Query}
 use Rattle.request_json.specs.declared.request.Request.{Request}
@@ -19,33 +19,33 @@ use Rattle.request_json.specs.declared.reply.Reply.TheVariants as r
 use Rattle.request_json.specs.declared.reply.Refusal.{Refusal}
 use Rattle.request_json.specs.declared.reply.Refusal.TheVariants as refusal
 use Rattle.request_json.specs.Requests.{request_of}
-use Rattle.line_replies.specs.Runs.{asked_run, found_run, run_reply}
-use Rattle.line_replies.specs.Texts.{program_reply}
+use Rattle.serve_replies.specs.Runs.{asked_run, found_run, run_reply}
+use Rattle.serve_replies.specs.Texts.{program_reply}
 use Rattle.imp_slots.specs.Plain.{Routine}
-use Rattle.analysis_words.specs.declared.refusal.Refusal.TheVariants.{LongString}
-use Rattle.line_answers.specs.Lines.{Served, line_turn, read_turn, request_turn, server}
-use Rattle.line_answers.specs.Turns.{Turn, ask_by, cancel_by, edit_by, edit_turn, goes, move_turn, state_by, why_by, step_by, step_of, told}
-use Rattle.line_answers.specs.Edits.{replace_of, insert_of, delete_of, guard_of, declare_of, add_of, drop_of}
-use Rattle.line_answers.specs.Readings.{Readings}
-use Rattle.gen_summary.specs.declared.kind.Kind.TheVariants.{Cost}
-use Rattle.gen_summary.specs.declared.tally.Tally.{Tally}
-use Rattle.gen_summary.specs.Summary.{added, cost_in, kind_of, nothing, summary_text, IsWithin}
-use Rattle.command_words.specs.declared.job.DomainName.{DomainName}
-use Rattle.script_loop.specs.Lines.{whole_lines}
+use Rattle.imp_words.specs.declared.refusal.QueryRefusal.TheVariants.{LongString}
+use Rattle.serve_answers.specs.Lines.{Served, line_turn, read_turn, request_turn, server}
+use Rattle.serve_answers.specs.Turns.{Outcome, ask_by, cancel_by, edit_by, edit_turn, goes, move_turn, state_by, why_by, step_by, step_of, state_reply}
+use Rattle.serve_answers.specs.Edits.{replace_of, insert_of, delete_of, guard_of, declare_of, add_of, drop_of}
+use Rattle.serve_answers.specs.Readings.{Readings}
+use Rattle.gen_summary.specs.declared.kind.ReplyKind.TheVariants.{Cost}
+use Rattle.gen_summary.specs.declared.tally.ReplyTally.{ReplyTally}
+use Rattle.gen_summary.specs.Summary.{tally_with, cost_in, kind_of, nothing, summary_text, IsWithin}
+use Rattle.serve_command.specs.declared.job.DomainName.{DomainName}
+use Rattle.serve_script.specs.Lines.{whole_lines}
 use Rattle.daig_gen.specs.Script.{script_of}
-use Rattle.server_jobs.specs.Domains.{meaning_of}
-use Rattle.server_jobs.specs.Output.{gen_bytes, served_after, tallied}
+use Rattle.serve_output.specs.Domains.{meaning_of}
+use Rattle.serve_output.specs.Output.{gen_bytes, served_after, tally_output}
 
 pub after-append : {S : Type 0} (dom : Operations S) (xs ys : List (List ℕ)) (s : Served) → served_after dom (xs ++ ys) s ≡ served_after dom ys (served_after dom xs s)
 after-append dom [] ys s = refl
 after-append dom (x ∷ xs) ys s = after-append dom xs ys ((server dom).next s x)
 
-pub tallied-append : {S : Type 0} (dom : Operations S) (xs ys : List (List ℕ)) (s : Served) (t : Tally) → tallied dom (xs ++ ys) s t ≡ tallied dom ys (served_after dom xs s) (tallied dom xs s t)
+pub tallied-append : {S : Type 0} (dom : Operations S) (xs ys : List (List ℕ)) (s : Served) (t : ReplyTally) → tally_output dom (xs ++ ys) s t ≡ tally_output dom ys (served_after dom xs s) (tally_output dom xs s t)
 tallied-append dom [] ys s t = refl
-tallied-append dom (x ∷ xs) ys s t = tallied-append dom xs ys ((server dom).next s x) (added (line_turn s.readings dom x s.machine).reply t)
+tallied-append dom (x ∷ xs) ys s t = tallied-append dom xs ys ((server dom).next s x) (tally_with (line_turn s.readings dom x s.machine).reply t)
 
 -- as many replies, or one more
-pub within_more : (n : ℕ) (t : Tally) → IsWithin n t → IsWithin (n + 1) t
+pub within_more : (n : ℕ) (t : ReplyTally) → IsWithin n t → IsWithin (n + 1) t
 within_more n t w = record {
   edits = let few : t.edits ≤ n = w.edits in omega (arith, few);
   filled = let few : t.filled ≤ n * 2 ^ 64 = w.filled in omega (arith, few);
@@ -55,10 +55,10 @@ within_more n t w = record {
 }
 
 -- A turn that tells a cost tells that of the machine after it.
-abbrev pub TellsCost : Turn → Type 0
+abbrev pub TellsCost : Outcome → Type 0
 TellsCost turn = kind_of turn.reply ≡ Cost → cost_in turn.reply ≡ turn.machine.cost
 
-told_cost : {S : Type 0} (dom : Operations S) (l : Location) (v : Value S) (m n : Machine) → TellsCost (goes (told dom l v m) n)
+told_cost : {S : Type 0} (dom : Operations S) (l : Location) (v : Value S) (m n : Machine) → TellsCost (goes (state_reply dom l v m) n)
 told_cost dom l (State s) m n = λ is. cc
 told_cost dom l (Over head z) m n = λ is. cc
 
@@ -72,7 +72,7 @@ move_cost (p ∷ ps) otherwise there m = λ is. cc
 
 state_cost : {S : Type 0} (dom : Operations S) (query : Query) (a : Answer S) (m : Machine) → TellsCost (state_by dom query a m)
 state_cost dom query (Refuses why) m = λ is. cc
-state_cost dom query (Answers v) m = told_cost dom query.at v m (asked dom query.at query.string m)
+state_cost dom query (Answers v) m = told_cost dom query.at v m (after_question dom query.at query.string m)
 
 edit_by_cost : {S : Type 0} (dom : Operations S) (e : Edit) (error : Option EditError) (m : Machine) → TellsCost (edit_by dom e error m)
 edit_by_cost dom e None m = λ is. cc
@@ -83,7 +83,7 @@ edit_cost dom (Err why) m = λ is. cc
 edit_cost dom (Ok e) m = edit_by_cost dom e (edit_refusal e m.program m.next) m
 
 step_if_cost : {S : Type 0} (dom : Operations S) (t : Ticket) (v : Value S) (n : ℕ) (test : Bool) (m stays ends : Machine) →
-    TellsCost (if test then goes (r.Pending n) stays else goes (told dom t.at v m) ends)
+    TellsCost (if test then goes (r.Pending n) stays else goes (state_reply dom t.at v m) ends)
 step_if_cost dom t v n true m stays ends = λ is. cc
 step_if_cost dom t v n false m stays ends = told_cost dom t.at v m ends
 
@@ -103,11 +103,11 @@ ask_by_cost : {S : Type 0} (dom : Operations S) (query : Query) (a : Answer S) (
 ask_by_cost dom query (Refuses why) m = λ is. cc
 ask_by_cost dom query (Answers v) m = λ is. cc
 
-ask_if_cost : (long full : Bool) (why : Refusal) (many : Refusal) (m : Machine) (turn : Turn) → TellsCost turn →
+ask_if_cost : (long full : Bool) (why : Refusal) (many : Refusal) (m : Machine) (turn : Outcome) → TellsCost turn →
     TellsCost (if long then goes (r.Refused why) m else (if full then goes (r.Refused many) m else turn))
-ask_if_cost true full why many m turn told = λ is. cc
-ask_if_cost false true why many m turn told = λ is. cc
-ask_if_cost false false why many m turn told = told
+ask_if_cost true full why many m turn state_reply = λ is. cc
+ask_if_cost false true why many m turn state_reply = λ is. cc
+ask_if_cost false false why many m turn state_reply = state_reply
 
 run_found_cost : (program : List Routine) (inputs : List ℤ) (fuel : ℕ) (l : Location) (found : Found) (m : Machine) → TellsCost (goes (found_run program inputs fuel l found) m)
 unfolding run_reply
@@ -156,17 +156,17 @@ pub line_cost : {S : Type 0} (readings : Readings) (dom : Operations S) (line : 
 line_cost readings dom line m = read_cost readings dom (request_of line) m
 
 -- the summary of the generated script
-pub script_summed : {A E : Type 0} (r : Result A E) (bytes : A → List ℕ) (stands : Served → Type 0) (t : Tally) (domain : DomainName) (seed size : ℕ) (script : List ℕ) →
-    script ≡ script_of seed size → ((s : Served) → stands s → t ≡ tallied (meaning_of domain).operations (whole_lines [] script) s nothing) →
+pub script_summed : {A E : Type 0} (r : Result A E) (bytes : A → List ℕ) (stands : Served → Type 0) (t : ReplyTally) (domain : DomainName) (seed size : ℕ) (script : List ℕ) →
+    script ≡ script_of seed size → ((s : Served) → stands s → t ≡ tally_output (meaning_of domain).operations (whole_lines [] script) s nothing) →
     IfOk r (λ v. bytes v ≡ summary_text t) → IfOk r (λ v. (first : Served) → stands first → bytes v ≡ gen_bytes domain first seed size)
 unfolding gen_bytes
-script_summed (Ok v) bytes stands t domain seed size script is tally told = λ first standing.
-    told ∙ ap summary_text (tally first standing)
-    ∙ ap (λ (text : List ℕ). summary_text (tallied (meaning_of domain).operations (whole_lines [] text) first nothing)) is
-script_summed (Err e) bytes stands t domain seed size script is tally told = tt
+script_summed (Ok v) bytes stands t domain seed size script is tally state_reply = λ first standing.
+    state_reply ∙ ap summary_text (tally first standing)
+    ∙ ap (λ (text : List ℕ). summary_text (tally_output (meaning_of domain).operations (whole_lines [] text) first nothing)) is
+script_summed (Err e) bytes stands t domain seed size script is tally state_reply = tt
 
 -- what holds of whatever a server stands for holds of what it begins with
 pub from_opening : {A E : Type 0} (r : Result A E) (Holds : A → Served → Type 0) (stands : Served → Type 0) (first : Readings → Served) →
     ((readings : Readings) → stands (first readings)) → IfOk r (λ v. (s : Served) → stands s → Holds v s) → IfOk r (λ v. (readings : Readings) → Holds v (first readings))
-from_opening (Ok v) Holds stands first begins told = λ readings. told (first readings) (begins readings)
-from_opening (Err e) Holds stands first begins told = tt
+from_opening (Ok v) Holds stands first begins state_reply = λ readings. state_reply (first readings) (begins readings)
+from_opening (Err e) Holds stands first begins state_reply = tt

@@ -6,13 +6,13 @@ use Rattle.std.proofs.lemmas.Option.{cond_some}
 use Rattle.clap.specs.Walk.{Row, Text, first_of, is_empty}
 use Rattle.clap.specs.Simple.{subcommand_of}
 use Rattle.clap.specs.Faults.{fault_of}
-use Rattle.command_words.specs.declared.job.DomainName.{DomainName}
-use Rattle.command_words.specs.declared.job.Job.{Job}
-use Rattle.command_words.specs.declared.job.Job.TheVariants as job
-use Rattle.command_words.specs.declared.job.Settings.{Settings}
-use Rattle.command_words.specs.Line.{daig_app}
-use Rattle.command_words.specs.Values.{number_in, domain_of, single_of}
-use Rattle.command_words.specs.Jobs.{batch_in, both, cert_in, certificate_in, file_in, gen_in, gen_with, job_in, job_of, most_seed, serve_in, settings_in, value_in, verify_in, widening_in}
+use Rattle.serve_command.specs.declared.job.DomainName.{DomainName}
+use Rattle.serve_command.specs.declared.job.Job.{Job}
+use Rattle.serve_command.specs.declared.job.Job.TheVariants as job
+use Rattle.serve_command.specs.declared.job.AnalysisOptions.{AnalysisOptions}
+use Rattle.serve_command.specs.Line.{daig_app}
+use Rattle.serve_command.specs.Values.{number_in, domain_of, single_of}
+use Rattle.serve_command.specs.Jobs.{batch_in, both, cert_in, certificate_in, file_in, gen_in, gen_with, job_in, job_of, most_seed, serve_in, settings_in, value_in, verify_in, widening_in}
 
 then_some : {A B : Type 0} (f : A → Option B) (o : Option A) (b : B) → option_and_then f o ≡ Some b → (a : A) × (o ≡ Some a) × (f a ≡ Some b)
 then_some f (Some a) b is = (a, refl, is)
@@ -116,7 +116,7 @@ words_bounded words j is =
     command_bounded found.0 j found.2
 
 -- one result is remembered, or more
-pub memo_some : (words : List Text) (settings : Settings) (memo : ℕ) (file : List ℕ) → job_of words ≡ Some (job.Serve settings memo file) → 0 < memo
+pub memo_some : (words : List Text) (settings : AnalysisOptions) (memo : ℕ) (file : List ℕ) → job_of words ≡ Some (job.Serve settings memo file) → 0 < memo
 memo_some words settings memo file is =
     let some : 1 ≤ memo = words_bounded words (job.Serve settings memo file) is in omega (arith, some)
 

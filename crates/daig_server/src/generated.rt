@@ -1,26 +1,26 @@
 //! The generated script over a generated program, summed up.
 ghost use Rattle.std.specs.Prelude.{◌≡◌, ◌<◌, ◌+◌, ◌^◌, ℕ, [], ◌∷◌, suc, length, IfOk, OnOk};
 ghost use Rattle.std.specs.String.{string_bytes};
-ghost use Rattle.gen_summary.specs.Summary.{added, nothing, IsWithin};
-ghost use Rattle.script_loop.specs.Lines.{last_part, whole_lines};
-ghost use Rattle.line_answers.specs.Fine.{opening};
-ghost use Rattle.line_answers.specs.Lines.{Served, line_turn, server as machine};
-ghost use Rattle.line_answers.specs.Readings.{Readings};
-ghost use Rattle.server_jobs.specs.Domains.{meaning_of};
-ghost use Rattle.server_jobs.specs.Jobs.{engine_of};
-ghost use Rattle.server_jobs.specs.Output.{gen_bytes, served_after, tallied};
-ghost use Rattle.server_jobs.specs.Works.{IsNumbered};
+ghost use Rattle.gen_summary.specs.Summary.{tally_with, nothing, IsWithin};
+ghost use Rattle.serve_script.specs.Lines.{last_part, whole_lines};
+ghost use Rattle.serve_answers.specs.Fine.{opening};
+ghost use Rattle.serve_answers.specs.Lines.{Served, line_turn, server as machine};
+ghost use Rattle.serve_answers.specs.Readings.{Readings};
+ghost use Rattle.serve_output.specs.Domains.{meaning_of};
+ghost use Rattle.serve_output.specs.Jobs.{engine_of};
+ghost use Rattle.serve_output.specs.Output.{gen_bytes, served_after, tally_output};
+ghost use Rattle.serve_output.specs.Works.{IsNumbered};
 
 use crate::server::Server;
-use command_words::Settings;
-use gen_summary::Tally;
-use plain_values::Memory;
-use program_table::Table;
-use script_loop::Answerer;
-use server_jobs::{Drawn, Named};
+use base_counter::Steps;
+use base_values::Memory;
+use gen_summary::ReplyTally;
+use imp_table::Table;
+use serve_command::AnalysisOptions;
+use serve_output::{Drawn, Named};
+use serve_script::Answerer;
 use std::alloc::Global;
 use std::sync::ledger::Ledger;
-use step_counter::Steps;
 
 /// How many results of operations are remembered for a generated script.
 const MEMO: u32 = 1024;
@@ -30,7 +30,7 @@ fn tally_line<D: Named, L: Ledger>(
     alloc: Global,
     server: &mut Server<D>,
     line: &[u8],
-    tally: &mut Tally,
+    tally: &mut ReplyTally,
     steps: &mut Steps<L>,
 ) -> Result<(), Memory>
     requires lasts { (n : ℕ) × ⟦<Server<D> as Answerer>⟧.lasts server.old (suc n) }
@@ -38,7 +38,7 @@ fn tally_line<D: Named, L: Ledger>(
     ensures lasts { OnOk result ((n : ℕ) → ⟦<Server<D> as Answerer>⟧.lasts server.old (suc n) → ⟦<Server<D> as Answerer>⟧.lasts server.new n) }
     ensures within { OnOk result ((n : ℕ) → IsWithin n tally.old → IsWithin (n + 1) tally.new) }
     ensures next { OnOk result ((s : Served) → ⟦<Server<D> as Answerer>⟧.stands server.old s → ⟦<Server<D> as Answerer>⟧.stands server.new ((machine (meaning_of D.name).operations).next s line.now)) }
-    ensures added { OnOk result ((s : Served) → ⟦<Server<D> as Answerer>⟧.stands server.old s → tally.new ≡ added (line_turn s.readings (meaning_of D.name).operations line.now s.machine).reply tally.old) }
+    ensures added { OnOk result ((s : Served) → ⟦<Server<D> as Answerer>⟧.stands server.old s → tally.new ≡ tally_with (line_turn s.readings (meaning_of D.name).operations line.now s.machine).reply tally.old) }
 {
     let reply = server.answer(alloc, line, steps)?;
     tally.add(reply.as_slice(), server.cost());
@@ -52,7 +52,7 @@ fn tally_byte<D: Named, L: Ledger>(
     server: &mut Server<D>,
     line: &mut Vec<u8>,
     byte: u8,
-    tally: &mut Tally,
+    tally: &mut ReplyTally,
     steps: &mut Steps<L>,
 ) -> Result<(), Memory>
     requires lasts { (n : ℕ) × ⟦<Server<D> as Answerer>⟧.lasts server.old (suc n) }
@@ -61,7 +61,7 @@ fn tally_byte<D: Named, L: Ledger>(
     ensures lasts { OnOk result ((n : ℕ) → ⟦<Server<D> as Answerer>⟧.lasts server.old (suc n) → ⟦<Server<D> as Answerer>⟧.lasts server.new n) }
     ensures within { OnOk result ((n : ℕ) → IsWithin n tally.old → IsWithin (n + 1) tally.new) }
     ensures next { OnOk result ((s : Served) → ⟦<Server<D> as Answerer>⟧.stands server.old s → ⟦<Server<D> as Answerer>⟧.stands server.new (served_after (meaning_of D.name).operations (whole_lines line.old.items (byte ∷ [])) s)) }
-    ensures tally { OnOk result ((s : Served) → ⟦<Server<D> as Answerer>⟧.stands server.old s → tally.new ≡ tallied (meaning_of D.name).operations (whole_lines line.old.items (byte ∷ [])) s tally.old) }
+    ensures tally { OnOk result ((s : Served) → ⟦<Server<D> as Answerer>⟧.stands server.old s → tally.new ≡ tally_output (meaning_of D.name).operations (whole_lines line.old.items (byte ∷ [])) s tally.old) }
 {
     if byte == b'\n' {
         tally_line(alloc, server, line.as_slice(), tally, steps)?;
@@ -78,12 +78,12 @@ fn tally_lines<D: Named, L: Ledger>(
     server: &mut Server<D>,
     script: &[u8],
     steps: &mut Steps<L>,
-) -> Result<Tally, Memory>
+) -> Result<ReplyTally, Memory>
     requires lasts { ⟦<Server<D> as Answerer>⟧.lasts server.old (length script.now) }
     requires few { length script.now < 2 ^ 62 }
-    ensures tally { IfOk result (λ t. (s : Served) → ⟦<Server<D> as Answerer>⟧.stands server.old s → t ≡ tallied (meaning_of D.name).operations (whole_lines [] script.now) s nothing) }
+    ensures tally { IfOk result (λ t. (s : Served) → ⟦<Server<D> as Answerer>⟧.stands server.old s → t ≡ tally_output (meaning_of D.name).operations (whole_lines [] script.now) s nothing) }
 {
-    let mut tally = Tally::new();
+    let mut tally = ReplyTally::new();
     let mut line = Vec::new(alloc);
     for byte in script {
         tally_byte(alloc, server, &mut line, *byte, &mut tally, steps)?;
@@ -110,7 +110,7 @@ fn summed<D: Named, L: Ledger>(
 pub(crate) fn summary<D: Named, L: Ledger>(
     alloc: Global,
     domain: D,
-    settings: &Settings,
+    settings: &AnalysisOptions,
     table: Table,
     drawn: Drawn,
     steps: &mut Steps<L>,

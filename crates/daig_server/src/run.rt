@@ -3,36 +3,36 @@
 ghost use Rattle.std.specs.Prelude.{◌≡◌, ◌^◌, ◌<◌, ◌≤◌, ◌⊎◌, ℕ, List, length, Option, Some, None, Ok};
 ghost use Rattle.io_edge.specs.Outside.{Rose, Lacks};
 ghost use Rattle.imp_syntax.specs.Plain.{Procedure};
-ghost use Rattle.script_loop.specs.Replies.{ReadToEnd, ReadBytes};
-ghost use Rattle.line_answers.specs.Readings.{Readings};
-ghost use Rattle.server_jobs.specs.Sources.{source_of};
-ghost use Rattle.server_jobs.specs.Jobs.{AsksToGenerate, AsksToServe, Serves};
-ghost use Rattle.server_jobs.specs.Output.{file_output, generated_output, output, source_output, usage, IsProgram, LacksFile};
-ghost use Rattle.server_jobs.specs.Ends.{Fits, Wrote};
-ghost use Rattle.server_jobs.specs.Told.{asked, TellsFiles, TellsScript};
-ghost use Rattle.server_jobs.specs.Works.{Remembers};
+ghost use Rattle.serve_script.specs.Replies.{ReadToEnd, ReadBytes};
+ghost use Rattle.serve_answers.specs.Readings.{Readings};
+ghost use Rattle.serve_output.specs.Sources.{source_of};
+ghost use Rattle.serve_output.specs.Jobs.{AsksToGenerate, AsksToServe, Serves};
+ghost use Rattle.serve_output.specs.Output.{file_output, generated_output, output, source_output, usage, IsProgram, LacksFile};
+ghost use Rattle.serve_output.specs.Ends.{Fits, Wrote};
+ghost use Rattle.serve_output.specs.Told.{job_of_words, TellsFiles, TellsScript};
+ghost use Rattle.serve_output.specs.Works.{Remembers};
 
 use crate::work::do_work;
-use command_words::{DomainName, Job, Settings, WordsError, read_words};
-use generated_sources::sources_are_accepted;
+use base_counter::Steps;
+use gen_sources::sources_are_accepted;
+use imp_chains::Widening;
 use imp_parse::each_text_has_one_answer;
 use io_edge::{Failed, Files, LoadFault, Sink, Source};
-use line_answers::texts_are_read;
-use program_chains::Widening;
-use script_loop::write_all;
-use server_jobs::{
+use serve_answers::texts_are_read;
+use serve_command::{AnalysisOptions, DomainName, Job, WordsError, read_words};
+use serve_output::{
     CertTask, Drawn, MOST_SOURCE, SourceError, Status, Task, read_source, refuse_source,
     run_certificate,
 };
+use serve_script::write_all;
 use std::alloc::Global;
 use std::sync::ledger::Ledger;
-use step_counter::Steps;
 
 /// The line that is written where the words are not taken.
 const USAGE: &[u8] = b"usage: daig serve|batch|gen [OPTIONS] [FILE]\n";
 
 /// Refuses the words.
-#[tactic(auto, unfolding(server_jobs::specs::Output::usage))]
+#[tactic(auto, unfolding(serve_output::specs::Output::usage))]
 fn refuse_words<O: Sink>(out: &mut O) -> Status
     ensures status { (result ≡ Status.Words) ⊎ (result ≡ Status.Sink) }
     ensures fits { Fits result 2 }
@@ -50,7 +50,7 @@ fn refuse_words<O: Sink>(out: &mut O) -> Status
 fn run_source<I: Source, O: Sink, L: Ledger>(
     alloc: Global,
     task: Task,
-    settings: &Settings,
+    settings: &AnalysisOptions,
     source: &[u8],
     script: &mut I,
     out: &mut O,
@@ -81,7 +81,7 @@ fn run_source<I: Source, O: Sink, L: Ledger>(
 fn run_file<F: Files, I: Source, O: Sink, L: Ledger>(
     alloc: Global,
     task: Task,
-    settings: &Settings,
+    settings: &AnalysisOptions,
     name: &str,
     files: &mut F,
     script: &mut I,
@@ -135,7 +135,7 @@ fn run_generated<I: Source, O: Sink, L: Ledger>(
     let Ok(source) = daig_gen::source(alloc, drawn.seed, drawn.size) else {
         return Status::Memory;
     };
-    let settings = Settings {
+    let settings = AnalysisOptions {
         domain,
         widening: Widening {
             delay: 0,
@@ -164,21 +164,21 @@ pub(crate) fn run<F: Files, I: Source, O: Sink, L: Ledger>(
     out: &mut O,
     steps: &mut Steps<L>,
 ) -> Status
-    ensures words_taken { asked words.now ≡ None → (result ≡ Status.Words) ⊎ (result ≡ Status.Sink) ⊎ (result ≡ Status.Memory) }
-    ensures words_refused { result ≡ Status.Words → asked words.now ≡ None }
-    ensures fits { (readings : Readings) (folder : List ℕ → Option (List ℕ)) (text : List ℕ) → TellsFiles (asked words.now) (F.told files.old) folder
-        → Fits result (output readings (asked words.now) folder text).status }
-    ensures wrote { (readings : Readings) (folder : List ℕ → Option (List ℕ)) (text taken : List ℕ) → TellsFiles (asked words.now) (F.told files.old) folder
-        → TellsScript readings (asked words.now) folder (I.told script.old) text → O.told out.old ≡ Some taken
-        → Wrote result (output readings (asked words.now) folder text) text taken (I.told script.new) (O.told out.new) }
-    ensures ended { result ≡ Status.Done → AsksToServe (asked words.now) → (text : List ℕ) → I.told script.old ≡ Some text → ReadToEnd text (I.told script.new) }
-    ensures unread { (AsksToServe (asked words.now) → ⊥) → script.new ≡ script.old }
-    ensures long { result ≡ Status.LongScript → AsksToServe (asked words.now) × ((text : List ℕ) → I.told script.old ≡ Some text → ReadBytes (2 ^ 40) text (I.told script.new)) }
-    ensures script_failed { result ≡ Status.Script → AsksToServe (asked words.now) × Rose (I.faults script.old) (I.faults script.new) }
+    ensures words_taken { job_of_words words.now ≡ None → (result ≡ Status.Words) ⊎ (result ≡ Status.Sink) ⊎ (result ≡ Status.Memory) }
+    ensures words_refused { result ≡ Status.Words → job_of_words words.now ≡ None }
+    ensures fits { (readings : Readings) (folder : List ℕ → Option (List ℕ)) (text : List ℕ) → TellsFiles (job_of_words words.now) (F.told files.old) folder
+        → Fits result (output readings (job_of_words words.now) folder text).status }
+    ensures wrote { (readings : Readings) (folder : List ℕ → Option (List ℕ)) (text taken : List ℕ) → TellsFiles (job_of_words words.now) (F.told files.old) folder
+        → TellsScript readings (job_of_words words.now) folder (I.told script.old) text → O.told out.old ≡ Some taken
+        → Wrote result (output readings (job_of_words words.now) folder text) text taken (I.told script.new) (O.told out.new) }
+    ensures ended { result ≡ Status.Done → AsksToServe (job_of_words words.now) → (text : List ℕ) → I.told script.old ≡ Some text → ReadToEnd text (I.told script.new) }
+    ensures unread { (AsksToServe (job_of_words words.now) → ⊥) → script.new ≡ script.old }
+    ensures long { result ≡ Status.LongScript → AsksToServe (job_of_words words.now) × ((text : List ℕ) → I.told script.old ≡ Some text → ReadBytes (2 ^ 40) text (I.told script.new)) }
+    ensures script_failed { result ≡ Status.Script → AsksToServe (job_of_words words.now) × Rose (I.faults script.old) (I.faults script.new) }
     ensures sink_failed { result ≡ Status.Sink → Rose (O.faults out.old) (O.faults out.new) }
-    ensures generated { AsksToGenerate (asked words.now) → (result ≡ Status.Done) ⊎ ((result ≡ Status.Sink) ⊎ (result ≡ Status.Memory)) }
+    ensures generated { AsksToGenerate (job_of_words words.now) → (result ≡ Status.Done) ⊎ ((result ≡ Status.Sink) ⊎ (result ≡ Status.Memory)) }
     ensures quiet { (result ≡ Status.Files) ⊎ (result ≡ Status.LongFile) → O.told out.new ≡ O.told out.old }
-    ensures files_failed { result ≡ Status.Files → (Rose (F.faults files.old) (F.faults files.new)) ⊎ (LacksFile (F.told files.old) (asked words.now)) }
+    ensures files_failed { result ≡ Status.Files → (Rose (F.faults files.old) (F.faults files.new)) ⊎ (LacksFile (F.told files.old) (job_of_words words.now)) }
 {
     match read_words(alloc, words) {
         Ok(

@@ -1,22 +1,22 @@
-//! The server of one program, which answers each line as the machine `server` of `line_answers` does.
+//! The server of one program, which answers each line as the machine `server` of `serve_answers` does.
 ghost use Rattle.std.specs.Prelude.{◌≡◌, ◌<◌, ◌≤◌, ◌+◌, ◌^◌, IfOk};
-ghost use Rattle.session_machine.specs.Machine.{beginning, Machine};
+ghost use Rattle.daig_machine.specs.Machine.{first_machine, Machine};
 ghost use Rattle.daig_session.specs.Holds.{Holds, IsReady};
-ghost use Rattle.server_jobs.specs.Jobs.{engine_of};
-ghost use Rattle.line_answers.specs.Fine.{next_number};
-ghost use Rattle.server_jobs.specs.Works.{IsNumbered};
+ghost use Rattle.serve_output.specs.Jobs.{engine_of};
+ghost use Rattle.serve_answers.specs.Fine.{next_number};
+ghost use Rattle.serve_output.specs.Works.{IsNumbered};
 
-use command_words::Settings;
+use base_counter::Steps;
+use base_values::Memory;
 use daig_session::Session;
-use line_replies::long_line;
-use plain_values::Memory;
-use program_table::Table;
-use script_loop::Answerer;
-use server_jobs::Named;
-use session_lines::answer_line;
+use imp_table::Table;
+use serve_command::AnalysisOptions;
+use serve_output::Named;
+use serve_replies::long_line;
+use serve_script::Answerer;
+use serve_session::answer_line;
 use std::alloc::Global;
 use std::sync::ledger::Ledger;
-use step_counter::Steps;
 
 /// The server of one program: a session with it.
 #[derive(Drop)]
@@ -40,13 +40,13 @@ impl<D: Named> Server<D> {
     pub(crate) fn start(
         alloc: Global,
         domain: D,
-        settings: &Settings,
+        settings: &AnalysisOptions,
         memo: u32,
         table: Table,
     ) -> Result<Server<D>, Memory>
         requires memo { 0 < memo }
         requires numbered { IsNumbered table.program }
-        ensures begins { IfOk result (λ s. Holds (D.operations s.session.engine.domain) s.session.engine.store s.session.book (beginning table.program (engine_of settings.now) (next_number table.program))) }
+        ensures begins { IfOk result (λ s. Holds (D.operations s.session.engine.domain) s.session.engine.store s.session.book (first_machine table.program (engine_of settings.now) (next_number table.program))) }
         ensures ready { IfOk result (λ s. IsReady (D.operations s.session.engine.domain) s.session.engine.store s.session.book) }
         ensures first { IfOk result (λ s. s.session.book.tickets.next ≡ 1) }
     {
@@ -76,8 +76,8 @@ impl<D: Named> Server<D> {
 impl<D: Named> Answerer for Server<D> {
     ghost use Rattle.std.specs.Prelude.{◌≤◌, ◌+◌, ◌^◌};
     ghost use Rattle.daig_session.specs.Holds.{Holds, IsReady};
-    ghost use Rattle.line_answers.specs.Lines.{Served, server};
-    ghost use Rattle.server_jobs.specs.Domains.{meaning_of};
+    ghost use Rattle.serve_answers.specs.Lines.{Served, server};
+    ghost use Rattle.serve_output.specs.Domains.{meaning_of};
 
     ghost State = { Served };
 

@@ -1,29 +1,29 @@
 //! What is done for a program: the clauses of `run`, from a program on.
 ghost use Rattle.std.specs.Prelude.{◌≡◌, ◌<◌, ◌^◌, ◌⊎◌, ℕ, List, Option, Some};
 ghost use Rattle.io_edge.specs.Outside.{Rose};
-ghost use Rattle.script_loop.specs.Replies.{ReadToEnd, ReadBytes};
-ghost use Rattle.server_jobs.specs.Ends.{Fits, Wrote};
-ghost use Rattle.server_jobs.specs.Jobs.{engine_of, Serves};
-ghost use Rattle.server_jobs.specs.Output.{batch_bytes, gen_bytes, program_bytes, served_bytes};
-ghost use Rattle.line_answers.specs.Readings.{Readings};
-ghost use Rattle.line_answers.specs.Fine.{opening};
-ghost use Rattle.line_answers.specs.Lines.{Served};
-ghost use Rattle.server_jobs.specs.Works.{program_in, task_in, IsNumbered, Remembers};
+ghost use Rattle.serve_script.specs.Replies.{ReadToEnd, ReadBytes};
+ghost use Rattle.serve_output.specs.Ends.{Fits, Wrote};
+ghost use Rattle.serve_output.specs.Jobs.{engine_of, Serves};
+ghost use Rattle.serve_output.specs.Output.{batch_bytes, gen_bytes, program_bytes, served_bytes};
+ghost use Rattle.serve_answers.specs.Readings.{Readings};
+ghost use Rattle.serve_answers.specs.Fine.{opening};
+ghost use Rattle.serve_answers.specs.Lines.{Served};
+ghost use Rattle.serve_output.specs.Works.{program_in, task_in, IsNumbered, Remembers};
 
 use crate::generated::summary;
 use crate::server::Server;
-use command_words::{DomainName, Settings};
+use base_counter::Steps;
 use dom_interval::Interval;
 use dom_listseg::ListSeg;
 use dom_octagon::Octagon;
 use dom_product::Pair;
+use imp_table::{Checked, Table};
 use io_edge::{Failed, Sink, Source};
-use program_table::{Checked, Table};
-use script_loop::{Answerer, Stop, answer_script, write_all};
-use server_jobs::{Drawn, Named, Status, Work, listed};
+use serve_command::{AnalysisOptions, DomainName};
+use serve_output::{Drawn, Named, Status, Work, listed};
+use serve_script::{Answerer, Stop, answer_script, write_all};
 use std::alloc::Global;
 use std::sync::ledger::Ledger;
-use step_counter::Steps;
 
 /// Answers the script.
 fn serve_lines<D: Named, I: Source, O: Sink, L: Ledger>(
@@ -58,7 +58,7 @@ fn serve_lines<D: Named, I: Source, O: Sink, L: Ledger>(
 fn serve_program<D: Named, I: Source, O: Sink, L: Ledger>(
     alloc: Global,
     domain: D,
-    settings: &Settings,
+    settings: &AnalysisOptions,
     memo: u32,
     table: Table,
     script: &mut I,
@@ -88,7 +88,7 @@ fn serve_program<D: Named, I: Source, O: Sink, L: Ledger>(
 fn batch_program<D: Named, O: Sink, L: Ledger>(
     alloc: Global,
     domain: &D,
-    settings: &Settings,
+    settings: &AnalysisOptions,
     program: &Checked,
     out: &mut O,
     steps: &mut Steps<L>,
@@ -112,7 +112,7 @@ fn batch_program<D: Named, O: Sink, L: Ledger>(
 fn gen_program<D: Named, O: Sink, L: Ledger>(
     alloc: Global,
     domain: D,
-    settings: &Settings,
+    settings: &AnalysisOptions,
     table: Table,
     drawn: Drawn,
     out: &mut O,
@@ -138,7 +138,7 @@ fn gen_program<D: Named, O: Sink, L: Ledger>(
 fn work_by<D: Named, I: Source, O: Sink, L: Ledger>(
     alloc: Global,
     domain: D,
-    settings: &Settings,
+    settings: &AnalysisOptions,
     work: Work,
     script: &mut I,
     out: &mut O,
@@ -173,7 +173,7 @@ fn work_by<D: Named, I: Source, O: Sink, L: Ledger>(
 /// Does the work by the domain that the settings name.
 pub(crate) fn do_work<I: Source, O: Sink, L: Ledger>(
     alloc: Global,
-    settings: &Settings,
+    settings: &AnalysisOptions,
     work: Work,
     script: &mut I,
     out: &mut O,

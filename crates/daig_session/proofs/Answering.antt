@@ -10,9 +10,9 @@ use Rattle.daig_graph.specs.declared.value.Value.{Value}
 use Rattle.daig_query.specs.declared.store.Store.{Store}
 use Rattle.daig_query.specs.Answered.{Says}
 use Rattle.daig_query.specs.Filled.{Fills}
-use Rattle.session_machine.specs.Machine.{Machine, keeping}
-use Rattle.session_machine.specs.Turns.{IsBetween, answer_at, missing_at, targets_of}
-use Rattle.session_machine.specs.Claims.{FillingKeeps}
+use Rattle.daig_machine.specs.Machine.{Machine, keeping}
+use Rattle.daig_machine.specs.Turns.{IsBetween, answer_at, missing_at, targets_of}
+use Rattle.daig_machine.specs.Claims.{FillingKeeps}
 use Rattle.daig_session.specs.declared.book.Book.{Book}
 use Rattle.daig_session.specs.declared.error.QueryError.{QueryError}
 use Rattle.daig_session.specs.declared.error.QueryError.TheVariants.{Refused, Memory}

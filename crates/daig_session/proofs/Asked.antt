@@ -4,26 +4,26 @@ use Rattle.std.specs.Prelude.{nat_lt}
 use Rattle.imp_syntax.specs.declared.edit.Location.{Location}
 use Rattle.imp_slots.specs.Fits.{IsChecked}
 use Rattle.imp_slots.specs.Plain.{Routine}
-use Rattle.analysis_words.specs.declared.refusal.Refusal.{Refusal}
-use Rattle.analysis_words.specs.declared.refusal.Refusal.TheVariants.{LongString, NoChain}
+use Rattle.imp_words.specs.declared.refusal.QueryRefusal.{QueryRefusal}
+use Rattle.imp_words.specs.declared.refusal.QueryRefusal.TheVariants.{LongString, NoChain}
 use Rattle.domain_laws.specs.Operations.{Operations}
 use Rattle.batch_meaning.specs.Values as plain
 use Rattle.batch_meaning.specs.Values.{lift}
-use Rattle.batch_meaning.specs.Batch.{Engine, joined}
+use Rattle.batch_meaning.specs.Batch.{LoopOptions, joined}
 use Rattle.batch_meaning.specs.Answers.{Answer, Answers, Refuses, In, answer, answer_in, procedure_of, summed}
 use Rattle.cell_rows.specs.Cells.{Cell}
 use Rattle.cell_rows.specs.Targets.{Target, targets, value_of_target}
 use Rattle.cell_names.specs.Paths.{CellName}
-use Rattle.demand_laws.specs.Claims.{found_by}
-use Rattle.demand_laws.proofs.Demanded.{answer_at}
-use Rattle.named_cells.specs.Same.{same_name}
-use Rattle.named_cells.proofs.Same.{same_is}
+use Rattle.daig_demands.specs.Claims.{found_by}
+use Rattle.daig_demands.proofs.Demanded.{answer_at}
+use Rattle.cell_graph.specs.Same.{same_name}
+use Rattle.cell_graph.proofs.Same.{same_is}
 use Rattle.imp_check.specs.Slots.{routines_of}
-use Rattle.session_machine.specs.Machine.{Machine}
-use Rattle.session_machine.specs.Turns as turns
+use Rattle.daig_machine.specs.Machine.{Machine}
+use Rattle.daig_machine.specs.Turns as turns
 use Rattle.daig_session.specs.Going.{IsAnswered, IsAsked}
 
-module _ {S : Type 0} (dom : Operations S) (engine : Engine) (program : List Routine) (l : Location) (string : List ℕ) where
+module _ {S : Type 0} (dom : Operations S) (engine : LoopOptions) (program : List Routine) (l : Location) (string : List ℕ) where
   short_is : nat_lt 2 (length string) ≡ false → answer dom engine program l string ≡ answer_in dom engine program l string (procedure_of program l)
   short_is h = ap (λ (b : Bool). if b then Refuses LongString else answer_in dom engine program l string (procedure_of program l)) h
 
@@ -54,10 +54,10 @@ module _ {S : Type 0} (dom : Operations S) (engine : Engine) (program : List Rou
   pub asked_is : (ts : List Target) → (a : IsAsked program l string ts) → answer dom engine program l string ≡ answer_in dom engine program l string (In a.place)
   asked_is ts a = short_is a.short ∙ ap (answer_in dom engine program l string) a.there
 
-  answered_not : (a : Answer S) (r : Refusal) → IsAnswered a → a ≡ Refuses r → ⊥
+  answered_not : (a : Answer S) (r : QueryRefusal) → IsAnswered a → a ≡ Refuses r → ⊥
   answered_not a r i e = let q : Answers i.0 ≡ Refuses r = sym i.1 ∙ e in cc
 
-  pub not_refused : (ts : List Target) (r : Refusal) → IsChecked program → (a : IsAsked program l string ts) → answer_in dom engine program l string (In a.place) ≡ Refuses r → ⊥
+  pub not_refused : (ts : List Target) (r : QueryRefusal) → IsChecked program → (a : IsAsked program l string ts) → answer_in dom engine program l string (In a.place) ≡ Refuses r → ⊥
   not_refused ts r checked a e = answered_not (answer dom engine program l string) r (asked_answered ts checked a) (asked_is ts a ∙ e)
 
 -- the machine has the targets of the question

@@ -19,14 +19,14 @@ use Rattle.imp_check.specs.declared.entry.Which.TheVariants as which
 use Rattle.imp_check.proofs.RebuildLemmas.{Known, all_numbers, entry_numbers}
 use Rattle.imp_check.proofs.WalkLemmas.{all_known}
 use Rattle.call_contexts.proofs.LiteralLemmas.{effect_again}
-use Rattle.analysis_words.specs.declared.findings.Finding.{Finding}
-use Rattle.analysis_words.specs.declared.verdict.Verdict.{Verdict}
+use Rattle.imp_words.specs.declared.findings.Finding.{Finding}
+use Rattle.imp_words.specs.declared.verdict.Verdict.{Verdict}
 use Rattle.domain_laws.specs.Checks.{Check, check_of, kind_if, kind_in, kind_of}
-use Rattle.batch_meaning.specs.Report.{Checked, checked_in, checked_one, checked_statements}
+use Rattle.batch_meaning.specs.Report.{CheckedStatement, checked_in, checked_one, checked_statements}
 use Rattle.daig_session.specs.Reports.{checked_act, checked_among, checked_at, checked_by, checked_entry, checked_form, checked_stmt, HasCheck}
 
 -- those of some entries
-abbrev checked_entries : List Entry → List Checked
+abbrev checked_entries : List Entry → List CheckedStatement
 checked_entries [] = []
 checked_entries (e ∷ es) = checked_form e.number e.form ++ checked_entries es
 
@@ -137,16 +137,16 @@ is_of n (Does f) e k h = by (check_of f) refl h
     by None q h = absurd cc
     by (Some j) q h =
         let c : checked n f j ≡ checked n e k = same_head (checked n f j) (checked n e k) h in
-        let same : f ≡ e = ap (λ (z : Checked). z.effect) c in
+        let same : f ≡ e = ap (λ (z : CheckedStatement). z.effect) c in
         record {
           act = ap Does same;
-          check = ap check_of (sym same) ∙ (q ∙ ap (λ (z : Checked). Some z.check) c);
+          check = ap check_of (sym same) ∙ (q ∙ ap (λ (z : CheckedStatement). Some z.check) c);
         }
       where
-        checked : ℕ → Effect → Check → Checked
+        checked : ℕ → Effect → Check → CheckedStatement
         checked n e k = record { number = n; effect = e; check = k }
 
-        same_head : (c d : Checked) → c ∷ [] ≡ d ∷ [] → c ≡ d
+        same_head : (c d : CheckedStatement) → c ∷ [] ≡ d ∷ [] → c ≡ d
         same_head c d e = cc
 
 pub finding_is : (f : Finding) (n : ℕ) (a : Act) (e : Effect) (k : Check) (v : Verdict) → IsOf a e k → f.id ≡ n → kind_in a ≡ Some f.check → f.verdict ≡ v → f ≡ record { id = n; check = kind_of k; verdict = v }

@@ -7,15 +7,15 @@ use Rattle.std.proofs.lemmas.Bool.{or_left, or_right, or_cases, cases_eq as same
 use Rattle.domain_laws.specs.Operations.{Operations}
 use Rattle.cell_names.specs.Known.{IsOnce}
 use Rattle.cell_names.specs.Paths.{CellName}
-use Rattle.demand_order.specs.Order.{member}
-use Rattle.demand_order.specs.OrderLaws.{IsDistinct}
+use Rattle.daig_order.specs.Order.{member}
+use Rattle.daig_order.specs.OrderLaws.{IsDistinct}
 use Rattle.daig_graph.specs.Cells.{Filled}
 use Rattle.daig_graph.proofs.Maps.{get-remove-here, get-remove-other, insert-is}
 use Rattle.imp_flow.specs.Plans.{Plan}
-use Rattle.named_cells.specs.Same.{same_name}
-use Rattle.named_cells.specs.Named.{filled_at}
-use Rattle.named_cells.proofs.Same.{same_is}
-use Rattle.named_cells.proofs.Numbers.{filled_named, filled_number}
+use Rattle.cell_graph.specs.Same.{same_name}
+use Rattle.cell_graph.specs.Named.{filled_at}
+use Rattle.cell_graph.proofs.Same.{same_is}
+use Rattle.cell_graph.proofs.Numbers.{filled_named, filled_number}
 use Rattle.daig_query.specs.declared.held.Held.{Held}
 use Rattle.daig_query.specs.declared.store.Store.{Store}
 use Rattle.daig_query.specs.Kept.{kept}

@@ -6,13 +6,13 @@ use Rattle.domain_laws.specs.Operations.{Operations}
 use Rattle.batch_meaning.specs.Answers.{In, procedure_of}
 use Rattle.cell_rows.specs.Targets.{Target, targets}
 use Rattle.imp_flow.specs.Plans.{Plan}
-use Rattle.named_cells.specs.Same.{same_name}
+use Rattle.cell_graph.specs.Same.{same_name}
 use Rattle.daig_query.specs.declared.store.Store.{Store}
 use Rattle.daig_query.specs.declared.walk.Walk.{Walk}
 use Rattle.daig_query.specs.Answered.{AreFilled}
 use Rattle.why_slice.specs.Upstream.{upstream}
-use Rattle.session_machine.specs.Machine.{Machine}
-use Rattle.session_machine.specs.Turns.{answer_at, or_none, upstream_at, upstream_in}
+use Rattle.daig_machine.specs.Machine.{Machine}
+use Rattle.daig_machine.specs.Turns.{answer_at, or_none, upstream_at, upstream_in}
 use Rattle.daig_session.specs.declared.book.Book.{Book}
 use Rattle.daig_session.specs.Books.{flow_in, machine_of}
 use Rattle.daig_session.specs.Going.{IsAnswered, IsAsked}

@@ -7,19 +7,19 @@ use Rattle.imp_check.specs.Slots.{routines_of}
 use Rattle.domain_laws.specs.Operations.{Operations}
 use Rattle.cell_names.specs.Paths.{CellName}
 use Rattle.cell_rows.specs.Targets.{Target, demanded}
-use Rattle.demand_order.specs.Order.{member, fill_all}
-use Rattle.demand_order.proofs.OrderLemmas.{member-append}
-use Rattle.demand_laws.specs.Claims.{found_by, names_of}
-use Rattle.named_cells.specs.Same.{same_name}
+use Rattle.daig_order.specs.Order.{member, fill_all}
+use Rattle.daig_order.proofs.OrderLemmas.{member-append}
+use Rattle.daig_demands.specs.Claims.{found_by, names_of}
+use Rattle.cell_graph.specs.Same.{same_name}
 use Rattle.daig_query.specs.declared.store.Store.{Store}
 use Rattle.daig_query.specs.Kept.{kept}
 use Rattle.daig_query.specs.Right.{found}
 use Rattle.daig_query.specs.Walked.{AreTargets}
 use Rattle.daig_query.specs.Filled as engine
 use Rattle.daig_query.specs.Filled.{Fills}
-use Rattle.session_machine.specs.Machine.{Machine, keeping}
-use Rattle.session_machine.specs.Turns.{missing, missing_at, targets_of, asked, added}
-use Rattle.session_machine.specs.Claims.{AreKept, FillingKeeps, KeepsCells}
+use Rattle.daig_machine.specs.Machine.{Machine, keeping}
+use Rattle.daig_machine.specs.Turns.{missing_names, missing_at, targets_of, after_question, with_names}
+use Rattle.daig_machine.specs.Claims.{AreKept, FillingKeeps, KeepsCells}
 use Rattle.daig_session.specs.declared.book.Book.{Book}
 use Rattle.daig_session.specs.Books.{flow_in, machine_of}
 use Rattle.daig_session.specs.Going.{IsAsked}
@@ -54,12 +54,12 @@ module _ {S : Type 0} (dom : Operations S) (book : Book) (store new : Store S) w
   asks_targets l string ts a = record { location = l; string = string; place = a.place; are = a.are }
 
   -- what is missing for the engine is missing for the machine
-  missing_is : (xs : List CellName) (ts : List Target) → ((x : CellName) → kept store x ≡ member same_name xs x) → engine.missing dom (flow_in book) ts store ≡ missing dom ts (machine_of book xs)
+  missing_is : (xs : List CellName) (ts : List Target) → ((x : CellName) → kept store x ≡ member same_name xs x) → engine.missing dom (flow_in book) ts store ≡ missing_names dom ts (machine_of book xs)
   unfolding found
   missing_is xs ts k = λ i. fill_all (names_of dom book.setting.engine (routines_of book.history.now) same_name) (λ x. k x i) [] (demanded (found_by dom book.setting.engine (routines_of book.history.now) same_name) ts)
 
   pub missing_here : (m : Machine) (l : Location) (string : List ℕ) (ts : List Target) → Holds dom store book m → IsAsked (flow_in book).program l string ts → engine.missing dom (flow_in book) ts store ≡ missing_at dom l string m
-  missing_here m l string ts h a = subst (λ z. engine.missing dom (flow_in book) ts store ≡ missing_at dom l string z) h.is (missing_is m.kept ts h.same ∙ ap (λ us. missing dom us (machine_of book m.kept)) (sym (targets_are (machine_of book m.kept) l string ts a)))
+  missing_here m l string ts h a = subst (λ z. engine.missing dom (flow_in book) ts store ≡ missing_at dom l string z) h.is (missing_is m.kept ts h.same ∙ ap (λ us. missing_names dom us (machine_of book m.kept)) (sym (targets_are (machine_of book m.kept) l string ts a)))
 
   pub as_many : (m : Machine) (l : Location) (string : List ℕ) (ts : List Target) → Holds dom store book m → IsAsked (flow_in book).program l string ts → length ts ≡ length (targets_of m l string)
   as_many m l string ts h a = subst (λ z. length ts ≡ length (targets_of z l string)) h.is (ap length (sym (targets_are (machine_of book m.kept) l string ts a)))
@@ -80,13 +80,13 @@ module _ {S : Type 0} (dom : Operations S) (book : Book) (store new : Store S) w
 
     gains_of : (xs : List CellName) → ((x : CellName) → kept store x ≡ member same_name xs x) → AreKept dom book.setting.engine (routines_of book.history.now) xs → Gains (machine_of book xs)
     gains_of xs k are =
-        let ms = missing dom ts (machine_of book xs) in
+        let ms = missing_names dom ts (machine_of book xs) in
         let e : ts ≡ targets_of (machine_of book xs) l string = sym (targets_are (machine_of book xs) l string ts a) in
         let is : (x : CellName) → kept new x ≡ member same_name (xs ++ take count ms) x =
         λ x. f.adds x ∙ (ap (λ b. b || member same_name (take count (engine.missing dom (flow_in book) ts store)) x) (k x) ∙ (ap (λ ys. member same_name xs x || member same_name (take count ys) x) (missing_is xs ts k) ∙ sym (member-append same_name xs (take count ms) x))) in
         record {
-          same = λ x. subst (λ us. kept new x ≡ member same_name (xs ++ take count (missing dom us (machine_of book xs))) x) e (is x);
-          cells = subst (λ us. AreKept dom book.setting.engine (routines_of book.history.now) (xs ++ take count (missing dom us (machine_of book xs)))) e (law (machine_of book xs) a.place l string ts count checked a.are are);
+          same = λ x. subst (λ us. kept new x ≡ member same_name (xs ++ take count (missing_names dom us (machine_of book xs))) x) e (is x);
+          cells = subst (λ us. AreKept dom book.setting.engine (routines_of book.history.now) (xs ++ take count (missing_names dom us (machine_of book xs)))) e (law (machine_of book xs) a.place l string ts count checked a.are are);
         }
 
     pub gains : (m : Machine) → Holds dom store book m → Gains m
@@ -103,7 +103,7 @@ module _ {S : Type 0} (dom : Operations S) (book : Book) (store new : Store S) w
         }
 
     -- with the same cost
-    pub added_holds : (m : Machine) → Holds dom store book m → Holds dom new book (added (take count (missing_at dom l string m)) m)
+    pub added_holds : (m : Machine) → Holds dom store book m → Holds dom new book (with_names (take count (missing_at dom l string m)) m)
     added_holds m h =
         let g = gains m h in
         record {
@@ -112,7 +112,7 @@ module _ {S : Type 0} (dom : Operations S) (book : Book) (store new : Store S) w
           cells = g.cells;
         }
 
-    pub asked_holds : (m : Machine) (cost : ℕ) → Holds dom store book m → cost ≡ length (missing_at dom l string m) → count ≡ length (missing_at dom l string m) → Holds dom new (record book { cost = cost }) (asked dom l string m)
+    pub asked_holds : (m : Machine) (cost : ℕ) → Holds dom store book m → cost ≡ length (missing_at dom l string m) → count ≡ length (missing_at dom l string m) → Holds dom new (record book { cost = cost }) (after_question dom l string m)
     asked_holds m cost h e n =
         let ms = missing_at dom l string m in
         subst (λ k. Holds dom new (record book { cost = cost }) (keeping (m.kept ++ ms) k m)) e (

@@ -4,36 +4,36 @@ use Rattle.imp_syntax.specs.Plain.{Procedure}
 use Rattle.imp_syntax.specs.declared.edit.Edit.{Edit}
 use Rattle.imp_check.specs.Fine.{IsFine}
 use Rattle.imp_check.specs.Slots.{routines_of}
-use Rattle.program_table.specs.Changes.{AreWithin, Makes}
-use Rattle.program_table.specs.declared.change.Change.{Change}
-use Rattle.program_table.specs.declared.change.Put.{Put}
+use Rattle.imp_table.specs.Changes.{AreWithin, Makes}
+use Rattle.imp_table.specs.declared.change.Change.{Change}
+use Rattle.imp_table.specs.declared.change.Put.{Put}
 use Rattle.imp_edit.specs.Edited.{edited, next_after}
 use Rattle.domain_laws.specs.Operations.{Operations}
-use Rattle.batch_meaning.specs.Batch.{Engine}
+use Rattle.batch_meaning.specs.Batch.{LoopOptions}
 use Rattle.call_contexts.specs.Settings.{Setting}
 use Rattle.cell_names.specs.Paths.{CellName}
-use Rattle.demand_order.specs.Order.{member}
-use Rattle.kept_set.specs.Touched as touched
-use Rattle.kept_set.specs.Touched.{IsKept}
-use Rattle.kept_after.specs.After.{kept_after}
-use Rattle.named_cells.specs.Same.{same_name}
-use Rattle.named_cells.specs.Holds.{HoldsCells}
-use Rattle.named_cells.specs.Named as named
-use Rattle.edit_history.specs.After.{after, Leads, LeadsOn}
+use Rattle.daig_order.specs.Order.{member}
+use Rattle.cell_kept_set.specs.Touched as touched
+use Rattle.cell_kept_set.specs.Touched.{IsKept}
+use Rattle.cell_kept_set.specs.KeptTest.{stays_kept}
+use Rattle.cell_graph.specs.Same.{same_name}
+use Rattle.cell_graph.specs.Holds.{HoldsCells}
+use Rattle.cell_graph.specs.Named as named
+use Rattle.edit_history.specs.After.{changed_program, Leads, LeadsOn}
 use Rattle.edit_history.proofs.AfterLemmas.{after_is}
-use Rattle.edits_keep_cells.specs.Claims.{AreOneApart, IsEdited, flow_of}
-use Rattle.edits_keep_cells.proofs.Apart.{leave_kept}
+use Rattle.edit_keeps.specs.Apart.{AreOneApart, IsEdited, flow_of}
+use Rattle.edit_keeps.proofs.LeaveKept.{leave_kept}
 use Rattle.cell_removal.specs.Removal.{without, IsOrder}
 use Rattle.daig_query.specs.declared.store.Store.{Store}
 use Rattle.daig_query.specs.Claims.{Lessens}
 use Rattle.daig_query.specs.Kept.{kept}
 use Rattle.daig_query.specs.Right.{found, IsRight}
 use Rattle.daig_query.proofs.Holding.{right_holds, rest_is_right}
-use Rattle.open_tickets.specs.Tickets.{ticket}
-use Rattle.session_machine.specs.Machine.{Machine}
-use Rattle.session_machine.specs.Turns.{back_to, committed, moved, on_to, redone, undone}
-use Rattle.session_machine.specs.Claims.{AreKept, KeepsCells}
-use Rattle.session_machine.proofs.Moving.{left_is, move_keeps}
+use Rattle.daig_tickets.specs.Tickets.{ticket}
+use Rattle.daig_machine.specs.Machine.{Machine}
+use Rattle.daig_machine.specs.Turns.{back_to, after_edit, with_program, on_to, redone, undone}
+use Rattle.daig_machine.specs.Claims.{AreKept, KeepsCells}
+use Rattle.daig_machine.proofs.Moving.{left_is, move_keeps}
 use Rattle.daig_session.specs.declared.book.Book.{Book}
 use Rattle.daig_session.specs.declared.edits.Planned.{Planned}
 use Rattle.daig_session.specs.declared.moving.Moving.{Moving}
@@ -67,17 +67,17 @@ leads_first room ps c (qs ∷ more) h = leads_to room ps c qs h.makes h.fine h.w
 
 module _ {S : Type 0} (dom : Operations S) where
   -- Cells that are planned are taken away.
-  pub leaves : (e : Engine) (old new : List Procedure) (before after : Store S) (plan : List ℕ) → AreOneApart old new → IsRight dom (flow_of e old) before → Empties (flow_of e old) (flow_of e new) before plan → Lessens before after → after.graph.cells ≡ without before.graph.cells plan → Leaves dom (flow_of e old) (flow_of e new) before after
+  pub leaves : (e : LoopOptions) (old new : List Procedure) (before changed_program : Store S) (plan : List ℕ) → AreOneApart old new → IsRight dom (flow_of e old) before → Empties (flow_of e old) (flow_of e new) before plan → Lessens before changed_program → changed_program.graph.cells ≡ without before.graph.cells plan → Leaves dom (flow_of e old) (flow_of e new) before changed_program
   unfolding found
-  leaves e old new before after plan apart right empties less gone =
+  leaves e old new before changed_program plan apart right empties less gone =
       let names = before.names.names in
       let l = leave_kept dom e old new names before.graph.cells empties.stmts plan apart (right_holds dom (flow_of e old) before right) empties.changed empties.removes in
-      let same_names : after.names.names ≡ names = ap (λ k. k.names) less.names in
-      let kept_is : (x : CellName) → kept after x ≡ named.kept (without before.graph.cells plan) names x = λ x i. named.kept (gone i) (same_names i) x in
+      let same_names : changed_program.names.names ≡ names = ap (λ k. k.names) less.names in
+      let kept_is : (x : CellName) → kept changed_program x ≡ named.kept (without before.graph.cells plan) names x = λ x i. named.kept (gone i) (same_names i) x in
       record {
         right =
-            rest_is_right dom (flow_of e old) (flow_of e new) before after right less
-            (subst (λ cs. HoldsCells dom (flow_of e new) after.names.names cs) (sym gone) (subst (λ ns. HoldsCells dom (flow_of e new) ns (without before.graph.cells plan)) (sym same_names) l.holds))
+            rest_is_right dom (flow_of e old) (flow_of e new) before changed_program right less
+            (subst (λ cs. HoldsCells dom (flow_of e new) changed_program.names.names cs) (sym gone) (subst (λ ns. HoldsCells dom (flow_of e new) ns (without before.graph.cells plan)) (sym same_names) l.holds))
             (λ x t. l.found x (sym (kept_is x) ∙ t));
         names = λ x. (λ t. (l.kept x).0 (sym (kept_is x) ∙ t), λ k. kept_is x ∙ (l.kept x).1 k);
       }
@@ -93,12 +93,12 @@ module _ {S : Type 0} (dom : Operations S) where
       waiting = subst (AreWaiting dom (flow_in new) new_store) (sym t.anew_all) (waiting_anew dom (flow_in old) (flow_in new) store new_store old.tickets.open_ones.items r.waiting);
     }
 
-    moved_of : (xs : List CellName) → ((x : CellName) → kept store x ≡ member same_name xs x) → AreKept dom old.setting.engine (routines_of old.history.now) xs → Holds dom new_store new (moved dom program past future next (machine_of old xs))
+    moved_of : (xs : List CellName) → ((x : CellName) → kept store x ≡ member same_name xs x) → AreKept dom old.setting.engine (routines_of old.history.now) xs → Holds dom new_store new (with_program dom program past future next (machine_of old xs))
     moved_of xs k are =
         let edit : touched.Edit = record { engine = old.setting.engine; old = routines_of old.history.now; new = routines_of program } in
         let fun : kept store ≡ member same_name xs = λ i x. k x i in
         let tickets_are = ap (map ticket) t.anew_all ∙ tickets_anew old.tickets.open_ones.items in
-        let ys = filter (kept_after dom edit same_name (member same_name xs)) xs in
+        let ys = filter (stays_kept dom edit same_name (member same_name xs)) xs in
         record {
           is = λ i. record { program = t.now i; engine = (t.set i).engine; next = t.next_is i; tickets = tickets_are i; next_ticket = t.next_ticket i; kept = ys; cost = t.cost i; past = t.past_is i; future = t.future_is i };
           same = λ x. both_ways (kept new_store x) (member same_name ys x)
@@ -107,8 +107,8 @@ module _ {S : Type 0} (dom : Operations S) where
           cells = move_keeps dom edit r.order.fine.fit fine.fit xs are;
         }
 
-    pub moved_holds : (m : Machine) → Holds dom store old m → Holds dom new_store new (moved dom program past future next m)
-    moved_holds m h = subst (λ z. Holds dom new_store new (moved dom program past future next z)) h.is (moved_of m.kept h.same (subst (KeepsCells dom) (sym h.is) h.cells))
+    pub moved_holds : (m : Machine) → Holds dom store old m → Holds dom new_store new (with_program dom program past future next m)
+    moved_holds m h = subst (λ z. Holds dom new_store new (with_program dom program past future next z)) h.is (moved_of m.kept h.same (subst (KeepsCells dom) (sym h.is) h.cells))
 
   -- An edit is planned.
   module _ (store : Store S) (old : Book) (p : Planned) (ed : Edit) (r : IsReady dom store old) (pl : IsPlanned store old ed p) where
@@ -119,7 +119,7 @@ module _ {S : Type 0} (dom : Operations S) where
     edit_apart = record { edit = ed; next = old.next; fine = r.order.fine; after = edit_fine; below = r.order.below; continues = pl.continues; makes = refl }
 
   -- It is made.
-  module _ (store new_store : Store S) (old new : Book) (p : Planned) (ed : Edit) (r : IsReady dom store old) (pl : IsPlanned store old ed p) (t : IsTurned old (after old.history.now p.edited.change) (take 64 (old.history.now ∷ old.history.past)) [] p.edited.next new) (leave : Leaves dom (flow_of old.setting.engine old.history.now) (flow_of old.setting.engine (edited ed old.history.now)) store new_store) where
+  module _ (store new_store : Store S) (old new : Book) (p : Planned) (ed : Edit) (r : IsReady dom store old) (pl : IsPlanned store old ed p) (t : IsTurned old (changed_program old.history.now p.edited.change) (take 64 (old.history.now ∷ old.history.past)) [] p.edited.next new) (leave : Leaves dom (flow_of old.setting.engine old.history.now) (flow_of old.setting.engine (edited ed old.history.now)) store new_store) where
     turned : IsTurned old (edited ed old.history.now) (take 64 (old.history.now ∷ old.history.past)) [] p.edited.next new
     turned = subst (λ (q : List Procedure). IsTurned old q (take 64 (old.history.now ∷ old.history.past)) [] p.edited.next new) pl.makes t
 
@@ -135,11 +135,11 @@ module _ {S : Type 0} (dom : Operations S) where
         (behind_take 64 p.edited.next (edited ed old.history.now) (old.history.now ∷ old.history.past) (edit_apart store old p ed r pl, below_more old.next p.edited.next old.history.now less r.order.below, behind_more old.next p.edited.next less old.history.now old.history.past r.order.behind))
         tt
 
-    pub edit_holds : (m : Machine) → Holds dom store old m → Holds dom new_store new (committed dom ed m)
+    pub edit_holds : (m : Machine) → Holds dom store old m → Holds dom new_store new (after_edit dom ed m)
     edit_holds m h =
         subst (Holds dom new_store new) (
-        ap (λ n. moved dom (edited ed old.history.now) (take 64 (old.history.now ∷ old.history.past)) [] n m) pl.next
-        ∙ ap (λ (z : Machine). moved dom (edited ed z.program) (take 64 (z.program ∷ z.past)) [] (next_after ed z.next) m) h.is
+        ap (λ n. with_program dom (edited ed old.history.now) (take 64 (old.history.now ∷ old.history.past)) [] n m) pl.next
+        ∙ ap (λ (z : Machine). with_program dom (edited ed z.program) (take 64 (z.program ∷ z.past)) [] (next_after ed z.next) m) h.is
         ) (moved_holds store new_store old new (edited ed old.history.now) (take 64 (old.history.now ∷ old.history.past)) [] p.edited.next r turned leave (edit_fine store old p ed r pl) m h)
 
   -- The program behind is the present one.
@@ -160,7 +160,7 @@ module _ {S : Type 0} (dom : Operations S) where
       undo_holds m h =
           let b = behind_is in
           subst (Holds dom new_store new) (
-          ap (λ (z : Machine). moved dom new.history.now new.history.past (z.program ∷ z.future) z.next m) h.is
+          ap (λ (z : Machine). with_program dom new.history.now new.history.past (z.program ∷ z.future) z.next m) h.is
           ∙ ap (λ side. back_to dom side m) (past_is ∙ ap (λ (z : Machine). z.past) h.is)
           ) (moved_holds store new_store old new new.history.now new.history.past (old.history.now ∷ old.history.future) old.next r t leave b.0.fine m h)
 
@@ -182,7 +182,7 @@ module _ {S : Type 0} (dom : Operations S) where
       redo_holds m h =
           let a = ahead_is in
           subst (Holds dom new_store new) (
-          ap (λ (z : Machine). moved dom new.history.now (z.program ∷ z.past) new.history.future z.next m) h.is
+          ap (λ (z : Machine). with_program dom new.history.now (z.program ∷ z.past) new.history.future z.next m) h.is
           ∙ ap (λ side. on_to dom side m) (future_is ∙ ap (λ (z : Machine). z.future) h.is)
           ) (moved_holds store new_store old new new.history.now (old.history.now ∷ old.history.past) new.history.future old.next r t leave a.0.after m h)
 
@@ -201,25 +201,25 @@ module _ (ed : Edit) (room later : ℕ) (now t : List Procedure) (change : Chang
   pub plan_leads : Leads room now change
   plan_leads = leads_to room now change (edited ed now) makes_now fine_now (within_more later room change.entries.items more within)
 
-  pub plan_after : after now change ≡ edited ed now
+  pub plan_after : changed_program now change ≡ edited ed now
   plan_after = after_is now change (edited ed now) makes_now fine_now
 
 -- The nearest change leads to a move to the nearest program.
-pub moving_first : {S : Type 0} (store : Store S) (e : Engine) (room : ℕ) (now : List Procedure) (c : Change) (side : List (List Procedure)) (m : Moving) → LeadsOn room now c side → IsMoving store e now (after now c) m → IsMovingTo store e now side m
+pub moving_first : {S : Type 0} (store : Store S) (e : LoopOptions) (room : ℕ) (now : List Procedure) (c : Change) (side : List (List Procedure)) (m : Moving) → LeadsOn room now c side → IsMoving store e now (changed_program now c) m → IsMovingTo store e now side m
 moving_first store e room now c [] m h i = absurd h
 moving_first store e room now c (qs ∷ more) m h i = subst (λ (z : List Procedure). IsMoving store e now z m) (after_is now c qs h.makes h.fine) i
 
 -- There is one.
-pub moving_some : {S : Type 0} (store : Store S) (e : Engine) (old : List Procedure) (side : List (List Procedure)) (m : Moving) → IsMovingTo store e old side m → 0 < length side
+pub moving_some : {S : Type 0} (store : Store S) (e : LoopOptions) (old : List Procedure) (side : List (List Procedure)) (m : Moving) → IsMovingTo store e old side m → 0 < length side
 moving_some store e old [] m h = absurd h
 moving_some store e old (p ∷ ps) m h = omega arith
 
-pub moving_order : {S : Type 0} (store : Store S) (e : Engine) (old : List Procedure) (side : List (List Procedure)) (m : Moving) → IsMovingTo store e old side m → IsOrder store.graph.cells m.plan
+pub moving_order : {S : Type 0} (store : Store S) (e : LoopOptions) (old : List Procedure) (side : List (List Procedure)) (m : Moving) → IsMovingTo store e old side m → IsOrder store.graph.cells m.plan
 moving_order store e old [] m h = absurd h
 moving_order store e old (p ∷ ps) m h = h.empties.removes.order
 
 -- a move to the first of some programs
-pub first_move : {S : Type 0} (store : Store S) (e : Engine) (old p : List Procedure) (ps side : List (List Procedure)) (m : Moving) → p ∷ ps ≡ side → IsMovingTo store e old side m → IsMoving store e old p m
+pub first_move : {S : Type 0} (store : Store S) (e : LoopOptions) (old p : List Procedure) (ps side : List (List Procedure)) (m : Moving) → p ∷ ps ≡ side → IsMovingTo store e old side m → IsMoving store e old p m
 first_move store e old p ps side m is h = subst (λ z. IsMovingTo store e old z m) (sym is) h
 
 -- Where there is no move, the machine stands as it did.

@@ -4,15 +4,15 @@ use Rattle.imp_syntax.specs.Plain.{Procedure}
 use Rattle.imp_slots.specs.Plain.{Routine}
 use Rattle.imp_check.specs.Fine.{IsFine}
 use Rattle.imp_check.specs.Slots.{routines_of}
-use Rattle.batch_meaning.specs.Batch.{Engine}
+use Rattle.batch_meaning.specs.Batch.{LoopOptions}
 use Rattle.call_contexts.specs.Settings.{Setting, setting_of}
-use Rattle.open_tickets.specs.Tickets.{number, AreOpen}
+use Rattle.daig_tickets.specs.Tickets.{number, AreOpen}
 use Rattle.daig_session.specs.declared.book.Book.{Book}
 use Rattle.daig_session.specs.Books.{AreBelow, AreBehind, AreAhead, IsInOrder, IsSame, IsTurned}
 use Rattle.daig_session.proofs.TicketLemmas.{still_open, numbers_anew}
 
-pub set_again : (s : Setting) (e : Engine) (rs : List Routine) → s ≡ setting_of e rs → s ≡ setting_of s.engine rs
-set_again s e rs h = h ∙ ap (λ (x : Engine). setting_of x rs) (sym (ap (λ (z : Setting). z.engine) h))
+pub set_again : (s : Setting) (e : LoopOptions) (rs : List Routine) → s ≡ setting_of e rs → s ≡ setting_of s.engine rs
+set_again s e rs h = h ∙ ap (λ (x : LoopOptions). setting_of x rs) (sym (ap (λ (z : Setting). z.engine) h))
 
 pub below_more : (n m : ℕ) (program : List Procedure) → n ≤ m → AreBelow n program → AreBelow m program
 below_more n m program h b = λ k d l. (let q = b k d l in omega arith)

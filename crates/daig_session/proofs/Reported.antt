@@ -7,25 +7,25 @@ use Rattle.imp_syntax.specs.declared.edit.Location.TheVariants.{Before}
 use Rattle.imp_slots.specs.Fits.{IsChecked}
 use Rattle.imp_slots.specs.Plain.{Effect, Routine}
 use Rattle.imp_check.specs.Slots.{routines_of}
-use Rattle.analysis_words.specs.declared.refusal.Refusal.{Refusal}
+use Rattle.imp_words.specs.declared.refusal.QueryRefusal.{QueryRefusal}
 use Rattle.domain_laws.specs.Checks.{Check}
 use Rattle.domain_laws.specs.Operations.{Operations}
 use Rattle.batch_meaning.specs.Answers.{Answers, Found, In, Misses, Refuses, procedure_of}
-use Rattle.batch_meaning.specs.Report.{Checked, checked_one}
+use Rattle.batch_meaning.specs.Report.{CheckedStatement, checked_one}
 use Rattle.cell_names.specs.Paths.{CellName}
 use Rattle.cell_rows.specs.Targets.{Target, demanded, targets}
-use Rattle.demand_order.specs.InTurn.{missing_in_turn}
-use Rattle.demand_order.specs.Order.{System, fill_all, member, seen}
-use Rattle.demand_order.proofs.OrderLemmas.{member-append}
-use Rattle.demand_laws.specs.Claims.{names_of}
-use Rattle.demand_laws.specs.Reports as reports
-use Rattle.demand_laws.specs.Reports.{check_targets}
-use Rattle.named_cells.specs.Same.{same_name}
+use Rattle.daig_order.specs.InTurn.{missing_in_turn}
+use Rattle.daig_order.specs.Order.{System, fill_all, member, seen}
+use Rattle.daig_order.proofs.OrderLemmas.{member-append}
+use Rattle.daig_demands.specs.Claims.{names_of}
+use Rattle.daig_demands.specs.Reports as reports
+use Rattle.daig_demands.specs.Reports.{check_targets}
+use Rattle.cell_graph.specs.Same.{same_name}
 use Rattle.daig_graph.specs.declared.value.Value.{Value}
 use Rattle.daig_query.specs.declared.store.Store.{Store}
-use Rattle.session_machine.specs.Machine.{Machine, keeping}
-use Rattle.session_machine.specs.Turns as turns
-use Rattle.session_machine.specs.Turns.{IsBetween, answer_at, asked, found, is_kept, missing_at, targets_of}
+use Rattle.daig_machine.specs.Machine.{Machine, keeping}
+use Rattle.daig_machine.specs.Turns as turns
+use Rattle.daig_machine.specs.Turns.{IsBetween, answer_at, after_question, cell_value, is_kept, missing_at, targets_of}
 use Rattle.daig_session.specs.declared.book.Book.{Book}
 use Rattle.daig_session.specs.declared.error.QueryError.{QueryError}
 use Rattle.daig_session.specs.declared.error.QueryError.TheVariants as query
@@ -61,19 +61,19 @@ module _ {T : Type 0} (s : System T) where
       ∙ sym (append_assoc first more (missing_in_turn s (seen s then more) yss))
       ∙ ap (λ k. (first ++ more) ++ missing_in_turn s k yss) (seen_both kept first more)
 
-pub chains_both : (program : List Routine) (cs ds : List Checked) → chain_count program (cs ++ ds) ≡ chain_count program cs + chain_count program ds
+pub chains_both : (program : List Routine) (cs ds : List CheckedStatement) → chain_count program (cs ++ ds) ≡ chain_count program cs + chain_count program ds
 chains_both program [] ds = omega arith
 chains_both program (c ∷ cs) ds = let e = chains_both program cs ds in omega arith
 
 module _ {S : Type 0} (dom : Operations S) (m : Machine) where
-  abbrev demands : Checked → List CellName
-  demands c = demanded (found dom m) (check_targets (routines_of m.program) c)
+  abbrev demands : CheckedStatement → List CellName
+  demands c = demanded (cell_value dom m) (check_targets (routines_of m.program) c)
 
   -- the machine behind some of them
-  abbrev pub behind : List Checked → (cost : ℕ) → Machine
+  abbrev pub behind : List CheckedStatement → (cost : ℕ) → Machine
   behind cs cost = keeping (m.kept ++ missing_of dom m cs) cost m
 
-  missing_both : (cost : ℕ) (cs ds : List Checked) → missing_of dom m (cs ++ ds) ≡ missing_of dom m cs ++ missing_of dom (behind cs cost) ds
+  missing_both : (cost : ℕ) (cs ds : List CheckedStatement) → missing_of dom m (cs ++ ds) ≡ missing_of dom m cs ++ missing_of dom (behind cs cost) ds
   missing_both cost cs ds =
       let s = names_of dom m.engine (routines_of m.program) same_name in
       let xs = missing_of dom m cs in
@@ -81,13 +81,13 @@ module _ {S : Type 0} (dom : Operations S) (m : Machine) where
       ∙ turns_both s (is_kept m) (map demands cs) (map demands ds)
       ∙ ap (λ k. xs ++ missing_in_turn s k (map demands ds)) (fun_ext (λ x. sym (member-append same_name m.kept xs x)))
 
-  work_then : (cost : ℕ) (cs ds : List Checked) → work_on dom m (cs ++ ds) ≡ work_on dom m cs + work_on dom (behind cs cost) ds
+  work_then : (cost : ℕ) (cs ds : List CheckedStatement) → work_on dom m (cs ++ ds) ≡ work_on dom m cs + work_on dom (behind cs cost) ds
   work_then cost cs ds =
       let e = ap length (missing_both cost cs ds) ∙ length-append (missing_of dom m cs) (missing_of dom (behind cs cost) ds) in
       let k = chains_both (routines_of m.program) cs ds in
       omega arith
 
-  pub ticks_then : (cost : ℕ) (cs ds : List Checked) (s t u each : ℕ) → t ≤ s + each * work_on dom m cs → u ≤ t + each * work_on dom (behind cs cost) ds → u ≤ s + each * work_on dom m (cs ++ ds)
+  pub ticks_then : (cost : ℕ) (cs ds : List CheckedStatement) (s t u each : ℕ) → t ≤ s + each * work_on dom m cs → u ≤ t + each * work_on dom (behind cs cost) ds → u ≤ s + each * work_on dom m (cs ++ ds)
   ticks_then cost cs ds s t u each h k = subst (λ w. u ≤ s + each * w) (sym (work_then cost cs ds)) (work_both s t u each (work_on dom m cs) (work_on dom (behind cs cost) ds) h k)
 
   module _ (store : Store S) (book : Book) where
@@ -102,21 +102,21 @@ module _ {S : Type 0} (dom : Operations S) (m : Machine) where
     pub all_none : Holds dom store book m → HoldsAll dom m store book []
     all_none h = subst (λ ks. Holds dom store book (keeping ks book.cost m)) (sym (append-nil m.kept)) (at_cost m.kept m.cost h)
 
-    pub part_none : (cs : List Checked) → Holds dom store book m → HoldsPart dom m store book cs
+    pub part_none : (cs : List CheckedStatement) → Holds dom store book m → HoldsPart dom m store book cs
     part_none cs h = record { count = 0; some = all_none h }
 
-    pub all_part : (cs : List Checked) → HoldsAll dom m store book cs → HoldsPart dom m store book cs
+    pub all_part : (cs : List CheckedStatement) → HoldsAll dom m store book cs → HoldsPart dom m store book cs
     all_part cs h =
         let xs = missing_of dom m cs in
         record { count = length xs; some = subst (λ ys. Holds dom store book (keeping (m.kept ++ ys) book.cost m)) (sym (take-length xs)) h }
 
-    pub all_then : (cost : ℕ) (cs ds : List Checked) → HoldsAll dom (behind cs cost) store book ds → HoldsAll dom m store book (cs ++ ds)
+    pub all_then : (cost : ℕ) (cs ds : List CheckedStatement) → HoldsAll dom (behind cs cost) store book ds → HoldsAll dom m store book (cs ++ ds)
     all_then cost cs ds h =
         let xs = missing_of dom m cs in
         let ys = missing_of dom (behind cs cost) ds in
         subst (λ ks. Holds dom store book (keeping ks book.cost m)) (append_assoc m.kept xs ys ∙ ap (λ zs. m.kept ++ zs) (sym (missing_both cost cs ds))) h
 
-    pub part_then : (cost : ℕ) (cs ds : List Checked) → HoldsPart dom (behind cs cost) store book ds → HoldsPart dom m store book (cs ++ ds)
+    pub part_then : (cost : ℕ) (cs ds : List CheckedStatement) → HoldsPart dom (behind cs cost) store book ds → HoldsPart dom m store book (cs ++ ds)
     part_then cost cs ds p =
         let xs = missing_of dom m cs in
         let ys = missing_of dom (behind cs cost) ds in
@@ -125,7 +125,7 @@ module _ {S : Type 0} (dom : Operations S) (m : Machine) where
           some = subst (λ ks. Holds dom store book (keeping ks book.cost m)) (append_assoc m.kept xs (take p.count ys) ∙ ap (λ zs. m.kept ++ zs) (sym (ap (take (length xs + p.count)) (missing_both cost cs ds) ∙ take-append-add xs ys p.count))) p.some;
         }
 
-    pub part_more : (cs ds : List Checked) → HoldsPart dom m store book cs → HoldsPart dom m store book (cs ++ ds)
+    pub part_more : (cs ds : List CheckedStatement) → HoldsPart dom m store book cs → HoldsPart dom m store book (cs ++ ds)
     part_more cs ds p =
         let xs = missing_of dom m cs in
         let q = take_within xs (missing_of dom (behind cs m.cost) ds) p.count in
@@ -136,7 +136,7 @@ module _ {S : Type 0} (dom : Operations S) (m : Machine) where
 
   -- One checked statement is a question in front of it.
   module _ (n : ℕ) (e : Effect) (k : Check) where
-    abbrev one : List Checked
+    abbrev one : List CheckedStatement
     one = checked_one n e (Some k)
 
     abbrev one_targets : List Target
@@ -156,8 +156,8 @@ module _ {S : Type 0} (dom : Operations S) (m : Machine) where
     one_missing : missing_at dom (Before n) [] m ≡ missing_of dom m one
     one_missing =
         let s = names_of dom m.engine (routines_of m.program) same_name in
-        ap (λ ts. fill_all s (is_kept m) [] (demanded (found dom m) ts)) one_asks
-        ∙ sym (append-nil (fill_all s (is_kept m) [] (demanded (found dom m) one_targets)))
+        ap (λ ts. fill_all s (is_kept m) [] (demanded (cell_value dom m) ts)) one_asks
+        ∙ sym (append-nil (fill_all s (is_kept m) [] (demanded (cell_value dom m) one_targets)))
 
     pub one_work : length (missing_at dom (Before n) [] m) + 2 * length (targets_of m (Before n) []) ≡ work_on dom m one
     one_work =
@@ -169,7 +169,7 @@ module _ {S : Type 0} (dom : Operations S) (m : Machine) where
     one_chains = let e = ap length one_asks in omega arith
 
     -- It is refused only where it has no targets.
-    none_refused : (r : Refusal) → IsChecked (routines_of m.program) → answer_at dom (Before n) [] m ≡ Refuses r → targets_of m (Before n) [] ≡ []
+    none_refused : (r : QueryRefusal) → IsChecked (routines_of m.program) → answer_at dom (Before n) [] m ≡ Refuses r → targets_of m (Before n) [] ≡ []
     none_refused r checked a = go (procedure_of (routines_of m.program) (Before n)) refl
       where
         not_answered : IsAnswered (answer_at dom (Before n) [] m) → ⊥
@@ -184,18 +184,18 @@ module _ {S : Type 0} (dom : Operations S) (m : Machine) where
         go (Misses why) there = refl
         go (In p) there = some p there (targets (routines_of m.program) p (Before n) []) refl
 
-    none_missing : (r : Refusal) → IsChecked (routines_of m.program) → answer_at dom (Before n) [] m ≡ Refuses r → missing_of dom m one ≡ []
+    none_missing : (r : QueryRefusal) → IsChecked (routines_of m.program) → answer_at dom (Before n) [] m ≡ Refuses r → missing_of dom m one ≡ []
     none_missing r checked a =
         let s = names_of dom m.engine (routines_of m.program) same_name in
-        sym one_missing ∙ ap (λ ts. fill_all s (is_kept m) [] (demanded (found dom m) ts)) (none_refused r checked a)
+        sym one_missing ∙ ap (λ ts. fill_all s (is_kept m) [] (demanded (cell_value dom m) ts)) (none_refused r checked a)
 
     module _ (store : Store S) (book : Book) where
-      pub one_answered : Holds dom store book (asked dom (Before n) [] m) → HoldsAll dom m store book one
+      pub one_answered : Holds dom store book (after_question dom (Before n) [] m) → HoldsAll dom m store book one
       one_answered h =
           let xs = missing_at dom (Before n) [] m in
           subst (λ ys. Holds dom store book (keeping (m.kept ++ ys) book.cost m)) one_missing (at_cost store book (m.kept ++ xs) (length xs) h)
 
-      pub one_refused : (r : Refusal) → IsChecked (routines_of m.program) → answer_at dom (Before n) [] m ≡ Refuses r → Holds dom store book m → HoldsAll dom m store book one
+      pub one_refused : (r : QueryRefusal) → IsChecked (routines_of m.program) → answer_at dom (Before n) [] m ≡ Refuses r → Holds dom store book m → HoldsAll dom m store book one
       one_refused r checked a h = subst (λ ys. Holds dom store book (keeping (m.kept ++ ys) book.cost m)) (sym (none_missing r checked a)) (all_none store book h)
 
       pub one_between : IsBetween (missing_at dom (Before n) [] m) m (Holds dom store book) → HoldsPart dom m store book one

@@ -9,15 +9,15 @@ use Rattle.imp_check.specs.Slots.{routines_of}
 use Rattle.imp_slots.specs.Fits.{IsChecked}
 use Rattle.imp_slots.specs.Plain.{Effect, Routine}
 use Rattle.imp_syntax.specs.declared.edit.Location.TheVariants.{Before}
-use Rattle.analysis_words.specs.declared.findings.Finding.{Finding}
+use Rattle.imp_words.specs.declared.findings.Finding.{Finding}
 use Rattle.domain_laws.specs.Operations.{Operations}
 use Rattle.domain_laws.specs.Checks.{Check, kind_of}
-use Rattle.batch_meaning.specs.Report.{Checked, checked_one, checked_statements, finding, verdict_on}
+use Rattle.batch_meaning.specs.Report.{CheckedStatement, checked_one, checked_statements, finding, verdict_on}
 use Rattle.daig_query.specs.declared.store.Store.{Store}
-use Rattle.daig_query.specs.Filled.{added}
+use Rattle.daig_query.specs.Filled.{cells_added}
 use Rattle.cell_names.specs.Paths.{CellName}
-use Rattle.session_machine.specs.Machine.{Machine, keeping}
-use Rattle.session_machine.specs.Turns.{IsBetween, answer_at, missing_for_report, reported}
+use Rattle.daig_machine.specs.Machine.{Machine, keeping}
+use Rattle.daig_machine.specs.Turns.{IsBetween, answer_at, missing_for_report, after_report}
 use Rattle.daig_session.specs.declared.book.Book.{Book}
 use Rattle.daig_session.specs.Books.{flow_in, machine_of}
 use Rattle.daig_session.specs.Holds.{Holds, IsReady}
@@ -27,7 +27,7 @@ use Rattle.daig_session.proofs.Answering.{work_both}
 use Rattle.daig_session.proofs.Counted.{kept_counted}
 use Rattle.daig_session.proofs.Standing.{names, stands}
 use Rattle.daig_session.proofs.Reported.{all_none, all_part, all_then, behind, chains_both, part_more, part_then, ticks_then}
-use Rattle.plain_values.proofs.Lists.{take_next}
+use Rattle.base_values.proofs.Lists.{take_next}
 
 among_at : (ps : List Procedure) (ns : List ℕ) (i n : ℕ) → slice_get ns i ≡ Some n → checked_among ps (take (i + 1) ns) ≡ checked_among ps (take i ns) ++ checked_at ps n
 among_at ps ns i n e = let k : i + 1 ≡ suc i = omega arith in ap (λ j. checked_among ps (take j ns)) k ∙ (ap (checked_among ps) (take_next ns i n e) ∙ among_next ps (take i ns) n)
@@ -58,19 +58,19 @@ module _ {S : Type 0} (dom : Operations S) (store : Store S) (book : Book) where
   pub none_part : (m : Machine) (n : ℕ) → Holds dom store book m → checked_at book.history.now n ≡ [] → HoldsPart dom m store book (checked_at m.program n)
   none_part m n h e = all_part dom m store book (checked_at m.program n) (none_all m n h e)
 
-pub found_none : {S : Type 0} (dom : Operations S) (m : Machine) (cs : List Checked) (xs : List Finding) → cs ≡ [] → xs ≡ xs ++ findings dom m cs
+pub found_none : {S : Type 0} (dom : Operations S) (m : Machine) (cs : List CheckedStatement) (xs : List Finding) → cs ≡ [] → xs ≡ xs ++ findings dom m cs
 found_none dom m cs xs e = sym (ap (λ ds. xs ++ findings dom m ds) e ∙ append-nil xs)
 
-pub found_one : {S : Type 0} (dom : Operations S) (m : Machine) (n : ℕ) (e : Effect) (k : Check) (cs : List Checked) (before after : List Finding) (f : Finding) → cs ≡ checked_one n e (Some k) → after ≡ before ++ f ∷ [] →
+pub found_one : {S : Type 0} (dom : Operations S) (m : Machine) (n : ℕ) (e : Effect) (k : Check) (cs : List CheckedStatement) (before after : List Finding) (f : Finding) → cs ≡ checked_one n e (Some k) → after ≡ before ++ f ∷ [] →
     f ≡ record { id = n; check = kind_of k; verdict = verdict_on dom m.engine e (answer_at dom (Before n) [] m) } → after ≡ before ++ findings dom m cs
 found_one dom m n e k cs before after f is a b = a ∙ (ap (λ (g : Finding). before ++ g ∷ []) b ∙ ap (λ ds. before ++ findings dom m ds) (sym is))
 
 -- One more of some statements.
 module _ {S : Type 0} (dom : Operations S) (m : Machine) (ns : List ℕ) (i n : ℕ) (there : slice_get ns i ≡ Some n) where
-  abbrev sofar : List Checked
+  abbrev sofar : List CheckedStatement
   sofar = checked_among m.program (take i ns)
 
-  abbrev one : List Checked
+  abbrev one : List CheckedStatement
   one = checked_at m.program n
 
   next_is : checked_among m.program (take (i + 1) ns) ≡ sofar ++ one
@@ -101,11 +101,11 @@ module _ {S : Type 0} (dom : Operations S) (store : Store S) (book : Book) (r : 
   pub cells_with : (m : Machine) (xs : List CellName) → HoldsWith dom m store book xs → len store.graph.cells ≡ length m.kept + length xs
   cells_with m xs h = cells_are (keeping (m.kept ++ xs) book.cost m) h ∙ length-append m.kept xs
 
-  pub cells_no_less : (m : Machine) (cs : List Checked) → HoldsPart dom m store book cs → length m.kept ≤ len store.graph.cells
+  pub cells_no_less : (m : Machine) (cs : List CheckedStatement) → HoldsPart dom m store book cs → length m.kept ≤ len store.graph.cells
   cells_no_less m cs p = let e = cells_with m (take p.count (missing_of dom m cs)) p.some in omega arith
 
 -- as many as were missing
-pub all_added : {S : Type 0} (dom : Operations S) (old new : Store S) (before after : Book) (m : Machine) (cs : List Checked) → IsReady dom old before → Holds dom old before m → IsReady dom new after → HoldsAll dom m new after cs → length (missing_of dom m cs) ≡ added old new
+pub all_added : {S : Type 0} (dom : Operations S) (old new : Store S) (before after : Book) (m : Machine) (cs : List CheckedStatement) → IsReady dom old before → Holds dom old before m → IsReady dom new after → HoldsAll dom m new after cs → length (missing_of dom m cs) ≡ cells_added old new
 all_added dom old new before after m cs r h q k =
     let a = cells_are dom old before r m h in
     let b = cells_with dom new after q m (missing_of dom m cs) k in
@@ -122,7 +122,7 @@ work_sum s t u each n a b k l most h g le few =
     no_more s u each (n + 2 * k + suc (a + 2 * l)) (suc (b + 2 * most)) (omega (arith, le, few)) (work_both s t u each (n + 2 * k) (suc (a + 2 * l)) h g)
 
 -- What stands of the session itself, whichever machine it stands for.
-module _ {S : Type 0} (dom : Operations S) (old new : Store S) (before after : Book) (cs : List Procedure → List Checked) (r : IsReady dom old before) (part : (m : Machine) → Holds dom old before m → HoldsPart dom m new after (cs m.program)) where
+module _ {S : Type 0} (dom : Operations S) (old new : Store S) (before after : Book) (cs : List Procedure → List CheckedStatement) (r : IsReady dom old before) (part : (m : Machine) → Holds dom old before m → HoldsPart dom m new after (cs m.program)) where
   abbrev here : Machine
   here = machine_of before (names dom old before r)
 
@@ -145,7 +145,7 @@ module _ {S : Type 0} (dom : Operations S) (m : Machine) (store : Store S) (book
   pub as_filled : (was now : ℕ) → was ≡ length m.kept → now ≡ length (m.kept ++ missing_for_report dom m) → (was ≤ now) × (now - was ≡ length (missing_for_report dom m))
   as_filled was now e k = let both = k ∙ length-append m.kept (missing_for_report dom m) in (omega arith, omega arith)
 
-  pub ended_holds : (cost : ℕ) → HoldsAll dom m store book (checked_statements (routines_of m.program)) → cost ≡ length (missing_for_report dom m) → Holds dom store (record book { cost = cost }) (reported dom m)
+  pub ended_holds : (cost : ℕ) → HoldsAll dom m store book (checked_statements (routines_of m.program)) → cost ≡ length (missing_for_report dom m) → Holds dom store (record book { cost = cost }) (after_report dom m)
   ended_holds cost h e =
       let xs = missing_for_report dom m in
       subst (λ k. Holds dom store (record book { cost = cost }) (keeping (m.kept ++ xs) k m)) e (recosted (m.kept ++ xs) book.cost cost h)
@@ -168,8 +168,8 @@ module _ {S : Type 0} (dom : Operations S) (m : Machine) (ns : List ℕ) (i n : 
 
   pub failed_most : (old mid new : Store S) (before during after : Book) (s t u each : ℕ) →
       IsReady dom old before → Holds dom old before m → IsReady dom mid during → HoldsAll dom m mid during (checked_among m.program (take i ns)) → IsReady dom new after → HoldsPart dom (behind dom m (checked_among m.program (take i ns)) during.cost) new after (checked_at m.program n) →
-      t ≤ s + each * work_on dom m (checked_among m.program (take i ns)) → u ≤ t + each * suc (added mid new + 2 * chain_count (routines_of m.program) (checked_at m.program n)) →
-      u ≤ s + each * suc (added old new + 2 * chain_count (routines_of m.program) (checked_among m.program ns))
+      t ≤ s + each * work_on dom m (checked_among m.program (take i ns)) → u ≤ t + each * suc (cells_added mid new + 2 * chain_count (routines_of m.program) (checked_at m.program n)) →
+      u ≤ s + each * suc (cells_added old new + 2 * chain_count (routines_of m.program) (checked_among m.program ns))
   failed_most old mid new before during after s t u each r h q k p part w v =
       let cs = checked_among m.program (take i ns) in
       let rs = routines_of m.program in
@@ -177,4 +177,4 @@ module _ {S : Type 0} (dom : Operations S) (m : Machine) (ns : List ℕ) (i n : 
       let b = cells_with dom mid during q m (missing_of dom m cs) k in
       let d = cells_are dom mid during q (behind dom m cs during.cost) k in
       let e = cells_no_less dom new after p (behind dom m cs during.cost) (checked_at m.program n) part in
-      work_sum s t u each (length (missing_of dom m cs)) (added mid new) (added old new) (chain_count rs cs) (chain_count rs (checked_at m.program n)) (chain_count rs (checked_among m.program ns)) w v (omega (arith, a, b, d, e)) (few_chains rs)
+      work_sum s t u each (length (missing_of dom m cs)) (cells_added mid new) (cells_added old new) (chain_count rs cs) (chain_count rs (checked_at m.program n)) (chain_count rs (checked_among m.program ns)) w v (omega (arith, a, b, d, e)) (few_chains rs)

@@ -6,18 +6,18 @@ use Rattle.domain_laws.specs.Operations.{Operations}
 use Rattle.imp_check.specs.Slots.{routines_of}
 use Rattle.cell_names.specs.Known.{IsOnce}
 use Rattle.cell_names.specs.Paths.{CellName}
-use Rattle.demand_order.specs.Order.{member}
-use Rattle.demand_order.specs.OrderLaws.{IsDistinct}
-use Rattle.kept_set.specs.Touched.{AreCells}
+use Rattle.daig_order.specs.Order.{member}
+use Rattle.daig_order.specs.OrderLaws.{IsDistinct}
+use Rattle.cell_kept_set.specs.Touched.{AreCells}
 use Rattle.daig_graph.specs.Cells.{Filled}
-use Rattle.named_cells.specs.Same.{same_name}
-use Rattle.named_cells.specs.Named.{filled_at}
-use Rattle.named_cells.proofs.Same.{same_is}
-use Rattle.named_cells.proofs.Numbers.{at_member, filled_named, member_at}
+use Rattle.cell_graph.specs.Same.{same_name}
+use Rattle.cell_graph.specs.Named.{filled_at}
+use Rattle.cell_graph.proofs.Same.{same_is}
+use Rattle.cell_graph.proofs.Numbers.{at_member, filled_named, member_at}
 use Rattle.daig_query.specs.declared.held.Held.{Held}
 use Rattle.daig_query.specs.declared.store.Store.{Store}
 use Rattle.daig_query.specs.Kept.{kept}
-use Rattle.session_machine.proofs.Lists.{filter_distinct, filter_holds, filter_there}
+use Rattle.daig_machine.proofs.Lists.{filter_distinct, filter_holds, filter_there}
 use Rattle.daig_session.specs.declared.book.Book.{Book}
 use Rattle.daig_session.specs.Books.{machine_of}
 use Rattle.daig_session.specs.Holds.{Holds, IsReady}

@@ -5,10 +5,10 @@ use Rattle.domain_laws.specs.Operations.{Operations}
 use Rattle.imp_flow.specs.Plans.{Plan}
 use Rattle.cell_names.specs.Paths.{CellName}
 use Rattle.daig_query.specs.declared.store.Store.{Store}
-use Rattle.daig_query.specs.Filled.{added}
+use Rattle.daig_query.specs.Filled.{cells_added}
 use Rattle.daig_query.specs.Swept.{StaysRight, Swept}
 use Rattle.daig_query.proofs.Sweeps.{swept-kept, swept-lasts}
-use Rattle.session_machine.specs.Machine.{Machine}
+use Rattle.daig_machine.specs.Machine.{Machine}
 use Rattle.daig_session.specs.declared.book.Book.{Book}
 use Rattle.daig_session.specs.Books.{flow_in}
 use Rattle.daig_session.specs.Holds.{Holds, IsReady}
@@ -16,7 +16,7 @@ use Rattle.daig_session.specs.Moves.{Leaves}
 use Rattle.daig_session.proofs.Waiting.{waiting_lasts}
 
 -- as many cells are added to what is swept
-pub swept-added : {S : Type 0} (old new later : Store S) → Swept old new → added new later ≡ added old later
+pub swept-added : {S : Type 0} (old new later : Store S) → Swept old new → cells_added new later ≡ cells_added old later
 swept-added old new later swept = ap (λ n. len later.graph.cells - n) swept.same_len
 
 module _ {S : Type 0} (dom : Operations S) (old new : Store S) (swept : Swept old new) where

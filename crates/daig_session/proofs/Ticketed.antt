@@ -1,23 +1,23 @@
 -- What is done for tickets is the machine's.
 use Rattle.std.proofs.Common.{◌≡◌, ℕ, zero, suc, ◌+◌, ◌<◌, List, [], ◌∷◌, ◌++◌, map, take, drop, length, if◌then◌else◌, Some, None, Err, slice_get, refl, sym, ap, subst, ◌∙◌, inr, arith}
 use Rattle.std.proofs.lemmas.List.{length-map, map_push, length-take-le}
-use Rattle.plain_values.proofs.Cases.{by_test}
+use Rattle.base_values.proofs.Cases.{by_test}
 use Rattle.imp_syntax.specs.declared.edit.Location.{Location}
 use Rattle.imp_slots.specs.Fits.{Absent, Distinct, IsChecked}
-use Rattle.edits_keep_cells.specs.Claims.{flow_of}
-use Rattle.edit_history.specs.Times.{Times}
+use Rattle.edit_keeps.specs.Apart.{flow_of}
+use Rattle.edit_history.specs.History.{Times}
 use Rattle.daig_query.specs.Right.{IsRight}
 use Rattle.domain_laws.specs.Operations.{Operations}
 use Rattle.batch_meaning.specs.Answers.{answer}
 use Rattle.cell_rows.specs.Targets.{Target}
 use Rattle.daig_query.specs.declared.store.Store.{Store}
 use Rattle.daig_query.specs.Filled.{Fills}
-use Rattle.session_machine.specs.Machine.{Machine, Ticket, keeping, ticket_of, ticketed, without_ticket}
-use Rattle.session_machine.specs.Turns.{asked, closed, ended, missing_at, opened, stepped}
-use Rattle.session_machine.specs.Claims.{FillingKeeps}
-use Rattle.open_tickets.specs.declared.tickets.Open.{Open}
-use Rattle.open_tickets.specs.declared.tickets.Tickets.{Tickets}
-use Rattle.open_tickets.specs.Tickets.{anew, number, ticket, tickets, AreOpen}
+use Rattle.daig_machine.specs.Machine.{Machine, Ticket, keeping, ticket_of, with_tickets, without_ticket}
+use Rattle.daig_machine.specs.Turns.{after_question, after_close, after_last_step, missing_at, with_ticket, after_step}
+use Rattle.daig_machine.specs.Claims.{FillingKeeps}
+use Rattle.daig_tickets.specs.declared.tickets.OpenTicket.{OpenTicket}
+use Rattle.daig_tickets.specs.declared.tickets.Tickets.{Tickets}
+use Rattle.daig_tickets.specs.Tickets.{anew, number, ticket, tickets, AreOpen}
 use Rattle.daig_session.specs.declared.book.Book.{Book}
 use Rattle.daig_session.specs.declared.book.Going.{Going}
 use Rattle.daig_session.specs.declared.error.QueryError.{QueryError}
@@ -39,9 +39,9 @@ module _ {S : Type 0} (dom : Operations S) (store : Store S) where
   tickets_count book m h = sym (ap (λ (z : Machine). length z.tickets) h.is) ∙ length-map book.tickets.open_ones.items ticket
 
   -- the machine with other tickets
-  pub ticketed_holds : (book : Book) (t : Tickets Going) (ts : List Ticket) (next : ℕ) (m : Machine) → Holds dom store book m → tickets t ≡ ts → t.next ≡ next → Holds dom store (record book { tickets = t }) (ticketed ts next m)
+  pub ticketed_holds : (book : Book) (t : Tickets Going) (ts : List Ticket) (next : ℕ) (m : Machine) → Holds dom store book m → tickets t ≡ ts → t.next ≡ next → Holds dom store (record book { tickets = t }) (with_tickets ts next m)
   ticketed_holds book t ts next m h e n = record {
-    is = ap (λ (z : Machine). ticketed (tickets t) t.next z) h.is ∙ (ap (λ us. ticketed us t.next m) e ∙ ap (λ k. ticketed ts k m) n);
+    is = ap (λ (z : Machine). with_tickets (tickets t) t.next z) h.is ∙ (ap (λ us. with_tickets us t.next m) e ∙ ap (λ k. with_tickets ts k m) n);
     same = h.same;
     cells = h.cells;
   }
@@ -65,7 +65,7 @@ module _ {S : Type 0} (dom : Operations S) (store : Store S) where
   -- the same tickets, of which one may have come to something else
   pub retold_holds : (book : Book) (t : Tickets Going) (m : Machine) → Holds dom store book m → tickets t ≡ tickets book.tickets → t.next ≡ book.tickets.next → Holds dom store (record book { tickets = t }) m
   retold_holds book t m h e n = record {
-    is = ap (λ us. ticketed us t.next (machine_of book m.kept)) e ∙ (ap (λ k. ticketed (tickets book.tickets) k (machine_of book m.kept)) n ∙ h.is);
+    is = ap (λ us. with_tickets us t.next (machine_of book m.kept)) e ∙ (ap (λ k. with_tickets (tickets book.tickets) k (machine_of book m.kept)) n ∙ h.is);
     same = h.same;
     cells = h.cells;
   }
@@ -74,7 +74,7 @@ module _ {S : Type 0} (dom : Operations S) (store : Store S) where
   pub without_flow : (place : ℕ) (old new : Book) → IsWithout place old new → flow_in new ≡ flow_in old
   without_flow place old new w = λ i. flow_of (w.setting i).engine (w.history i).now
 
-  module _ (place : ℕ) (old new : Book) (w : IsWithout place old new) (o : Open Going) (there : slice_get old.tickets.open_ones.items place ≡ Some o) where
+  module _ (place : ℕ) (old new : Book) (w : IsWithout place old new) (o : OpenTicket Going) (there : slice_get old.tickets.open_ones.items place ≡ Some o) where
     pub without_holds : (m : Machine) → Holds dom store old m → Holds dom store new m
     without_holds m h =
         let te : tickets new.tickets ≡ tickets old.tickets = ap (map ticket) (w.left o there) ∙ tickets_set old.tickets.open_ones.items place o (anew o) there refl in
@@ -100,12 +100,12 @@ module _ {S : Type 0} (dom : Operations S) (store : Store S) where
     without_there = subst (λ os. slice_get os place ≡ Some (anew o)) (sym (w.left o there)) (set_there old.tickets.open_ones.items place o (anew o) there)
 
 -- The ticket of a number is the one that has it.
-absent_at : {G : Type 0} (n k : ℕ) (os : List (Open G)) (o : Open G) → Absent n (map number os) → slice_get os k ≡ Some o → o.number ≡ n → ⊥
+absent_at : {G : Type 0} (n k : ℕ) (os : List (OpenTicket G)) (o : OpenTicket G) → Absent n (map number os) → slice_get os k ≡ Some o → o.number ≡ n → ⊥
 absent_at n k [] o a e h = absurd (let p = e in cc)
-absent_at n zero (x ∷ xs) o a e h = a.0 (sym h ∙ sym (ap (λ (y : Open _). y.number) (same_Some x o e)))
+absent_at n zero (x ∷ xs) o a e h = a.0 (sym h ∙ sym (ap (λ (y : OpenTicket _). y.number) (same_Some x o e)))
 absent_at n (suc k) (x ∷ xs) o a e h = absent_at n k xs o a.1 e h
 
-pub ticket_at : {G : Type 0} (n k : ℕ) (os : List (Open G)) (o : Open G) → Distinct (map number os) → slice_get os k ≡ Some o → o.number ≡ n → ticket_of n (map ticket os) ≡ Some (ticket o)
+pub ticket_at : {G : Type 0} (n k : ℕ) (os : List (OpenTicket G)) (o : OpenTicket G) → Distinct (map number os) → slice_get os k ≡ Some o → o.number ≡ n → ticket_of n (map ticket os) ≡ Some (ticket o)
 ticket_at n k [] o d e h = absurd (let p = e in cc)
 ticket_at n zero (x ∷ xs) o d e h =
     let same = same_Some x o e in
@@ -113,7 +113,7 @@ ticket_at n zero (x ∷ xs) o d e h =
 ticket_at n (suc k) (x ∷ xs) o d e h =
     by_test x.number n (λ b. (if b then Some (ticket x) else ticket_of n (map ticket xs)) ≡ Some (ticket o)) (λ i. absurd (absent_at x.number k xs o d.0 e (h ∙ sym i))) (λ i. ticket_at n k xs o d.1 e h)
 
-pub ticket_here : {S : Type 0} (dom : Operations S) (store : Store S) (book : Book) (m : Machine) (n k : ℕ) (o : Open Going) → Holds dom store book m → AreOpen book.tickets → slice_get book.tickets.open_ones.items k ≡ Some o → o.number ≡ n → ticket_of n m.tickets ≡ Some (ticket o)
+pub ticket_here : {S : Type 0} (dom : Operations S) (store : Store S) (book : Book) (m : Machine) (n k : ℕ) (o : OpenTicket Going) → Holds dom store book m → AreOpen book.tickets → slice_get book.tickets.open_ones.items k ≡ Some o → o.number ≡ n → ticket_of n m.tickets ≡ Some (ticket o)
 ticket_here dom store book m n k o h are e q = sym (ap (λ (z : Machine). ticket_of n z.tickets) h.is) ∙ ticket_at n k book.tickets.open_ones.items o are.once e q
 
 pub no_ticket : {S : Type 0} (dom : Operations S) (store : Store S) (book : Book) (m : Machine) (n : ℕ) → Holds dom store book m → ticket_of n (tickets book.tickets) ≡ None → ticket_of n m.tickets ≡ None
@@ -127,11 +127,11 @@ module _ {S : Type 0} (dom : Operations S) (book : Book) (store : Store S) where
 
   -- one is opened
   pub opened_holds : (t : Tickets Going) (l : Location) (string : List ℕ) (g : Going) (m : Machine) → Holds dom store book m →
-      t.open_ones.items ≡ book.tickets.open_ones.items ++ record { number = book.tickets.next; at = l; string = string; going = Some g } ∷ [] → t.next ≡ book.tickets.next + 1 → Holds dom store (record book { tickets = t }) (opened l string m)
+      t.open_ones.items ≡ book.tickets.open_ones.items ++ record { number = book.tickets.next; at = l; string = string; going = Some g } ∷ [] → t.next ≡ book.tickets.next + 1 → Holds dom store (record book { tickets = t }) (with_ticket l string m)
   opened_holds t l string g m h items next =
       let n : book.tickets.next ≡ m.next_ticket = ap (λ (z : Machine). z.next_ticket) h.is in
       let here : tickets book.tickets ≡ m.tickets = ap (λ (z : Machine). z.tickets) h.is in
-      let o : Open Going = record { number = book.tickets.next; at = l; string = string; going = Some g } in
+      let o : OpenTicket Going = record { number = book.tickets.next; at = l; string = string; going = Some g } in
       ticketed_holds dom store book t (m.tickets ++ record { number = m.next_ticket; at = l; string = string } ∷ []) (suc m.next_ticket) m h
       (ap (map ticket) items ∙ (map_push ticket book.tickets.open_ones.items o ∙ (ap (λ ts. ts ++ ticket o ∷ []) here ∙ ap (λ k. m.tickets ++ record { number = k; at = l; string = string } ∷ []) n)))
       (omega arith)
@@ -142,7 +142,7 @@ module _ {S : Type 0} (dom : Operations S) (book : Book) (store : Store S) where
       ticketed_ready dom store book t r are (subst (AreWaiting dom (flow_in book) store) (sym items) (waiting_push dom (flow_in book) store book.tickets.open_ones.items (record { number = book.tickets.next; at = l; string = string; going = Some g }) r.waiting (record { short = going.asked.short; going = going })))
 
   -- one is closed
-  pub closed_holds : (t : Tickets Going) (n : ℕ) (m : Machine) → Holds dom store book m → tickets t ≡ without_ticket n (tickets book.tickets) → t.next ≡ book.tickets.next → Holds dom store (record book { tickets = t }) (closed n m)
+  pub closed_holds : (t : Tickets Going) (n : ℕ) (m : Machine) → Holds dom store book m → tickets t ≡ without_ticket n (tickets book.tickets) → t.next ≡ book.tickets.next → Holds dom store (record book { tickets = t }) (after_close n m)
   closed_holds t n m h e next =
       ticketed_holds dom store book t (without_ticket n m.tickets) m.next_ticket m h (e ∙ ap (λ (z : Machine). without_ticket n z.tickets) h.is) (next ∙ ap (λ (z : Machine). z.next_ticket) h.is)
 
@@ -150,16 +150,16 @@ module _ {S : Type 0} (dom : Operations S) (book : Book) (store : Store S) where
   closed_ready t k r are items = ticketed_ready dom store book t r are (subst (AreWaiting dom (flow_in book) store) (sym items) (waiting_rest dom (flow_in book) store k book.tickets.open_ones.items r.waiting))
 
 -- A ticket is stepped.
-module _ {S : Type 0} (dom : Operations S) (book : Book) (store new : Store S) (o : Open Going) (ts : List Target) (count : ℕ) (checked : IsChecked (flow_in book).program) (a : IsAsked (flow_in book).program o.at o.string ts) (f : Fills dom (flow_in book) ts store new count) (law : FillingKeeps dom) (m : Machine) (h : Holds dom store book m) where
+module _ {S : Type 0} (dom : Operations S) (book : Book) (store new : Store S) (o : OpenTicket Going) (ts : List Target) (count : ℕ) (checked : IsChecked (flow_in book).program) (a : IsAsked (flow_in book).program o.at o.string ts) (f : Fills dom (flow_in book) ts store new count) (law : FillingKeeps dom) (m : Machine) (h : Holds dom store book m) where
   -- more is missing
-  pub pending_holds : (t : Tickets Going) (most : ℕ) → tickets t ≡ tickets book.tickets → t.next ≡ book.tickets.next → count ≡ most → most < length (missing_at dom o.at o.string m) → Holds dom new (record book { tickets = t; cost = count }) (stepped dom (ticket o) most m)
+  pub pending_holds : (t : Tickets Going) (most : ℕ) → tickets t ≡ tickets book.tickets → t.next ≡ book.tickets.next → count ≡ most → most < length (missing_at dom o.at o.string m) → Holds dom new (record book { tickets = t; cost = count }) (after_step dom (ticket o) most m)
   pending_holds t most e n c more =
       let ms = missing_at dom o.at o.string m in
-      retold_holds dom new (record book { cost = count }) t (stepped dom (ticket o) most m)
+      retold_holds dom new (record book { cost = count }) t (after_step dom (ticket o) most m)
       (subst (λ k. Holds dom new (record book { cost = count }) (keeping (m.kept ++ take k ms) (length (take k ms)) m)) c
       (subst (λ k. Holds dom new (record book { cost = count }) (keeping (m.kept ++ take count ms) k m)) (sym (length-take-le count ms (omega arith))) (keeping_holds dom book store new o.at o.string ts count checked a f law m count h)))
       e n
 
   -- nothing is
-  pub done_holds : (t : Tickets Going) → tickets t ≡ without_ticket o.number (tickets book.tickets) → t.next ≡ book.tickets.next → count ≡ length (missing_at dom o.at o.string m) → Holds dom new (record book { tickets = t; cost = count }) (ended dom (ticket o) m)
-  done_holds t e n c = closed_holds dom (record book { cost = count }) new t o.number (asked dom o.at o.string m) (asked_holds dom book store new o.at o.string ts count checked a f law m count h c c) e n
+  pub done_holds : (t : Tickets Going) → tickets t ≡ without_ticket o.number (tickets book.tickets) → t.next ≡ book.tickets.next → count ≡ length (missing_at dom o.at o.string m) → Holds dom new (record book { tickets = t; cost = count }) (after_last_step dom (ticket o) m)
+  done_holds t e n c = closed_holds dom (record book { cost = count }) new t o.number (after_question dom o.at o.string m) (asked_holds dom book store new o.at o.string ts count checked a f law m count h c c) e n

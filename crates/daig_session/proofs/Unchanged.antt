@@ -1,11 +1,11 @@
 -- What is the same but for room.
 use Rattle.std.proofs.Common.{◌≡◌, sym, subst, ◌∙◌}
 use Rattle.domain_laws.specs.Operations.{Operations}
-use Rattle.edits_keep_cells.specs.Claims.{flow_of}
+use Rattle.edit_keeps.specs.Apart.{flow_of}
 use Rattle.daig_query.specs.declared.store.Store.{Store}
 use Rattle.daig_query.specs.Right.{IsRight}
-use Rattle.open_tickets.specs.Tickets.{tickets}
-use Rattle.session_machine.specs.Machine.{Machine}
+use Rattle.daig_tickets.specs.Tickets.{tickets}
+use Rattle.daig_machine.specs.Machine.{Machine}
 use Rattle.daig_session.specs.declared.book.Book.{Book}
 use Rattle.daig_session.specs.Books.{flow_in, IsSame}
 use Rattle.daig_session.specs.Going.{AreWaiting}

@@ -10,8 +10,8 @@ use Rattle.daig_query.specs.Kept.{Grows, Lasts}
 use Rattle.daig_query.specs.Right.{IsRight}
 use Rattle.daig_query.proofs.Growing.{grows_last}
 use Rattle.daig_query.proofs.Walks.{good_lasts}
-use Rattle.open_tickets.specs.declared.tickets.Open.{Open}
-use Rattle.open_tickets.specs.Tickets.{anew}
+use Rattle.daig_tickets.specs.declared.tickets.OpenTicket.{OpenTicket}
+use Rattle.daig_tickets.specs.Tickets.{anew}
 use Rattle.daig_session.specs.declared.book.Going.{Going}
 use Rattle.daig_session.specs.Going.{IsGoing, IsWaiting, AreWaiting}
 use Rattle.std.proofs.lemmas.Option.{same_Some}
@@ -29,7 +29,7 @@ module _ {S : Type 0} (dom : Operations S) where
     some_lasts l string None h = tt
     some_lasts l string (Some g) h = going_lasts l string g h
 
-    pub waiting_lasts : (os : List (Open Going)) → AreWaiting dom plan old os → AreWaiting dom plan new os
+    pub waiting_lasts : (os : List (OpenTicket Going)) → AreWaiting dom plan old os → AreWaiting dom plan new os
     waiting_lasts [] w = tt
     waiting_lasts (o ∷ os) w = (record { short = w.0.short; going = some_lasts o.at o.string o.going w.0.going }, waiting_lasts os w.1)
 
@@ -38,34 +38,34 @@ module _ {S : Type 0} (dom : Operations S) where
     pub going_grows : (l : Location) (string : List ℕ) (g : Going) → IsGoing dom plan old l string g → IsGoing dom plan new l string g
     going_grows = going_lasts plan old new right (grows_last dom plan old new grows)
 
-    pub waiting_grows : (os : List (Open Going)) → AreWaiting dom plan old os → AreWaiting dom plan new os
+    pub waiting_grows : (os : List (OpenTicket Going)) → AreWaiting dom plan old os → AreWaiting dom plan new os
     waiting_grows = waiting_lasts plan old new right (grows_last dom plan old new grows)
 
   -- all begin anew
-  pub waiting_anew : (plan other : Plan) (old new : Store S) (os : List (Open Going)) → AreWaiting dom plan old os → AreWaiting dom other new (map anew os)
+  pub waiting_anew : (plan other : Plan) (old new : Store S) (os : List (OpenTicket Going)) → AreWaiting dom plan old os → AreWaiting dom other new (map anew os)
   waiting_anew plan other old new [] w = tt
   waiting_anew plan other old new (o ∷ os) w = (record { short = w.0.short; going = tt }, waiting_anew plan other old new os w.1)
 
   module _ (plan : Plan) (store : Store S) where
-    pub waiting_get : (os : List (Open Going)) (k : ℕ) (o : Open Going) → AreWaiting dom plan store os → slice_get os k ≡ Some o → IsWaiting dom plan store o
+    pub waiting_get : (os : List (OpenTicket Going)) (k : ℕ) (o : OpenTicket Going) → AreWaiting dom plan store os → slice_get os k ≡ Some o → IsWaiting dom plan store o
     waiting_get [] k o w e = absurd cc
     waiting_get (x ∷ xs) zero o w e = subst (IsWaiting dom plan store) (same_Some x o e) w.0
     waiting_get (x ∷ xs) (suc k) o w e = waiting_get xs k o w.1 e
 
-    pub waiting_set : (os : List (Open Going)) (k : ℕ) (o : Open Going) → AreWaiting dom plan store os → IsWaiting dom plan store o → AreWaiting dom plan store (slice_set os k o)
+    pub waiting_set : (os : List (OpenTicket Going)) (k : ℕ) (o : OpenTicket Going) → AreWaiting dom plan store os → IsWaiting dom plan store o → AreWaiting dom plan store (slice_set os k o)
     waiting_set [] k o w i = tt
     waiting_set (x ∷ xs) zero o w i = (i, w.1)
     waiting_set (x ∷ xs) (suc k) o w i = (w.0, waiting_set xs k o w.1 i)
 
-    pub waiting_push : (os : List (Open Going)) (o : Open Going) → AreWaiting dom plan store os → IsWaiting dom plan store o → AreWaiting dom plan store (os ++ o ∷ [])
+    pub waiting_push : (os : List (OpenTicket Going)) (o : OpenTicket Going) → AreWaiting dom plan store os → IsWaiting dom plan store o → AreWaiting dom plan store (os ++ o ∷ [])
     waiting_push [] o w i = (i, tt)
     waiting_push (x ∷ xs) o w i = (w.0, waiting_push xs o w.1 i)
 
-    rest : (k : ℕ) (os : List (Open Going)) → AreWaiting dom plan store os → AreWaiting dom plan store (take k os ++ drop (suc k) os)
+    rest : (k : ℕ) (os : List (OpenTicket Going)) → AreWaiting dom plan store os → AreWaiting dom plan store (take k os ++ drop (suc k) os)
     rest zero [] w = tt
     rest zero (o ∷ os) w = w.1
     rest (suc k) [] w = tt
     rest (suc k) (o ∷ os) w = (w.0, rest k os w.1)
 
-    pub waiting_rest : (k : ℕ) (os : List (Open Going)) → AreWaiting dom plan store os → AreWaiting dom plan store (take k os ++ drop (k + 1) os)
+    pub waiting_rest : (k : ℕ) (os : List (OpenTicket Going)) → AreWaiting dom plan store os → AreWaiting dom plan store (take k os ++ drop (k + 1) os)
     waiting_rest k os w = subst (λ n. AreWaiting dom plan store (take k os ++ drop n os)) (let e : suc k ≡ k + 1 = omega arith in e) (rest k os w)

@@ -4,14 +4,14 @@ use Rattle.std.specs.List.{All}
 use Rattle.imp_syntax.specs.Plain.{Procedure, program_numbers}
 use Rattle.imp_check.specs.Fine.{IsFine}
 use Rattle.imp_check.specs.Slots.{routines_of}
-use Rattle.batch_meaning.specs.Batch.{Engine}
+use Rattle.batch_meaning.specs.Batch.{LoopOptions}
 use Rattle.call_contexts.specs.Settings.{setting_of}
 use Rattle.cell_names.specs.Paths.{CellName}
 use Rattle.imp_flow.specs.Plans.{Plan}
-use Rattle.edits_keep_cells.specs.Claims.{IsEdited, flow_of}
-use Rattle.session_machine.specs.Machine.{Machine}
-use Rattle.open_tickets.specs.Tickets.{anew, tickets, AreOpen}
-use Rattle.open_tickets.specs.declared.tickets.Open.{Open}
+use Rattle.edit_keeps.specs.Apart.{IsEdited, flow_of}
+use Rattle.daig_machine.specs.Machine.{Machine}
+use Rattle.daig_tickets.specs.Tickets.{anew, tickets, AreOpen}
+use Rattle.daig_tickets.specs.declared.tickets.OpenTicket.{OpenTicket}
 use Rattle.daig_session.specs.declared.book.Book.{Book}
 use Rattle.daig_session.specs.declared.book.Going.{Going}
 
@@ -64,7 +64,7 @@ machine_of b kept = record {
 }
 
 -- A book at first.
-pub record IsFirst (book : Book) (program : List Procedure) (e : Engine) (next : ℕ) : Type 0 where
+pub record IsFirst (book : Book) (program : List Procedure) (e : LoopOptions) (next : ℕ) : Type 0 where
   pub now : book.history.now ≡ program
   pub past_is : book.history.past ≡ []
   pub future_is : book.history.future ≡ []
@@ -93,7 +93,7 @@ pub record IsWithout (place : ℕ) (old new : Book) : Type 0 where
   pub next_is : new.next ≡ old.next
   pub next_ticket : new.tickets.next ≡ old.tickets.next
   pub cost : new.cost ≡ old.cost
-  pub left : (o : Open Going) → slice_get old.tickets.open_ones.items place ≡ Some o → new.tickets.open_ones.items ≡ slice_set old.tickets.open_ones.items place (anew o)
+  pub left : (o : OpenTicket Going) → slice_get old.tickets.open_ones.items place ≡ Some o → new.tickets.open_ones.items ≡ slice_set old.tickets.open_ones.items place (anew o)
 
 -- The same but for room.
 pub record IsSame (old new : Book) : Type 0 where

@@ -10,7 +10,7 @@ use Rattle.imp_flow.specs.Plans.{Plan}
 use Rattle.imp_flow.specs.Reached.{target_of}
 use Rattle.daig_query.specs.declared.store.Store.{Store}
 use Rattle.daig_query.specs.Walked.{IsGood}
-use Rattle.open_tickets.specs.declared.tickets.Open.{Open}
+use Rattle.daig_tickets.specs.declared.tickets.OpenTicket.{OpenTicket}
 use Rattle.daig_session.specs.declared.book.Going.{Going}
 use Rattle.daig_session.specs.declared.error.QueryError.{QueryError}
 use Rattle.daig_session.specs.declared.error.QueryError.TheVariants.{Refused, Memory}
@@ -38,10 +38,10 @@ module _ {S : Type 0} (dom : Operations S) (plan : Plan) (store : Store S) where
     pub good : IsGood dom plan (map target_of g.targets) store g.walk
 
   -- a ticket that waits to be stepped
-  pub record IsWaiting (o : Open Going) : Type 0 where
+  pub record IsWaiting (o : OpenTicket Going) : Type 0 where
     pub short : nat_lt 2 (length o.string) ≡ false
     pub going : IfSome o.going (IsGoing o.at o.string)
 
-  abbrev pub AreWaiting : List (Open Going) → Type 0
+  abbrev pub AreWaiting : List (OpenTicket Going) → Type 0
   AreWaiting [] = Unit {0}
   AreWaiting (o ∷ os) = IsWaiting o × AreWaiting os

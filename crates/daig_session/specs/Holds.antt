@@ -5,10 +5,10 @@ use Rattle.domain_laws.specs.Operations.{Operations}
 use Rattle.daig_query.specs.declared.store.Store.{Store}
 use Rattle.daig_query.specs.Kept.{kept}
 use Rattle.daig_query.specs.Right.{IsRight}
-use Rattle.session_machine.specs.Machine.{Machine}
-use Rattle.session_machine.specs.Turns.{is_kept}
-use Rattle.session_machine.specs.Claims.{KeepsCells}
-use Rattle.open_tickets.specs.declared.tickets.Open.{Open}
+use Rattle.daig_machine.specs.Machine.{Machine}
+use Rattle.daig_machine.specs.Turns.{is_kept}
+use Rattle.daig_machine.specs.Claims.{KeepsCells}
+use Rattle.daig_tickets.specs.declared.tickets.OpenTicket.{OpenTicket}
 use Rattle.daig_session.specs.declared.book.Book.{Book}
 use Rattle.daig_session.specs.declared.book.Going.{Going}
 use Rattle.daig_session.specs.Books.{flow_in, machine_of, IsInOrder}
@@ -29,6 +29,6 @@ module _ {S : Type 0} (dom : Operations S) (store : Store S) (book : Book) where
 
   -- A ticket stands at a place, and this is what it has come to.
   pub record IsAtPlace (place : ℕ) (g : Going) : Type 0 where
-    pub one : Open Going
+    pub one : OpenTicket Going
     pub there : slice_get book.tickets.open_ones.items place ≡ Some one
     pub going : IsGoing dom (flow_in book) store one.at one.string g

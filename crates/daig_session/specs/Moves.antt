@@ -3,21 +3,21 @@ use Rattle.std.specs.Prelude.{◌≡◌, ◌↔◌, ℕ, ◌≤◌, true, List, 
 use Rattle.imp_syntax.specs.Plain.{Procedure}
 use Rattle.imp_syntax.specs.declared.edit.Edit.{Edit}
 use Rattle.imp_check.specs.Slots.{routines_of}
-use Rattle.program_table.specs.declared.change.Change.{Change}
+use Rattle.imp_table.specs.declared.change.Change.{Change}
 use Rattle.imp_edit.specs.Edited.{edited, next_after, Continues}
 use Rattle.domain_laws.specs.Operations.{Operations}
-use Rattle.batch_meaning.specs.Batch.{Engine}
+use Rattle.batch_meaning.specs.Batch.{LoopOptions}
 use Rattle.call_contexts.specs.Settings.{setting_of}
 use Rattle.cell_names.specs.Paths.{CellName}
-use Rattle.kept_set.specs.Touched.{IsKept}
+use Rattle.cell_kept_set.specs.Touched.{IsKept}
 use Rattle.imp_flow.specs.Plans.{Plan}
 use Rattle.imp_flow.specs.Changed.{AreChanged}
-use Rattle.named_cells.specs.Same.{same_name}
+use Rattle.cell_graph.specs.Same.{same_name}
 use Rattle.cell_removal.specs.Removal.{Removes}
 use Rattle.edit_invalidate.specs.Touched.{IsTouched}
 use Rattle.edit_invalidate.specs.Claims.{edit_of}
-use Rattle.edits_keep_cells.specs.Claims.{flow_of}
-use Rattle.edit_history.specs.After.{after, Leads, LeadsOn}
+use Rattle.edit_keeps.specs.Apart.{flow_of}
+use Rattle.edit_history.specs.After.{changed_program, Leads, LeadsOn}
 use Rattle.daig_query.specs.declared.store.Store.{Store}
 use Rattle.daig_query.specs.Kept.{kept}
 use Rattle.daig_query.specs.Right.{IsRight}
@@ -33,12 +33,12 @@ pub record Empties {S : Type 0} (old new : Plan) (store : Store S) (plan : List 
   pub removes : Removes store.graph.cells (IsTouched old new store.names.names store.graph.cells stmts) plan
 
 -- the setting of the program that is moved to, and the plan of what the move empties
-pub record IsMoving {S : Type 0} (store : Store S) (engine : Engine) (old new : List Procedure) (m : Moving) : Type 0 where
+pub record IsMoving {S : Type 0} (store : Store S) (engine : LoopOptions) (old new : List Procedure) (m : Moving) : Type 0 where
   pub set : m.setting ≡ setting_of engine (routines_of new)
   pub empties : Empties (flow_of engine old) (flow_of engine new) store m.plan
 
 -- a move to the first of these programs
-abbrev pub IsMovingTo : {S : Type 0} → Store S → Engine → List Procedure → List (List Procedure) → Moving → Type 0
+abbrev pub IsMovingTo : {S : Type 0} → Store S → LoopOptions → List Procedure → List (List Procedure) → Moving → Type 0
 IsMovingTo store engine old [] m = ⊥
 IsMovingTo store engine old (p ∷ ps) m = IsMoving store engine old p m
 
@@ -47,14 +47,14 @@ abbrev pub IsNearest : {R : Type 0} → Book → Option R → (change_at : R →
 IsNearest book change change_at side = MatchOption change (side ≡ []) (λ c. LeadsOn book.history.room book.history.now (change_at c) side)
 
 -- What is left are the kept names, and all is right for the new program.
-pub record Leaves {S : Type 0} (dom : Operations S) (old new : Plan) (before after : Store S) : Type 0 where
-  pub right : IsRight dom new after
-  pub names : (x : CellName) → (kept after x ≡ true) ↔ IsKept dom (edit_of old new) same_name (kept before) x
+pub record Leaves {S : Type 0} (dom : Operations S) (old new : Plan) (before changed_program : Store S) : Type 0 where
+  pub right : IsRight dom new changed_program
+  pub names : (x : CellName) → (kept changed_program x ≡ true) ↔ IsKept dom (edit_of old new) same_name (kept before) x
 
 -- All that an accepted edit needs is there.
 pub record IsPlanned {S : Type 0} (store : Store S) (book : Book) (e : Edit) (p : Planned) : Type 0 where
   pub leads : Leads book.history.room book.history.now p.edited.change
-  pub makes : after book.history.now p.edited.change ≡ edited e book.history.now
+  pub makes : changed_program book.history.now p.edited.change ≡ edited e book.history.now
   pub continues : Continues e book.next
   pub next : p.edited.next ≡ next_after e book.next
   pub low : p.edited.next ≤ 1000001

@@ -9,57 +9,57 @@ use Rattle.imp_check.specs.Slots.{routines_of}
 use Rattle.imp_check.specs.declared.entry.Entry.{Entry}
 use Rattle.imp_check.specs.declared.entry.SlotForm.{SlotForm}
 use Rattle.imp_check.specs.declared.entry.SlotForm.TheVariants as form
-use Rattle.plain_values.specs.declared.error.Memory.{Memory}
-use Rattle.analysis_words.specs.declared.findings.Finding.{Finding}
-use Rattle.analysis_words.specs.declared.refusal.Refusal.{Refusal}
+use Rattle.base_values.specs.declared.error.Memory.{Memory}
+use Rattle.imp_words.specs.declared.findings.Finding.{Finding}
+use Rattle.imp_words.specs.declared.refusal.QueryRefusal.{QueryRefusal}
 use Rattle.domain_laws.specs.Operations.{Operations}
 use Rattle.domain_laws.specs.Checks.{Check, check_of}
 use Rattle.batch_meaning.specs.Answers.{Answer, Refuses}
-use Rattle.batch_meaning.specs.Report.{Checked, checked_one, checked_statements, finding, report}
+use Rattle.batch_meaning.specs.Report.{CheckedStatement, checked_one, checked_statements, finding, report}
 use Rattle.cell_names.specs.Paths.{CellName}
 use Rattle.cell_rows.specs.Targets.{demanded}
-use Rattle.demand_order.specs.InTurn.{missing_in_turn}
-use Rattle.demand_laws.specs.Claims.{names_of}
-use Rattle.demand_laws.specs.Reports.{check_targets}
-use Rattle.named_cells.specs.Same.{same_name}
+use Rattle.daig_order.specs.InTurn.{missing_in_turn}
+use Rattle.daig_demands.specs.Claims.{names_of}
+use Rattle.daig_demands.specs.Reports.{check_targets}
+use Rattle.cell_graph.specs.Same.{same_name}
 use Rattle.daig_graph.specs.declared.value.Value.{Value}
 use Rattle.daig_query.specs.declared.store.Store.{Store}
 use Rattle.daig_query.specs.Answered.{Says}
-use Rattle.session_machine.specs.Machine.{Machine, keeping}
-use Rattle.session_machine.specs.Turns.{IsBetween, found, is_kept, missing_for_report, reported}
+use Rattle.daig_machine.specs.Machine.{Machine, keeping}
+use Rattle.daig_machine.specs.Turns.{IsBetween, cell_value, is_kept, missing_for_report, after_report}
 use Rattle.daig_session.specs.declared.book.Book.{Book}
 use Rattle.daig_session.specs.declared.error.QueryError.{QueryError}
 use Rattle.daig_session.specs.declared.error.QueryError.TheVariants as query
 use Rattle.daig_session.specs.Holds.{Holds}
 
 -- a statement of a number, if it has a check
-abbrev pub checked_act : ℕ → Act → List Checked
+abbrev pub checked_act : ℕ → Act → List CheckedStatement
 checked_act n DoBreak = []
 checked_act n (Does e) = checked_one n e (check_of e)
 
-abbrev pub checked_form : ℕ → SlotForm → List Checked
+abbrev pub checked_form : ℕ → SlotForm → List CheckedStatement
 checked_form n (form.Stmt s) = checked_act n (act_of s)
 checked_form n (form.Cond c) = []
 checked_form n (form.Call i q) = []
 
-abbrev pub checked_entry : ℕ → Option Entry → List Checked
+abbrev pub checked_entry : ℕ → Option Entry → List CheckedStatement
 checked_entry n None = []
 checked_entry n (Some e) = checked_form n e.form
 
-abbrev pub checked_stmt : ℕ → Option SlotStmt → List Checked
+abbrev pub checked_stmt : ℕ → Option SlotStmt → List CheckedStatement
 checked_stmt n None = []
 checked_stmt n (Some s) = checked_act n (act_of s)
 
 -- those of some statements, by their numbers
-abbrev pub checked_by : (at : ℕ → Option Entry) → List ℕ → List Checked
+abbrev pub checked_by : (at : ℕ → Option Entry) → List ℕ → List CheckedStatement
 checked_by at [] = []
 checked_by at (n ∷ ns) = checked_entry n (at n) ++ checked_by at ns
 
 -- the statement of a number in a program, and some of them
-abbrev pub checked_at : List Procedure → ℕ → List Checked
+abbrev pub checked_at : List Procedure → ℕ → List CheckedStatement
 checked_at program n = checked_entry n (entry_of (entries_of program) n)
 
-abbrev pub checked_among : List Procedure → List ℕ → List Checked
+abbrev pub checked_among : List Procedure → List ℕ → List CheckedStatement
 checked_among program ns = checked_by (entry_of (entries_of program)) ns
 
 -- a statement that has a check
@@ -67,7 +67,7 @@ abbrev pub HasCheck : List Procedure → ℕ → Type 0
 HasCheck program n = (e : Effect) × (k : Check) × (checked_at program n ≡ checked_one n e (Some k))
 
 -- how many chains there are to checked statements
-abbrev pub chain_count : List Routine → List Checked → ℕ
+abbrev pub chain_count : List Routine → List CheckedStatement → ℕ
 chain_count program [] = 0
 chain_count program (c ∷ cs) = length (check_targets program c) + chain_count program cs
 
@@ -75,7 +75,7 @@ abbrev pub checked_chains : Machine → ℕ
 checked_chains m = chain_count (routines_of m.program) (checked_statements (routines_of m.program))
 
 -- an answer, or why there is none
-abbrev pub Tells : {S : Type 0} → Answer S → Result (Value S) Refusal → Type 0
+abbrev pub Tells : {S : Type 0} → Answer S → Result (Value S) QueryRefusal → Type 0
 Tells a (Ok v) = Says a (Some v)
 Tells a (Err r) = a ≡ Refuses r
 
@@ -87,15 +87,15 @@ IsUnticked before after query.Memory = Unit {0}
 module _ {S : Type 0} (dom : Operations S) (m : Machine) where
   -- A report: that of the present program, interpreted from scratch; what was missing for it is kept.
   abbrev pub Reports : (stands : Machine → Type 0) → Result (List Finding) Memory → Type 0
-  Reports stands (Ok found) = (found ≡ report dom m.engine (routines_of m.program)) × stands (reported dom m)
+  Reports stands (Ok cell_value) = (cell_value ≡ report dom m.engine (routines_of m.program)) × stands (after_report dom m)
   Reports stands (Err e) = IsBetween (missing_for_report dom m) m stands
 
   -- what is missing of checked statements, one after another
-  abbrev pub missing_of : List Checked → List CellName
-  missing_of cs = missing_in_turn (names_of dom m.engine (routines_of m.program) same_name) (is_kept m) (map (λ c. demanded (found dom m) (check_targets (routines_of m.program) c)) cs)
+  abbrev pub missing_of : List CheckedStatement → List CellName
+  missing_of cs = missing_in_turn (names_of dom m.engine (routines_of m.program) same_name) (is_kept m) (map (λ c. demanded (cell_value dom m) (check_targets (routines_of m.program) c)) cs)
 
   -- the work for them: a cell that is missing, and two for each chain
-  abbrev pub work_on : List Checked → ℕ
+  abbrev pub work_on : List CheckedStatement → ℕ
   work_on cs = length (missing_of cs) + 2 * chain_count (routines_of m.program) cs
 
   -- These names are kept beside the others; all else but the cost is as it was.
@@ -103,14 +103,14 @@ module _ {S : Type 0} (dom : Operations S) (m : Machine) where
   HoldsWith store book xs = Holds dom store book (keeping (m.kept ++ xs) book.cost m)
 
   -- All that is missing of these checked statements is kept, ..
-  abbrev pub HoldsAll : Store S → Book → List Checked → Type 0
+  abbrev pub HoldsAll : Store S → Book → List CheckedStatement → Type 0
   HoldsAll store book cs = HoldsWith store book (missing_of cs)
 
   -- .. or the first so much of it.
-  pub record HoldsPart (store : Store S) (book : Book) (cs : List Checked) : Type 0 where
+  pub record HoldsPart (store : Store S) (book : Book) (cs : List CheckedStatement) : Type 0 where
     pub count : ℕ
     pub some : HoldsWith store book (take count (missing_of cs))
 
   -- what is found of them
-  abbrev pub findings : List Checked → List Finding
+  abbrev pub findings : List CheckedStatement → List Finding
   findings cs = map (finding dom m.engine (routines_of m.program)) cs

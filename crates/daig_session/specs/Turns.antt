@@ -2,17 +2,17 @@
 use Rattle.std.specs.Prelude.{◌≡◌, ◌⊎◌, ℕ, ◌+◌, ◌*◌, ◌<◌, ◌≤◌, nat_lt, List, [], length, Option, Some, None, Result, Ok, Err, false}
 use Rattle.imp_syntax.specs.Plain.{Procedure}
 use Rattle.imp_syntax.specs.declared.edit.Location.{Location}
-use Rattle.analysis_words.specs.declared.refusal.Refusal.{Refusal}
-use Rattle.analysis_words.specs.declared.refusal.Refusal.TheVariants.{LongString}
+use Rattle.imp_words.specs.declared.refusal.QueryRefusal.{QueryRefusal}
+use Rattle.imp_words.specs.declared.refusal.QueryRefusal.TheVariants.{LongString}
 use Rattle.imp_slots.specs.Plain.{Routine}
 use Rattle.concrete_sem.specs.Values.{Variables, Heap}
 use Rattle.domain_laws.specs.Operations.{Operations}
 use Rattle.batch_meaning.specs.Answers.{Refuses}
 use Rattle.daig_graph.specs.declared.value.Value.{Value}
 use Rattle.daig_query.specs.Answered.{Covers, Says}
-use Rattle.open_tickets.specs.declared.tickets.NoTicket.{NoTicket}
-use Rattle.session_machine.specs.Machine.{Machine, Ticket}
-use Rattle.session_machine.specs.Turns.{IsBetween, answer_at, asked, closed, ended, missing_at, opened, stepped, targets_of, upstream_at}
+use Rattle.daig_tickets.specs.declared.tickets.NoTicket.{NoTicket}
+use Rattle.daig_machine.specs.Machine.{Machine, Ticket}
+use Rattle.daig_machine.specs.Turns.{IsBetween, answer_at, after_question, after_close, after_last_step, missing_at, with_ticket, after_step, targets_of, upstream_at}
 use Rattle.daig_session.specs.declared.error.QueryError.{QueryError}
 use Rattle.daig_session.specs.declared.error.QueryError.TheVariants as query
 use Rattle.daig_session.specs.declared.error.AskError.{AskError}
@@ -21,8 +21,8 @@ use Rattle.daig_session.specs.declared.error.StepError.{StepError}
 use Rattle.daig_session.specs.declared.error.StepError.TheVariants as step
 use Rattle.daig_session.specs.declared.error.UndoError.{UndoError}
 use Rattle.daig_session.specs.declared.error.UndoError.TheVariants as undo
-use Rattle.daig_session.specs.declared.stepping.Turn.{Turn}
-use Rattle.daig_session.specs.declared.stepping.Turn.TheVariants.{Pending, Done}
+use Rattle.daig_session.specs.declared.stepping.StepResult.{StepResult}
+use Rattle.daig_session.specs.declared.stepping.StepResult.TheVariants.{Pending, Done}
 use Rattle.daig_session.specs.Going.{IsAnswered}
 
 -- why no ticket is opened for a question that has no answer
@@ -39,17 +39,17 @@ module _ {S : Type 0} (dom : Operations S) (m : Machine) (stands : Machine → T
 
   -- A question: the answer of the present program, interpreted from scratch; what was missing is kept.
   abbrev pub Questions : Location → (string : List ℕ) → Result (Value S) QueryError → Type 0
-  Questions l string (Ok v) = Says (answer_at dom l string m) (Some v) × stands (asked dom l string m)
+  Questions l string (Ok v) = Says (answer_at dom l string m) (Some v) × stands (after_question dom l string m)
   Questions l string (Err e) = Fails l string e
 
   -- The same with the statements that the answer depends on in its place.
   abbrev pub Explains : Location → (string : List ℕ) → Result (List ℕ) QueryError → Type 0
-  Explains l string (Ok stmts) = IsAnswered (answer_at dom l string m) × (stmts ≡ upstream_at dom l string m) × stands (asked dom l string m)
+  Explains l string (Ok stmts) = IsAnswered (answer_at dom l string m) × (stmts ≡ upstream_at dom l string m) × stands (after_question dom l string m)
   Explains l string (Err e) = Fails l string e
 
   -- A ticket is opened, exactly where fewer than sixteen are and the program has an answer.
   abbrev pub Opens : Location → (string : List ℕ) → Result ℕ AskError → Type 0
-  Opens l string (Ok n) = (n ≡ m.next_ticket) × (length m.tickets < 16) × IsAnswered (answer_at dom l string m) × stands (opened l string m)
+  Opens l string (Ok n) = (n ≡ m.next_ticket) × (length m.tickets < 16) × IsAnswered (answer_at dom l string m) × stands (with_ticket l string m)
   Opens l string (Err (ask.Refused r)) = (answer_at dom l string m ≡ Refuses r) × ((r ≡ LongString) ⊎ (length m.tickets < 16)) × stands m
   Opens l string (Err ask.Full) = (nat_lt 2 (length string) ≡ false) × (16 ≤ length m.tickets) × stands m
   Opens l string (Err ask.Memory) = stands m
@@ -59,21 +59,21 @@ module _ {S : Type 0} (dom : Operations S) (m : Machine) (stands : Machine → T
     pub record IsPending (n : ℕ) : Type 0 where
       pub filled : n ≡ most
       pub more : most < length (missing_at dom t.at t.string m)
-      pub after : stands (stepped dom t most m)
+      pub after : stands (after_step dom t most m)
 
     -- All that was missing is kept now; the ticket is closed.
     pub record IsDone (v : Value S) : Type 0 where
       pub few : length (missing_at dom t.at t.string m) ≤ most
       pub says : Says (answer_at dom t.at t.string m) (Some v)
-      pub after : stands (ended dom t m)
+      pub after : stands (after_last_step dom t m)
 
     -- The present program has no such location, or no chain to it; the ticket is closed.
     pub record IsGone : Type 0 where
-      pub why : Refusal
+      pub why : QueryRefusal
       pub refused : answer_at dom t.at t.string m ≡ Refuses why
-      pub after : stands (closed t.number m)
+      pub after : stands (after_close t.number m)
 
-    abbrev pub IsStep : Result (Turn S) StepError → Type 0
+    abbrev pub IsStep : Result (StepResult S) StepError → Type 0
     IsStep (Ok (Pending n)) = IsPending n
     IsStep (Ok (Done v)) = IsDone v
     IsStep (Err step.NoTicket) = ⊥
@@ -81,17 +81,17 @@ module _ {S : Type 0} (dom : Operations S) (m : Machine) (stands : Machine → T
     IsStep (Err step.Memory) = IsBetween (missing_at dom t.at t.string m) m stands
 
   -- A step of a ticket, or of none.
-  abbrev pub IsStepOf : (most : ℕ) → Option Ticket → Result (Turn S) StepError → Type 0
+  abbrev pub IsStepOf : (most : ℕ) → Option Ticket → Result (StepResult S) StepError → Type 0
   IsStepOf most None r = (r ≡ Err step.NoTicket) × stands m
   IsStepOf most (Some t) r = IsStep t most r
 
 -- how many cells a step fills, and twice the chains for an answer
-abbrev pub work_of : {S : Type 0} → Operations S → Machine → Ticket → Turn S → ℕ
+abbrev pub work_of : {S : Type 0} → Operations S → Machine → Ticket → StepResult S → ℕ
 work_of dom m t (Pending n) = n
 work_of dom m t (Done v) = length (missing_at dom t.at t.string m) + 2 * length (targets_of m t.at t.string)
 
 -- A state that a step answers covers every run there.
-abbrev pub CoversDone : {S : Type 0} → (S → Heap → List Variables → Type 0) → List Routine → Ticket → Turn S → Type 0
+abbrev pub CoversDone : {S : Type 0} → (S → Heap → List Variables → Type 0) → List Routine → Ticket → StepResult S → Type 0
 CoversDone covers program t (Pending n) = Unit {0}
 CoversDone covers program t (Done v) = Covers covers program t.at t.string (Some v)
 
@@ -99,7 +99,7 @@ CoversDone covers program t (Done v) = Covers covers program t.at t.string (Some
 abbrev pub Cancels : (m : Machine) → (stands : Machine → Type 0) → (number : ℕ) → Option Ticket → Result (Unit {0}) NoTicket → Type 0
 Cancels m stands number None (Ok done) = ⊥
 Cancels m stands number None (Err none) = stands m
-Cancels m stands number (Some t) (Ok done) = stands (closed number m)
+Cancels m stands number (Some t) (Ok done) = stands (after_close number m)
 Cancels m stands number (Some t) (Err none) = ⊥
 
 -- A move to the nearest of some programs, if there is one.

@@ -11,14 +11,14 @@ ghost use Rattle.daig_session.specs.Going.{IsAsked, IsGoing, IsRefused};
 
 use crate::book::Going;
 use crate::error::QueryError;
-use batch_meaning::Refusal;
+use base_values::{Items, Memory};
+use batch_meaning::QueryRefusal;
 use call_contexts::place_of;
 use daig_graph::Value;
 use daig_query::{Engine, Walk};
 use domain_laws::{Domain, Steps};
 use imp_flow::{Flow, Target, targets};
 use imp_syntax::Location;
-use plain_values::{Items, Memory};
 use std::alloc::Global;
 use std::sync::ledger::Ledger;
 
@@ -37,7 +37,7 @@ fn asked_targets<D: Domain>(
 {
     let _domain = engine.domain();
     if string.len() > 2 {
-        return Err(QueryError::Refused(Refusal::LongString));
+        return Err(QueryError::Refused(QueryRefusal::LongString));
     }
     let _place = match place_of(flow.program(), at) {
         Ok(place) => place,
@@ -45,7 +45,7 @@ fn asked_targets<D: Domain>(
     };
     let targets = targets(alloc, flow, at, string)?;
     if targets.is_empty() {
-        return Err(QueryError::Refused(Refusal::NoChain));
+        return Err(QueryError::Refused(QueryRefusal::NoChain));
     }
     Ok(targets)
 }

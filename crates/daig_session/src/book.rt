@@ -3,17 +3,17 @@ ghost use Rattle.std.specs.Prelude.{◌≡◌, ◌<◌, [], ◌∷◌, length, t
 ghost use Rattle.imp_check.specs.Fine.{IsFine};
 ghost use Rattle.imp_check.specs.Slots.{routines_of};
 ghost use Rattle.call_contexts.specs.Settings.{engine_of, setting_of};
-ghost use Rattle.edit_history.specs.After.{after, Leads};
+ghost use Rattle.edit_history.specs.After.{changed_program, Leads};
 ghost use Rattle.daig_session.specs.Books.{flow_in, IsFirst, IsSet, IsTurned};
 
+use base_values::{Items, Memory};
 use call_contexts::Setting;
 use daig_query::Walk;
+use daig_tickets::Tickets;
 use edit_history::History;
+use imp_chains::Widening;
 use imp_flow::{Flow, Target};
-use open_tickets::Tickets;
-use plain_values::{Items, Memory};
-use program_chains::Widening;
-use program_table::{Change, Table};
+use imp_table::{Change, Table};
 use std::alloc::Global;
 
 /// How far a ticket has come: its targets in the present program, and the walk along them.
@@ -70,8 +70,8 @@ impl Book {
     /// Puts a change in, with the setting of the program that it makes and the next number.
     pub(crate) fn remember(&mut self, change: Change, next: u32, setting: Setting)
         requires leads { Leads self.old.history.room self.old.history.now change }
-        requires set { setting ≡ setting_of self.old.setting.engine (routines_of (after self.old.history.now change)) }
-        ensures turned { IsTurned self.old (after self.old.history.now change) (take 64 (self.old.history.now ∷ self.old.history.past)) [] next self.new }
+        requires set { setting ≡ setting_of self.old.setting.engine (routines_of (changed_program self.old.history.now change)) }
+        ensures turned { IsTurned self.old (changed_program self.old.history.now change) (take 64 (self.old.history.now ∷ self.old.history.past)) [] next self.new }
     {
         self.history.remember(change);
         self.setting = setting;

@@ -7,13 +7,13 @@ ghost use Rattle.imp_slots.specs.declared.actions.SlotStmt.{SlotStmt as AnyStmt}
 ghost use Rattle.domain_laws.specs.Checks.{kind_in};
 ghost use Rattle.daig_session.specs.Reports.{checked_at, checked_form, checked_stmt};
 
+use base_values::{Items, Memory};
 use call_contexts::procedure_count;
 use domain_laws::check_of;
 use imp_check::SlotForm;
 use imp_slots::SlotStmt;
 use imp_syntax::{ProcId, StmtId};
-use plain_values::{Items, Memory};
-use program_table::View;
+use imp_table::View;
 use std::alloc::Global;
 
 /// Adds the numbers of some statements.

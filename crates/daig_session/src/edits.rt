@@ -1,12 +1,12 @@
-//! An edit in two steps, for `accepted` and `refused` of `prepare` and `committed` of `commit`.
+//! An edit in two steps, for `accepted` and `refused` of `prepare` and `after_edit` of `commit`.
 ghost use Rattle.std.specs.Prelude.{◌≡◌, IfOk, IfErr, None};
 ghost use Rattle.std.specs.Borrow.{sem, RestsIfErr};
 ghost use Rattle.imp_syntax.specs.declared.edit.Edit.{Edit as AnyEdit};
 ghost use Rattle.imp_edit.specs.Edited.{next_after, Continues};
 ghost use Rattle.imp_edit.specs.Refusals.{edit_refusal, IsRefusal};
 ghost use Rattle.daig_query.specs.Swept.{IsBounded};
-ghost use Rattle.session_machine.specs.Machine.{Machine};
-ghost use Rattle.session_machine.specs.Turns.{committed};
+ghost use Rattle.daig_machine.specs.Machine.{Machine};
+ghost use Rattle.daig_machine.specs.Turns.{after_edit};
 ghost use Rattle.daig_session.specs.contracts.session.Session.{the_row};
 ghost use Rattle.daig_session.specs.Books.{IsSame};
 ghost use Rattle.daig_session.specs.Holds.{Holds, IsReady};
@@ -59,7 +59,7 @@ impl<D: Domain> Session<D> {
         ensures bounded { IsBounded self.new.engine.spare self.new.engine.store }
         ensures next_ticket { self.new.book.tickets.next ≡ self.old.book.tickets.next }
         ensures committed { (e : AnyEdit) (m : Machine) → IsPlanned self.old.engine.store self.old.book e planned → Holds (D.operations self.old.engine.domain) self.old.engine.store self.old.book m →
-            Holds (D.operations self.new.engine.domain) self.new.engine.store self.new.book (committed (D.operations self.old.engine.domain) e m) }
+            Holds (D.operations self.new.engine.domain) self.new.engine.store self.new.book (after_edit (D.operations self.old.engine.domain) e m) }
     {
         let Planned { edited, moving } = planned;
         let Edited { change, next } = edited;
@@ -133,7 +133,7 @@ impl<D: Domain> Prepared<'_, D, Planned> {
         ensures bounded { IsBounded self.exit.0.now.engine.spare self.exit.0.now.engine.store }
         ensures next_ticket { self.exit.0.now.book.tickets.next ≡ self.entry.session.now.book.tickets.next }
         ensures committed { (e : AnyEdit) (m : Machine) → IsPlanned self.entry.session.now.engine.store self.entry.session.now.book e self.entry.planned → Holds (D.operations self.entry.session.now.engine.domain) self.entry.session.now.engine.store self.entry.session.now.book m →
-            Holds (D.operations self.exit.0.now.engine.domain) self.exit.0.now.engine.store self.exit.0.now.book (committed (D.operations self.entry.session.now.engine.domain) e m) }
+            Holds (D.operations self.exit.0.now.engine.domain) self.exit.0.now.engine.store self.exit.0.now.book (after_edit (D.operations self.entry.session.now.engine.domain) e m) }
     {
         let Prepared { session, planned } = self;
         session.make(planned);

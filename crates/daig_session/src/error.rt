@@ -5,8 +5,8 @@ ghost use Rattle.daig_session.specs.declared.error.AskError.TheVariants.{Memory 
 ghost use Rattle.daig_session.specs.declared.error.StepError.TheVariants.{Memory as step_memory};
 ghost use Rattle.daig_session.specs.declared.error.UndoError.TheVariants.{Memory as undo_memory};
 
-use batch_meaning::Refusal;
-use plain_values::Memory;
+use base_values::Memory;
+use batch_meaning::QueryRefusal;
 use thiserror::Error;
 
 /// Why a question has no answer.
@@ -14,7 +14,7 @@ use thiserror::Error;
 pub enum QueryError {
     /// The program has no such location, or no such chain.
     #[error("the query is refused")]
-    Refused(Refusal),
+    Refused(QueryRefusal),
     /// Want of memory.
     #[error("out of memory")]
     Memory,
@@ -33,7 +33,7 @@ impl From<Memory> for QueryError {
 pub enum AskError {
     /// The question has no answer.
     #[error("the question is refused")]
-    Refused(Refusal),
+    Refused(QueryRefusal),
     /// Sixteen tickets are open.
     #[error("sixteen tickets are open")]
     Full,

@@ -1,7 +1,7 @@
 //! Sessions: a program that is edited, and questions about it that are answered from cells.
 //!
 //! A [`Session`] has an engine of demands (`daig_query`) and a program with those behind it and ahead of it
-//! (`edit_history`). It stands for a machine (`session_machine`), which has no state of a domain: of what was computed it
+//! (`edit_history`). It stands for a machine (`daig_machine`), which has no state of a domain: of what was computed it
 //! has the names alone, and it answers by interpreting the present program from scratch. Each call is a turn of that
 //! machine, exactly (`specs/Turns.antt`): what it answers, and which machine the session then stands for (`Holds`).
 //!
@@ -34,9 +34,9 @@ mod reports;
 mod session;
 mod stepping;
 mod tickets;
-mod times;
+mod undo_redo;
 
 pub use edits::{Planned, Prepared};
 pub use error::{AskError, QueryError, StepError, UndoError};
 pub use session::Session;
-pub use stepping::Turn;
+pub use stepping::StepResult;

@@ -2,23 +2,23 @@
 ghost use Rattle.std.specs.Prelude.{◌≡◌, IfOk, List};
 ghost use Rattle.imp_syntax.specs.Plain.{Procedure};
 ghost use Rattle.imp_check.specs.Slots.{routines_of};
-ghost use Rattle.batch_meaning.specs.Batch.{Engine as BatchEngine};
+ghost use Rattle.batch_meaning.specs.Batch.{LoopOptions};
 ghost use Rattle.call_contexts.specs.Settings.{setting_of};
 ghost use Rattle.cell_removal.specs.Removal.{IsOrder};
-ghost use Rattle.edits_keep_cells.specs.Claims.{flow_of, AreOneApart};
-ghost use Rattle.edit_history.specs.After.{after, Leads};
+ghost use Rattle.edit_keeps.specs.Apart.{flow_of, AreOneApart};
+ghost use Rattle.edit_history.specs.After.{changed_program, Leads};
 ghost use Rattle.daig_query.specs.Right.{IsRight};
 ghost use Rattle.daig_query.specs.Swept.{IsBounded, IsInTables};
 ghost use Rattle.daig_session.specs.Moves.{Empties, IsMoving, Leaves};
 
+use base_values::Memory;
 use call_contexts::Setting;
 use cell_removal::RemovalOrder;
 use daig_query::Engine;
 use domain_laws::Domain;
 use edit_invalidate::plan;
 use imp_flow::{Flow, points_changed};
-use plain_values::Memory;
-use program_table::{Change, Table};
+use imp_table::{Change, Table};
 use std::alloc::Global;
 
 /// The setting of the program that is moved to, and the cells that the move empties.
@@ -40,8 +40,8 @@ fn emptied<D: Domain>(
     requires right { IsRight (D.operations engine.now.domain) (flow_of setting.now.engine table.now.program) engine.now.store }
     requires leads { Leads table.now.room table.now.program change.now }
     requires set { setting.now ≡ setting_of setting.now.engine (routines_of table.now.program) }
-    requires set_other { other.now ≡ setting_of setting.now.engine (routines_of (after table.now.program change.now)) }
-    ensures empties { IfOk result (Empties (flow_of setting.now.engine table.now.program) (flow_of setting.now.engine (after table.now.program change.now)) engine.now.store) }
+    requires set_other { other.now ≡ setting_of setting.now.engine (routines_of (changed_program table.now.program change.now)) }
+    ensures empties { IfOk result (Empties (flow_of setting.now.engine table.now.program) (flow_of setting.now.engine (changed_program table.now.program change.now)) engine.now.store) }
 {
     let changed = points_changed(alloc, table, change, setting, other)?;
     let old = Flow::new(table.view(), setting);
@@ -57,7 +57,7 @@ fn emptied<D: Domain>(
 }
 
 /// The move to the program that a change makes. Nothing is changed yet. It takes time in proportion to the change, what it
-/// touches and the cells that it empties, and time linear in the procedures and their marks.
+/// touches and the cells that it empties, and time linear in the procedures and their thresholds.
 ///
 /// # Errors
 ///
@@ -72,7 +72,7 @@ pub(crate) fn planned_move<D: Domain>(
     requires right { IsRight (D.operations engine.now.domain) (flow_of setting.now.engine table.now.program) engine.now.store }
     requires leads { Leads table.now.room table.now.program change.now }
     requires set { setting.now ≡ setting_of setting.now.engine (routines_of table.now.program) }
-    ensures moving { IfOk result (IsMoving engine.now.store setting.now.engine table.now.program (after table.now.program change.now)) }
+    ensures moving { IfOk result (IsMoving engine.now.store setting.now.engine table.now.program (changed_program table.now.program change.now)) }
 {
     let other = setting.after(alloc, table, change)?;
     let plan = emptied(alloc, engine, table, change, setting, &other)?;
@@ -87,7 +87,7 @@ pub(crate) fn planned_move<D: Domain>(
 pub(crate) fn leave<D: Domain>(engine: &mut Engine<D>, plan: RemovalOrder)
     requires order { IsOrder engine.old.store.graph.cells plan }
     requires held { IsInTables engine.old.store }
-    ensures leaves { (e : BatchEngine) (old new : List Procedure) → AreOneApart old new → IsRight (D.operations engine.old.domain) (flow_of e old) engine.old.store → Empties (flow_of e old) (flow_of e new) engine.old.store plan →
+    ensures leaves { (e : LoopOptions) (old new : List Procedure) → AreOneApart old new → IsRight (D.operations engine.old.domain) (flow_of e old) engine.old.store → Empties (flow_of e old) (flow_of e new) engine.old.store plan →
         Leaves (D.operations engine.old.domain) (flow_of e old) (flow_of e new) engine.old.store engine.new.store }
     ensures domain { engine.new.domain ≡ engine.old.domain }
     ensures spare { engine.new.spare ≡ engine.old.spare }

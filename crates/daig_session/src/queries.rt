@@ -4,11 +4,11 @@ ghost use Rattle.imp_syntax.specs.declared.edit.Location.{Location};
 ghost use Rattle.imp_check.specs.Slots.{routines_of};
 ghost use Rattle.imp_flow.specs.Reached.{target_of};
 ghost use Rattle.daig_query.specs.Answered.{AreFilled, Covers};
-ghost use Rattle.daig_query.specs.Filled.{added, missing, Fills};
+ghost use Rattle.daig_query.specs.Filled.{cells_added, missing, Fills};
 ghost use Rattle.daig_query.specs.Swept.{FillsFew, IsBounded};
 ghost use Rattle.why_slice.specs.Claims.{Suffices};
-ghost use Rattle.session_machine.specs.Machine.{Machine};
-ghost use Rattle.session_machine.specs.Turns.{asked, missing_at, targets_of, IsBetween};
+ghost use Rattle.daig_machine.specs.Machine.{Machine};
+ghost use Rattle.daig_machine.specs.Turns.{after_question, missing_at, targets_of, IsBetween};
 ghost use Rattle.daig_session.specs.Books.{flow_in};
 ghost use Rattle.daig_session.specs.Going.{IsAsked, IsGoing};
 ghost use Rattle.daig_session.specs.Holds.{Holds, IsReady};
@@ -19,12 +19,12 @@ use crate::asking::{begun, read_answer};
 use crate::book::{Book, Going};
 use crate::error::QueryError;
 use crate::session::Session;
+use base_values::{Items, Memory};
 use daig_graph::Value;
+use daig_machine::questions_keep_cells;
 use daig_query::Engine;
 use domain_laws::{Domain, Steps};
 use imp_syntax::{Location, StmtId};
-use plain_values::{Items, Memory};
-use session_machine::questions_keep_cells;
 use std::alloc::Global;
 use std::sync::ledger::Ledger;
 use why_cells::upstream;
@@ -43,14 +43,14 @@ fn fill_all<D: Domain, L: Ledger>(
     ensures domain { engine.new.domain ≡ engine.old.domain }
     ensures spare { engine.new.spare ≡ engine.old.spare }
     ensures targets { going.new.targets ≡ going.old.targets }
-    ensures fills { Fills (D.operations engine.old.domain) (flow_in book.now) (map target_of going.old.targets) engine.old.store engine.new.store (added engine.old.store engine.new.store) }
+    ensures fills { Fills (D.operations engine.old.domain) (flow_in book.now) (map target_of going.old.targets) engine.old.store engine.new.store (cells_added engine.old.store engine.new.store) }
     ensures few { FillsFew engine.old.store engine.new.store }
-    ensures counted { IfOk result (λ n. n ≡ added engine.old.store engine.new.store) }
+    ensures counted { IfOk result (λ n. n ≡ cells_added engine.old.store engine.new.store) }
     ensures all { IfOk result (λ n. n ≡ length (missing (D.operations engine.old.domain) (flow_in book.now) (map target_of going.old.targets) engine.old.store)) }
     ensures filled { OnOk result (AreFilled (D.operations engine.old.domain) engine.new.store going.new.walk (flow_in book.now) (map target_of going.old.targets)) }
     ensures least { steps.old ≤ steps.new }
     ensures ticked { IfOk result (λ n. steps.new ≤ steps.old + D.counted engine.old.domain * n) }
-    ensures most { steps.new ≤ steps.old + D.counted engine.old.domain * suc (added engine.old.store engine.new.store) }
+    ensures most { steps.new ≤ steps.old + D.counted engine.old.domain * suc (cells_added engine.old.store engine.new.store) }
 {
     let flow = book.flow();
     let Going { targets, walk } = going;
@@ -81,11 +81,11 @@ impl<D: Domain> Session<D> {
         ensures few { FillsFew self.old.engine.store self.new.engine.store }
         ensures targets { IfOk result (λ f. IsAsked (flow_in self.old.book).program at.now string.now (map target_of f.going.targets)) }
         ensures filled { IfOk result (λ f. AreFilled (D.operations self.old.engine.domain) self.new.engine.store f.going.walk (flow_in self.old.book) (map target_of f.going.targets)) }
-        ensures counted { IfOk result (λ f. f.count ≡ added self.old.engine.store self.new.engine.store) }
+        ensures counted { IfOk result (λ f. f.count ≡ cells_added self.old.engine.store self.new.engine.store) }
         ensures all { (m : Machine) → Holds (D.operations self.old.engine.domain) self.old.engine.store self.old.book m →
             IfOk result (λ f. f.count ≡ length (missing_at (D.operations self.old.engine.domain) at.now string.now m)) }
         ensures answered { (m : Machine) → Holds (D.operations self.old.engine.domain) self.old.engine.store self.old.book m →
-            IfOk result (λ f. Holds (D.operations self.old.engine.domain) self.new.engine.store (record self.old.book { cost = f.count }) (asked (D.operations self.old.engine.domain) at.now string.now m)) }
+            IfOk result (λ f. Holds (D.operations self.old.engine.domain) self.new.engine.store (record self.old.book { cost = f.count }) (after_question (D.operations self.old.engine.domain) at.now string.now m)) }
         ensures unanswered { (m : Machine) → Holds (D.operations self.old.engine.domain) self.old.engine.store self.old.book m →
             IfOk result (λ _. IsBetween (missing_at (D.operations self.old.engine.domain) at.now string.now m) m (Holds (D.operations self.new.engine.domain) self.new.engine.store self.new.book)) }
         ensures fails { (m : Machine) → Holds (D.operations self.old.engine.domain) self.old.engine.store self.old.book m →
@@ -93,7 +93,7 @@ impl<D: Domain> Session<D> {
         ensures least { steps.old ≤ steps.new }
         ensures unticked { IfErr result (IsUnticked steps.old steps.new) }
         ensures ticked { IfOk result (λ f. steps.new ≤ steps.old + D.counted self.old.engine.domain * f.count) }
-        ensures most { steps.new ≤ steps.old + D.counted self.old.engine.domain * suc (added self.old.engine.store self.new.engine.store) }
+        ensures most { steps.new ≤ steps.old + D.counted self.old.engine.domain * suc (cells_added self.old.engine.store self.new.engine.store) }
     {
         questions_keep_cells::<D>();
         let flow = self.book.flow();
@@ -118,11 +118,11 @@ impl<D: Domain> Session<D> {
         ensures bounded { IsBounded self.new.engine.spare self.new.engine.store }
         ensures targets { IfOk result (λ f. IsAsked (flow_in self.old.book).program at.now string.now (map target_of f.going.targets)) }
         ensures filled { IfOk result (λ f. AreFilled (D.operations self.old.engine.domain) self.new.engine.store f.going.walk (flow_in self.old.book) (map target_of f.going.targets)) }
-        ensures counted { IfOk result (λ f. f.count ≡ added self.old.engine.store self.new.engine.store) }
+        ensures counted { IfOk result (λ f. f.count ≡ cells_added self.old.engine.store self.new.engine.store) }
         ensures all { (m : Machine) → Holds (D.operations self.old.engine.domain) self.old.engine.store self.old.book m →
             IfOk result (λ f. f.count ≡ length (missing_at (D.operations self.old.engine.domain) at.now string.now m)) }
         ensures answered { (m : Machine) → Holds (D.operations self.old.engine.domain) self.old.engine.store self.old.book m →
-            IfOk result (λ f. Holds (D.operations self.old.engine.domain) self.new.engine.store (record self.old.book { cost = f.count }) (asked (D.operations self.old.engine.domain) at.now string.now m)) }
+            IfOk result (λ f. Holds (D.operations self.old.engine.domain) self.new.engine.store (record self.old.book { cost = f.count }) (after_question (D.operations self.old.engine.domain) at.now string.now m)) }
         ensures unanswered { (m : Machine) → Holds (D.operations self.old.engine.domain) self.old.engine.store self.old.book m →
             IfOk result (λ _. IsBetween (missing_at (D.operations self.old.engine.domain) at.now string.now m) m (Holds (D.operations self.new.engine.domain) self.new.engine.store self.new.book)) }
         ensures fails { (m : Machine) → Holds (D.operations self.old.engine.domain) self.old.engine.store self.old.book m →
@@ -130,7 +130,7 @@ impl<D: Domain> Session<D> {
         ensures least { steps.old ≤ steps.new }
         ensures unticked { IfErr result (IsUnticked steps.old steps.new) }
         ensures ticked { IfOk result (λ f. steps.new ≤ steps.old + D.counted self.old.engine.domain * f.count) }
-        ensures most { steps.new ≤ steps.old + D.counted self.old.engine.domain * suc (added self.old.engine.store self.new.engine.store) }
+        ensures most { steps.new ≤ steps.old + D.counted self.old.engine.domain * suc (cells_added self.old.engine.store self.new.engine.store) }
     {
         self.engine.sweep();
         self.fill_now(alloc, at, string, steps)
@@ -170,7 +170,7 @@ impl<D: Domain> Session<D> {
         ensures ticked { (m : Machine) → Holds (D.operations self.old.engine.domain) self.old.engine.store self.old.book m →
             IfOk result (λ _. steps.new ≤ steps.old + D.counted self.old.engine.domain * (length (missing_at (D.operations self.old.engine.domain) at.now string.now m) + 2 * length (targets_of m at.now string.now))) }
         ensures most { (m : Machine) → Holds (D.operations self.old.engine.domain) self.old.engine.store self.old.book m →
-            steps.new ≤ steps.old + D.counted self.old.engine.domain * suc (added self.old.engine.store self.new.engine.store + 2 * length (targets_of m at.now string.now)) }
+            steps.new ≤ steps.old + D.counted self.old.engine.domain * suc (cells_added self.old.engine.store self.new.engine.store + 2 * length (targets_of m at.now string.now)) }
     {
         let filled = self.fill_for(alloc, at, string, steps)?;
         let value = read_answer(alloc, &self.engine, &filled.going.walk, steps)?;
@@ -181,7 +181,7 @@ impl<D: Domain> Session<D> {
     /// The statements that the answer of [`Session::query`] depends on, an Over too, rising, each once: the one that the
     /// location names, the call sites of the selected chains, and those of all that the answer is computed from, but for
     /// simple statements of which it needs only what is behind an Over or a dead state. Another simple statement in the
-    /// place of one that is not listed, neither of them a call or a break, gives the same answer, where the marks of all
+    /// place of one that is not listed, neither of them a call or a break, gives the same answer, where the thresholds of all
     /// procedures stay.
     ///
     /// It fills what the question fills, and costs what it costs; then it takes time in proportion to the cells that the
@@ -211,7 +211,7 @@ impl<D: Domain> Session<D> {
         ensures unticked { IfErr result (IsUnticked steps.old steps.new) }
         ensures ticked { (m : Machine) → Holds (D.operations self.old.engine.domain) self.old.engine.store self.old.book m →
             IfOk result (λ _. steps.new ≤ steps.old + D.counted self.old.engine.domain * length (missing_at (D.operations self.old.engine.domain) at.now string.now m)) }
-        ensures most { steps.new ≤ steps.old + D.counted self.old.engine.domain * suc (added self.old.engine.store self.new.engine.store) }
+        ensures most { steps.new ≤ steps.old + D.counted self.old.engine.domain * suc (cells_added self.old.engine.store self.new.engine.store) }
     {
         answers_stay::<D>();
         let filled = self.fill_for(alloc, at, string, steps)?;

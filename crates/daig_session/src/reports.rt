@@ -4,19 +4,19 @@ ghost use Rattle.imp_syntax.specs.declared.edit.Location.TheVariants.{Before};
 ghost use Rattle.imp_slots.specs.ActionViews.{act_of};
 ghost use Rattle.imp_slots.specs.Plain.{Does, Effect};
 ghost use Rattle.imp_check.specs.Slots.{routines_of};
-ghost use Rattle.analysis_words.specs.declared.findings.Finding.{Finding as AnyFinding};
+ghost use Rattle.imp_words.specs.declared.findings.Finding.{Finding as AnyFinding};
 ghost use Rattle.domain_laws.specs.Checks.{Check, kind_in, kind_of};
 ghost use Rattle.domain_laws.specs.Operations.{Operations};
 ghost use Rattle.batch_meaning.specs.Answers.{Answer};
-ghost use Rattle.batch_meaning.specs.Batch.{Engine as BatchEngine};
+ghost use Rattle.batch_meaning.specs.Batch.{LoopOptions};
 ghost use Rattle.batch_meaning.specs.Report.{checked_one, checked_statements, verdict_on};
 ghost use Rattle.batch_sound.specs.Theorem.{IsFindingSound};
 ghost use Rattle.alarm_report.specs.Reporting.{verdict_for};
 ghost use Rattle.daig_query.specs.Answered.{Says};
-ghost use Rattle.daig_query.specs.Filled.{added};
+ghost use Rattle.daig_query.specs.Filled.{cells_added};
 ghost use Rattle.daig_query.specs.Swept.{IsBounded};
-ghost use Rattle.session_machine.specs.Machine.{Machine};
-ghost use Rattle.session_machine.specs.Turns.{answer_at, missing_for_report};
+ghost use Rattle.daig_machine.specs.Machine.{Machine};
+ghost use Rattle.daig_machine.specs.Turns.{answer_at, missing_for_report};
 ghost use Rattle.daig_session.specs.Holds.{Holds, IsReady};
 ghost use Rattle.daig_session.specs.Reports.{checked_act, checked_among, chain_count, checked_at, checked_chains, findings, work_on, HasCheck, HoldsAll, HoldsPart, Reports, Tells};
 
@@ -24,19 +24,19 @@ use crate::checks::{all_statements, checked_stmt};
 use crate::error::QueryError;
 use crate::session::Session;
 use alarm_report::Found;
-use batch_meaning::Refusal;
+use base_values::{Items, Memory};
+use batch_meaning::QueryRefusal;
 use batch_sound::reports_are_sound;
 use daig_graph::Value;
 use domain_laws::{Domain, Finding, Findings, Steps};
 use imp_slots::SlotStmt;
 use imp_syntax::{Location, StmtId};
-use plain_values::{Items, Memory};
 use std::alloc::Global;
 use std::sync::ledger::Ledger;
 
 /// What a report makes of an answer.
 fn found_in<S>(value: &Value<S>) -> Found<'_, S>
-    ensures verdict { (dom : Operations S) (engine : BatchEngine) (a : Answer S) (e : Effect) → Says a (Some value.now) → verdict_for dom (Does e) result ≡ verdict_on dom engine e a }
+    ensures verdict { (dom : Operations S) (engine : LoopOptions) (a : Answer S) (e : Effect) → Says a (Some value.now) → verdict_for dom (Does e) result ≡ verdict_on dom engine e a }
 {
     match value {
         Value::State(state) => Found::State(state),
@@ -46,16 +46,16 @@ fn found_in<S>(value: &Value<S>) -> Found<'_, S>
 
 /// What a report makes of an answer, or of a refusal: where no chain comes nothing is found, and any other refusal is told
 /// as an Over is.
-fn found_of<S>(known: &Result<Value<S>, Refusal>) -> Found<'_, S>
-    ensures verdict { (dom : Operations S) (engine : BatchEngine) (a : Answer S) (e : Effect) → Tells a known.now → verdict_for dom (Does e) result ≡ verdict_on dom engine e a }
+fn found_of<S>(known: &Result<Value<S>, QueryRefusal>) -> Found<'_, S>
+    ensures verdict { (dom : Operations S) (engine : LoopOptions) (a : Answer S) (e : Effect) → Tells a known.now → verdict_for dom (Does e) result ≡ verdict_on dom engine e a }
 {
     match known {
         Ok(value) => found_in(value),
-        Err(Refusal::NoChain) => Found::Absent,
-        Err(Refusal::LongString) => Found::Over,
-        Err(Refusal::NoProcedure) => Found::Over,
-        Err(Refusal::NoStatement) => Found::Over,
-        Err(Refusal::WrongStatement) => Found::Over,
+        Err(QueryRefusal::NoChain) => Found::Absent,
+        Err(QueryRefusal::LongString) => Found::Over,
+        Err(QueryRefusal::NoProcedure) => Found::Over,
+        Err(QueryRefusal::NoStatement) => Found::Over,
+        Err(QueryRefusal::WrongStatement) => Found::Over,
     }
 }
 
@@ -65,10 +65,10 @@ fn finding<D: Domain>(
     dom: &D,
     id: StmtId,
     stmt: &SlotStmt,
-    known: &Result<Value<D::State>, Refusal>,
+    known: &Result<Value<D::State>, QueryRefusal>,
 ) -> Result<Finding, Memory>
     requires asks { IsSome (kind_in (act_of stmt.now)) }
-    ensures is { (engine : BatchEngine) (a : Answer D.State) (e : Effect) (k : Check) → Tells a known.now → checked_act id (act_of stmt.now) ≡ checked_one id e (Some k) →
+    ensures is { (engine : LoopOptions) (a : Answer D.State) (e : Effect) (k : Check) → Tells a known.now → checked_act id (act_of stmt.now) ≡ checked_one id e (Some k) →
         IfOk result (λ f. f ≡ record { id = id; check = kind_of k; verdict = verdict_on (D.operations dom.now) engine e a }) }
 {
     alarm_report::report(alloc, dom, id, stmt, found_of(known))
@@ -89,10 +89,10 @@ impl<D: Domain> Session<D> {
         &self,
         alloc: Global,
         id: StmtId,
-        known: &Result<Value<D::State>, Refusal>,
+        known: &Result<Value<D::State>, QueryRefusal>,
     ) -> Result<Finding, Memory>
         requires there { HasCheck self.now.book.history.now id }
-        ensures is { (engine : BatchEngine) (a : Answer D.State) (e : Effect) (k : Check) → Tells a known.now → checked_at self.now.book.history.now id ≡ checked_one id e (Some k) →
+        ensures is { (engine : LoopOptions) (a : Answer D.State) (e : Effect) (k : Check) → Tells a known.now → checked_at self.now.book.history.now id ≡ checked_one id e (Some k) →
             IfOk result (λ f. f ≡ record { id = id; check = kind_of k; verdict = verdict_on (D.operations self.now.engine.domain) engine e a }) }
     {
         let view = self.book.history.table().view();
@@ -108,7 +108,7 @@ impl<D: Domain> Session<D> {
         alloc: Global,
         id: StmtId,
         steps: &mut Steps<L>,
-    ) -> Result<Result<Value<D::State>, Refusal>, Memory>
+    ) -> Result<Result<Value<D::State>, QueryRefusal>, Memory>
         requires ready { IsReady (D.operations self.old.engine.domain) self.old.engine.store self.old.book }
         ensures bounded { IsBounded self.new.engine.spare self.new.engine.store }
         ensures ready { IsReady (D.operations self.new.engine.domain) self.new.engine.store self.new.book }
@@ -125,7 +125,7 @@ impl<D: Domain> Session<D> {
         ensures ticked { OnOk result ((m : Machine) (e : Effect) (k : Check) → Holds (D.operations self.old.engine.domain) self.old.engine.store self.old.book m →
             steps.new ≤ steps.old + D.counted self.old.engine.domain * work_on (D.operations self.old.engine.domain) m (checked_one id e (Some k))) }
         ensures most { (m : Machine) (e : Effect) (k : Check) → Holds (D.operations self.old.engine.domain) self.old.engine.store self.old.book m →
-            steps.new ≤ steps.old + D.counted self.old.engine.domain * suc (added self.old.engine.store self.new.engine.store + 2 * chain_count (routines_of m.program) (checked_one id e (Some k))) }
+            steps.new ≤ steps.old + D.counted self.old.engine.domain * suc (cells_added self.old.engine.store self.new.engine.store + 2 * chain_count (routines_of m.program) (checked_one id e (Some k))) }
     {
         match self.query(alloc, &Location::Before(id), &[], steps) {
             Ok(value) => Ok(Ok(value)),
@@ -157,7 +157,7 @@ impl<D: Domain> Session<D> {
         ensures ticked { OnOk result ((m : Machine) → Holds (D.operations self.old.engine.domain) self.old.engine.store self.old.book m →
             steps.new ≤ steps.old + D.counted self.old.engine.domain * work_on (D.operations self.old.engine.domain) m (checked_at m.program id)) }
         ensures most { (m : Machine) → Holds (D.operations self.old.engine.domain) self.old.engine.store self.old.book m →
-            steps.new ≤ steps.old + D.counted self.old.engine.domain * suc (added self.old.engine.store self.new.engine.store + 2 * chain_count (routines_of m.program) (checked_at m.program id)) }
+            steps.new ≤ steps.old + D.counted self.old.engine.domain * suc (cells_added self.old.engine.store self.new.engine.store + 2 * chain_count (routines_of m.program) (checked_at m.program id)) }
     {
         if !self.has_check(id) {
             return Ok(());
@@ -190,7 +190,7 @@ impl<D: Domain> Session<D> {
         ensures ticked { OnOk result ((m : Machine) → Holds (D.operations self.old.engine.domain) self.old.engine.store self.old.book m →
             steps.new ≤ steps.old + D.counted self.old.engine.domain * work_on (D.operations self.old.engine.domain) m (checked_among m.program stmts.now)) }
         ensures most { (m : Machine) → Holds (D.operations self.old.engine.domain) self.old.engine.store self.old.book m →
-            steps.new ≤ steps.old + D.counted self.old.engine.domain * suc (added self.old.engine.store self.new.engine.store + 2 * chain_count (routines_of m.program) (checked_among m.program stmts.now)) }
+            steps.new ≤ steps.old + D.counted self.old.engine.domain * suc (cells_added self.old.engine.store self.new.engine.store + 2 * chain_count (routines_of m.program) (checked_among m.program stmts.now)) }
     {
         for stmt in stmts {
             self.add_finding(alloc, *stmt, found, steps)?;
@@ -219,7 +219,7 @@ impl<D: Domain> Session<D> {
         ensures ticked { OnOk result ((m : Machine) → Holds (D.operations self.old.engine.domain) self.old.engine.store self.old.book m →
             steps.new ≤ steps.old + D.counted self.old.engine.domain * work_on (D.operations self.old.engine.domain) m (checked_statements (routines_of m.program))) }
         ensures most { (m : Machine) → Holds (D.operations self.old.engine.domain) self.old.engine.store self.old.book m →
-            steps.new ≤ steps.old + D.counted self.old.engine.domain * suc (added self.old.engine.store self.new.engine.store + 2 * checked_chains m) }
+            steps.new ≤ steps.old + D.counted self.old.engine.domain * suc (cells_added self.old.engine.store self.new.engine.store + 2 * checked_chains m) }
     {
         let stmts = all_statements(alloc, &self.book.history.table().view())?;
         let mut found = Items::new(alloc);
@@ -246,7 +246,7 @@ impl<D: Domain> Session<D> {
         ensures ticked { (m : Machine) → Holds (D.operations self.old.engine.domain) self.old.engine.store self.old.book m →
             OnOk result (steps.new ≤ steps.old + D.counted self.old.engine.domain * (length (missing_for_report (D.operations self.old.engine.domain) m) + 2 * checked_chains m)) }
         ensures most { (m : Machine) → Holds (D.operations self.old.engine.domain) self.old.engine.store self.old.book m →
-            steps.new ≤ steps.old + D.counted self.old.engine.domain * suc (added self.old.engine.store self.new.engine.store + 2 * checked_chains m) }
+            steps.new ≤ steps.old + D.counted self.old.engine.domain * suc (cells_added self.old.engine.store self.new.engine.store + 2 * checked_chains m) }
     {
         reports_are_sound::<D>();
         let cost = self.book.cost;
@@ -292,7 +292,7 @@ impl<D: Domain> Session<D> {
         ensures ticked { (m : Machine) → Holds (D.operations self.old.engine.domain) self.old.engine.store self.old.book m →
             OnOk result (steps.new ≤ steps.old + D.counted self.old.engine.domain * (length (missing_for_report (D.operations self.old.engine.domain) m) + 2 * checked_chains m)) }
         ensures most { (m : Machine) → Holds (D.operations self.old.engine.domain) self.old.engine.store self.old.book m →
-            steps.new ≤ steps.old + D.counted self.old.engine.domain * suc (added self.old.engine.store self.new.engine.store + 2 * checked_chains m) }
+            steps.new ≤ steps.old + D.counted self.old.engine.domain * suc (cells_added self.old.engine.store self.new.engine.store + 2 * checked_chains m) }
     {
         self.engine.sweep();
         self.report_now(alloc, steps)

@@ -2,17 +2,17 @@
 ghost use Rattle.std.specs.Prelude.{◌≡◌, ◌+◌, ◌*◌, ◌<◌, ◌≤◌, length, IfOk, option_copied, option_map};
 ghost use Rattle.call_contexts.specs.Settings.{engine_of};
 ghost use Rattle.daig_query.specs.Swept.{IsBounded};
-ghost use Rattle.session_machine.specs.Machine.{beginning, ticket_of, Machine, Ticket};
+ghost use Rattle.daig_machine.specs.Machine.{first_machine, ticket_of, Machine, Ticket};
 ghost use Rattle.daig_session.specs.Books.{AreBelow};
 ghost use Rattle.daig_session.specs.Holds.{Holds, IsReady};
 
 use crate::book::Book;
+use base_values::Memory;
 use daig_query::Engine;
 use domain_laws::Domain;
+use imp_chains::Widening;
 use imp_syntax::Location;
-use plain_values::Memory;
-use program_chains::Widening;
-use program_table::Table;
+use imp_table::Table;
 use std::alloc::Global;
 
 /// A session with a program.
@@ -26,7 +26,7 @@ impl<D: Domain + Drop> Session<D> {
     /// A session with a program, whose loops take at most `budget` rounds and are widened so. New statements carry the
     /// numbers from `next` on. At most `memo` results of operations are remembered.
     ///
-    /// It takes time linear in the program's marks, and the memory for going back and forth.
+    /// It takes time linear in the program's thresholds, and the memory for going back and forth.
     ///
     /// # Errors
     ///
@@ -48,7 +48,7 @@ impl<D: Domain + Drop> Session<D> {
         ensures domain { IfOk result (λ s. s.engine.domain ≡ domain) }
         ensures spare { IfOk result (λ s. s.engine.spare ≤ 4 * memo + 4096) }
         ensures bounded { IfOk result (λ s. IsBounded s.engine.spare s.engine.store) }
-        ensures begins { IfOk result (λ s. Holds (D.operations s.engine.domain) s.engine.store s.book (beginning table.program (engine_of budget widening) next)) }
+        ensures begins { IfOk result (λ s. Holds (D.operations s.engine.domain) s.engine.store s.book (first_machine table.program (engine_of budget widening) next)) }
     {
         let book = Book::begun(alloc, table, next, budget, widening)?;
         let engine = Engine::new(alloc, domain, memo)?;

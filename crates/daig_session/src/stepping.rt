@@ -5,15 +5,15 @@ ghost use Rattle.batch_meaning.specs.Answers.{answer};
 ghost use Rattle.imp_check.specs.Slots.{routines_of};
 ghost use Rattle.imp_flow.specs.Reached.{target_of};
 ghost use Rattle.daig_query.specs.Answered.{AreFilled};
-ghost use Rattle.daig_query.specs.Filled.{added, missing, Fills};
+ghost use Rattle.daig_query.specs.Filled.{cells_added, missing, Fills};
 ghost use Rattle.daig_query.specs.Swept.{FillsFew, IsBounded};
-ghost use Rattle.session_machine.specs.Machine.{Machine, ticket_of};
-ghost use Rattle.session_machine.specs.Turns.{targets_of};
-ghost use Rattle.open_tickets.specs.declared.tickets.Open.{Open as AnyOpen};
+ghost use Rattle.daig_machine.specs.Machine.{Machine, ticket_of};
+ghost use Rattle.daig_machine.specs.Turns.{targets_of};
+ghost use Rattle.daig_tickets.specs.declared.tickets.OpenTicket.{OpenTicket};
 ghost use Rattle.daig_session.specs.declared.book.Going.{Going as AnyGoing};
 ghost use Rattle.daig_session.specs.Books.{flow_in, IsWithout};
 ghost use Rattle.daig_session.specs.Going.{IsGoing, IsRefused};
-ghost use Rattle.open_tickets.specs.Tickets.{ticket};
+ghost use Rattle.daig_tickets.specs.Tickets.{ticket};
 ghost use Rattle.daig_session.specs.Holds.{Holds, IsAtPlace, IsReady};
 ghost use Rattle.daig_session.specs.Turns.{work_of, CoversDone, IsStep, IsStepOf};
 
@@ -22,17 +22,17 @@ use crate::book::{Book, Going};
 use crate::error::{QueryError, StepError};
 use crate::session::Session;
 use crate::tickets::{put_going, take_going};
+use base_values::Memory;
 use daig_graph::Value;
+use daig_machine::questions_keep_cells;
 use daig_query::{Engine, Progress};
 use domain_laws::{Domain, Steps};
-use plain_values::Memory;
-use session_machine::questions_keep_cells;
 use std::alloc::Global;
 use std::sync::ledger::Ledger;
 
 /// What a step answers.
 #[derive(Drop)]
-pub enum Turn<S> {
+pub enum StepResult<S> {
     /// More was missing; so many cells were filled.
     Pending(usize),
     /// The answer, by the present program. The ticket is closed.
@@ -49,9 +49,9 @@ fn resumed<D: Domain>(
     requires ready { IsReady (D.operations engine.now.domain) engine.now.store book.old }
     requires there { place < length book.old.tickets.open_ones.items }
     ensures left { IsWithout place book.old book.new }
-    ensures going { (o : AnyOpen AnyGoing) → slice_get book.old.tickets.open_ones.items place ≡ Some o →
+    ensures going { (o : OpenTicket AnyGoing) → slice_get book.old.tickets.open_ones.items place ≡ Some o →
         IfOk result (IsGoing (D.operations engine.now.domain) (flow_in book.old) engine.now.store o.at o.string) }
-    ensures refused { (o : AnyOpen AnyGoing) → slice_get book.old.tickets.open_ones.items place ≡ Some o →
+    ensures refused { (o : OpenTicket AnyGoing) → slice_get book.old.tickets.open_ones.items place ≡ Some o →
         IfErr result (IsRefused (answer (D.operations engine.now.domain) book.old.setting.engine (routines_of book.old.history.now) o.at o.string)) }
 {
     match take_going(&mut book.tickets.open_ones, place) {
@@ -77,16 +77,16 @@ fn fill_some<D: Domain, L: Ledger>(
     requires going { (l : Location) × (string : List ℕ) × IsGoing (D.operations engine.old.domain) (flow_in book.now) engine.old.store l string going.old }
     ensures domain { engine.new.domain ≡ engine.old.domain }
     ensures spare { engine.new.spare ≡ engine.old.spare }
-    ensures fills { Fills (D.operations engine.old.domain) (flow_in book.now) (map target_of going.old.targets) engine.old.store engine.new.store (added engine.old.store engine.new.store) }
+    ensures fills { Fills (D.operations engine.old.domain) (flow_in book.now) (map target_of going.old.targets) engine.old.store engine.new.store (cells_added engine.old.store engine.new.store) }
     ensures few { FillsFew engine.old.store engine.new.store }
     ensures going { (l : Location) (string : List ℕ) → IsGoing (D.operations engine.old.domain) (flow_in book.now) engine.old.store l string going.old → IsGoing (D.operations engine.old.domain) (flow_in book.now) engine.new.store l string going.new }
-    ensures counted { IfOk result (λ p. p.filled ≡ added engine.old.store engine.new.store) }
+    ensures counted { IfOk result (λ p. p.filled ≡ cells_added engine.old.store engine.new.store) }
     ensures first { IfOk result (λ p. p.filled ≡ min most (length (missing (D.operations engine.old.domain) (flow_in book.now) (map target_of going.old.targets) engine.old.store))) }
     ensures all { IfOk result (λ p. IsTrue p.done ↔ (length (missing (D.operations engine.old.domain) (flow_in book.now) (map target_of going.old.targets) engine.old.store) ≤ most)) }
     ensures filled { IfOk result (λ p. IsTrue p.done → AreFilled (D.operations engine.old.domain) engine.new.store going.new.walk (flow_in book.now) (map target_of going.old.targets)) }
     ensures least { steps.old ≤ steps.new }
     ensures ticked { IfOk result (λ p. steps.new ≤ steps.old + D.counted engine.old.domain * p.filled) }
-    ensures most { steps.new ≤ steps.old + D.counted engine.old.domain * suc (added engine.old.store engine.new.store) }
+    ensures most { steps.new ≤ steps.old + D.counted engine.old.domain * suc (cells_added engine.old.store engine.new.store) }
 {
     let flow = book.flow();
     let Going { targets, walk } = going;
@@ -102,7 +102,7 @@ impl<D: Domain> Session<D> {
         mut going: Going,
         most: usize,
         steps: &mut Steps<L>,
-    ) -> Result<Turn<D::State>, StepError>
+    ) -> Result<StepResult<D::State>, StepError>
         requires ready { IsReady (D.operations self.old.engine.domain) self.old.engine.store self.old.book }
         requires there { IsAtPlace (D.operations self.old.engine.domain) self.old.engine.store self.old.book place going }
         ensures ready { IsReady (D.operations self.new.engine.domain) self.new.engine.store self.new.book }
@@ -110,15 +110,15 @@ impl<D: Domain> Session<D> {
         ensures spare { self.new.engine.spare ≡ self.old.engine.spare }
         ensures few { FillsFew self.old.engine.store self.new.engine.store }
         ensures next_ticket { self.new.book.tickets.next ≡ self.old.book.tickets.next }
-        ensures steps { (m : Machine) (o : AnyOpen AnyGoing) → Holds (D.operations self.old.engine.domain) self.old.engine.store self.old.book m → slice_get self.old.book.tickets.open_ones.items place ≡ Some o →
+        ensures steps { (m : Machine) (o : OpenTicket AnyGoing) → Holds (D.operations self.old.engine.domain) self.old.engine.store self.old.book m → slice_get self.old.book.tickets.open_ones.items place ≡ Some o →
             IsStep (D.operations self.old.engine.domain) m (Holds (D.operations self.new.engine.domain) self.new.engine.store self.new.book) (ticket o) most result }
-        ensures sound { (o : AnyOpen AnyGoing) → slice_get self.old.book.tickets.open_ones.items place ≡ Some o →
+        ensures sound { (o : OpenTicket AnyGoing) → slice_get self.old.book.tickets.open_ones.items place ≡ Some o →
             IfOk result (CoversDone (D.covers self.old.engine.domain) (routines_of self.old.book.history.now) (ticket o)) }
         ensures least { steps.old ≤ steps.new }
-        ensures ticked { (m : Machine) (o : AnyOpen AnyGoing) → Holds (D.operations self.old.engine.domain) self.old.engine.store self.old.book m → slice_get self.old.book.tickets.open_ones.items place ≡ Some o →
+        ensures ticked { (m : Machine) (o : OpenTicket AnyGoing) → Holds (D.operations self.old.engine.domain) self.old.engine.store self.old.book m → slice_get self.old.book.tickets.open_ones.items place ≡ Some o →
             IfOk result (λ turn. steps.new ≤ steps.old + D.counted self.old.engine.domain * work_of (D.operations self.old.engine.domain) m (ticket o) turn) }
-        ensures most { (m : Machine) (o : AnyOpen AnyGoing) → Holds (D.operations self.old.engine.domain) self.old.engine.store self.old.book m → slice_get self.old.book.tickets.open_ones.items place ≡ Some o →
-            steps.new ≤ steps.old + D.counted self.old.engine.domain * suc (added self.old.engine.store self.new.engine.store + 2 * length (targets_of m o.at o.string)) }
+        ensures most { (m : Machine) (o : OpenTicket AnyGoing) → Holds (D.operations self.old.engine.domain) self.old.engine.store self.old.book m → slice_get self.old.book.tickets.open_ones.items place ≡ Some o →
+            steps.new ≤ steps.old + D.counted self.old.engine.domain * suc (cells_added self.old.engine.store self.new.engine.store + 2 * length (targets_of m o.at o.string)) }
     {
         questions_keep_cells::<D>();
         let progress = fill_some(alloc, &mut self.engine, &self.book, &mut going, most, steps)?;
@@ -126,12 +126,12 @@ impl<D: Domain> Session<D> {
         if !progress.done {
             put_going(&mut self.book.tickets.open_ones, place, going);
             self.book.cost = filled as u64;
-            return Ok(Turn::Pending(filled));
+            return Ok(StepResult::Pending(filled));
         }
         let value = read_answer(alloc, &self.engine, &going.walk, steps)?;
         self.book.tickets.close(place);
         self.book.cost = filled as u64;
-        Ok(Turn::Done(value))
+        Ok(StepResult::Done(value))
     }
 
     /// A step of a ticket, if it is open.
@@ -141,7 +141,7 @@ impl<D: Domain> Session<D> {
         ticket: u64,
         most: u32,
         steps: &mut Steps<L>,
-    ) -> Result<Turn<D::State>, StepError>
+    ) -> Result<StepResult<D::State>, StepError>
         requires ready { IsReady (D.operations self.old.engine.domain) self.old.engine.store self.old.book }
         ensures ready { IsReady (D.operations self.new.engine.domain) self.new.engine.store self.new.book }
         ensures domain { self.new.engine.domain ≡ self.old.engine.domain }
@@ -156,7 +156,7 @@ impl<D: Domain> Session<D> {
         ensures ticked { (m : Machine) → Holds (D.operations self.old.engine.domain) self.old.engine.store self.old.book m →
             IfOk result (λ turn. IfSome (ticket_of ticket m.tickets) (λ t. steps.new ≤ steps.old + D.counted self.old.engine.domain * work_of (D.operations self.old.engine.domain) m t turn)) }
         ensures most { (m : Machine) → Holds (D.operations self.old.engine.domain) self.old.engine.store self.old.book m →
-            MatchOption (ticket_of ticket m.tickets) (steps.new ≡ steps.old) (λ t. steps.new ≤ steps.old + D.counted self.old.engine.domain * suc (added self.old.engine.store self.new.engine.store + 2 * length (targets_of m t.at t.string))) }
+            MatchOption (ticket_of ticket m.tickets) (steps.new ≡ steps.old) (λ t. steps.new ≤ steps.old + D.counted self.old.engine.domain * suc (cells_added self.old.engine.store self.new.engine.store + 2 * length (targets_of m t.at t.string))) }
     {
         let Some(place) = self.book.tickets.place_of(ticket) else {
             return Err(StepError::NoTicket);
@@ -172,7 +172,7 @@ impl<D: Domain> Session<D> {
     }
 
     /// Fills the first `most` cells that are missing for a ticket's question, in the order in which a query fills them.
-    /// Where more were missing the answer is [`Turn::Pending`]; else it is that of the present program, and the ticket is
+    /// Where more were missing the answer is [`StepResult::Pending`]; else it is that of the present program, and the ticket is
     /// closed. It ticks as [`Session::query`] does for what it fills; it takes no time for what is left.
     ///
     /// # Errors
@@ -186,7 +186,7 @@ impl<D: Domain> Session<D> {
         ticket: u64,
         most: u32,
         steps: &mut Steps<L>,
-    ) -> Result<Turn<D::State>, StepError>
+    ) -> Result<StepResult<D::State>, StepError>
         requires ready { IsReady (D.operations self.old.engine.domain) self.old.engine.store self.old.book }
         ensures ready { IsReady (D.operations self.new.engine.domain) self.new.engine.store self.new.book }
         ensures domain { self.new.engine.domain ≡ self.old.engine.domain }
@@ -201,7 +201,7 @@ impl<D: Domain> Session<D> {
         ensures ticked { (m : Machine) → Holds (D.operations self.old.engine.domain) self.old.engine.store self.old.book m →
             IfOk result (λ turn. IfSome (ticket_of ticket m.tickets) (λ t. steps.new ≤ steps.old + D.counted self.old.engine.domain * work_of (D.operations self.old.engine.domain) m t turn)) }
         ensures most { (m : Machine) → Holds (D.operations self.old.engine.domain) self.old.engine.store self.old.book m →
-            MatchOption (ticket_of ticket m.tickets) (steps.new ≡ steps.old) (λ t. steps.new ≤ steps.old + D.counted self.old.engine.domain * suc (added self.old.engine.store self.new.engine.store + 2 * length (targets_of m t.at t.string))) }
+            MatchOption (ticket_of ticket m.tickets) (steps.new ≡ steps.old) (λ t. steps.new ≤ steps.old + D.counted self.old.engine.domain * suc (cells_added self.old.engine.store self.new.engine.store + 2 * length (targets_of m t.at t.string))) }
     {
         self.engine.sweep();
         self.step_now(alloc, ticket, most, steps)

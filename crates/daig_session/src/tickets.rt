@@ -1,8 +1,8 @@
 //! Tickets: questions that are answered in steps.
 ghost use Rattle.std.specs.Prelude.{◌≡◌, ◌+◌, ◌<◌, ◌≤◌, ◌^◌, length, Err, IfErr, IfOk, OnOk, Some, slice_get, slice_set};
-ghost use Rattle.session_machine.specs.Machine.{Machine, ticket_of};
-ghost use Rattle.open_tickets.specs.declared.tickets.Open.{Open as AnyOpen};
-ghost use Rattle.open_tickets.specs.Tickets.{anew};
+ghost use Rattle.daig_machine.specs.Machine.{Machine, ticket_of};
+ghost use Rattle.daig_tickets.specs.declared.tickets.OpenTicket.{OpenTicket as AnyOpen};
+ghost use Rattle.daig_tickets.specs.Tickets.{anew};
 ghost use Rattle.daig_session.specs.declared.book.Going.{Going as AnyGoing};
 ghost use Rattle.daig_session.specs.Books.{flow_in};
 ghost use Rattle.daig_session.specs.Going.{IsGoing};
@@ -13,15 +13,15 @@ use crate::asking::begun;
 use crate::book::Going;
 use crate::error::{AskError, QueryError};
 use crate::session::Session;
-use batch_meaning::Refusal;
+use base_values::Items;
+use batch_meaning::QueryRefusal;
+use daig_tickets::{NoTicket, OpenTicket};
 use domain_laws::Domain;
 use imp_syntax::Location;
-use open_tickets::{NoTicket, Open};
-use plain_values::Items;
 use std::alloc::Global;
 
 /// Takes what a ticket has come to: it is to begin anew.
-pub(crate) fn take_going(open_ones: &mut Vec<Open<Going>>, place: usize) -> Option<Going>
+pub(crate) fn take_going(open_ones: &mut Vec<OpenTicket<Going>>, place: usize) -> Option<Going>
     requires there { place < length open_ones.old.items }
     ensures taken { (o : AnyOpen AnyGoing) → slice_get open_ones.old.items place ≡ Some o → result ≡ o.going }
     ensures left { (o : AnyOpen AnyGoing) → slice_get open_ones.old.items place ≡ Some o → open_ones.new.items ≡ slice_set open_ones.old.items place (anew o) }
@@ -31,7 +31,7 @@ pub(crate) fn take_going(open_ones: &mut Vec<Open<Going>>, place: usize) -> Opti
 }
 
 /// Puts back what a ticket has come to.
-pub(crate) fn put_going(open_ones: &mut Vec<Open<Going>>, place: usize, going: Going)
+pub(crate) fn put_going(open_ones: &mut Vec<OpenTicket<Going>>, place: usize, going: Going)
     requires there { place < length open_ones.old.items }
     ensures put { (o : AnyOpen AnyGoing) → slice_get open_ones.old.items place ≡ Some o → open_ones.new.items ≡ slice_set open_ones.old.items place (record o { going = Some going }) }
 {
@@ -63,7 +63,7 @@ impl<D: Domain> Session<D> {
             IfErr result (λ e. Opens (D.operations self.now.engine.domain) m (Holds (D.operations self.now.engine.domain) self.now.engine.store self.now.book) at.now string.now (Err e)) }
     {
         if string.len() > 2 {
-            return Err(AskError::Refused(Refusal::LongString));
+            return Err(AskError::Refused(QueryRefusal::LongString));
         }
         if self.book.tickets.is_full() {
             return Err(AskError::Full);

@@ -24,7 +24,7 @@ use Rattle.dbm_core.specs.Limits.{IsZeroAtMost}
 use Rattle.dbm_core.specs.Nodes.{IsCoherent, flip}
 use Rattle.dbm_core.specs.Tables.{matrix_of}
 use Rattle.dbm_core.specs.Weights.{AtMost, add_weight}
-use Rattle.plain_values.proofs.Integers.{lower_of}
+use Rattle.base_values.proofs.Integers.{lower_of}
 
 -- ---- tests
 

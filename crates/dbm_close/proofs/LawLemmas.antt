@@ -23,7 +23,7 @@ use Rattle.dbm_core.specs.Limits.{AreWithin, IsWithin}
 use Rattle.dbm_core.specs.Nodes.{flip, is_single}
 use Rattle.dbm_core.specs.Valuations.{IsSatisfiedBy, Meets, node_value}
 use Rattle.dbm_core.specs.Weights.{AtMost, add_weight, least}
-use Rattle.plain_values.proofs.Integers.{crossed}
+use Rattle.base_values.proofs.Integers.{crossed}
 use Rattle.dbm_close.proofs.HalvesLemmas.{single_down}
 
 zero_weight : (a : Option ℤ) → AtMost a (Some (pos 0)) → AtMost (Some (pos 0)) a → a ≡ Some (pos 0)

@@ -8,8 +8,8 @@ ghost use Rattle.dbm_core.specs.Limits.{AreWithin, IsZeroAtMost};
 
 use crate::steps::finish;
 use crate::walks::least_weights;
+use base_values::Memory;
 use dbm_core::Matrix;
-use plain_values::Memory;
 use std::alloc::Global;
 
 /// What closing answers.

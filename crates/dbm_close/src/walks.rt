@@ -8,8 +8,8 @@ ghost use Rattle.dbm_core.specs.Limits.{AreWithin, IsZeroAtMost};
 
 use crate::bounds::is_negative;
 use crate::middle::{Middle, middle_of, via, via_middle};
+use base_values::Memory;
 use dbm_core::Matrix;
-use plain_values::Memory;
 use std::alloc::Global;
 
 /// Step 1: the least weights of all walks, or None where a closed walk is below 0.

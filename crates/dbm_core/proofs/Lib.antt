@@ -1,7 +1,7 @@
 pub mod HalfLemmas
 pub mod LimitLemmas
 pub mod LowerLemmas
-pub mod MarkLemmas
+pub mod ThresholdLemmas
 pub mod NodeLemmas
 pub mod OperationLemmas
 pub mod RisesLemmas

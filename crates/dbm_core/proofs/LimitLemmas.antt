@@ -9,9 +9,9 @@ use Rattle.dbm_core.specs.Half.{HalfMatrix, IsMatrix, HasEntries, entry, nodes, 
 use Rattle.dbm_core.proofs.HalfLemmas.{entry-coherent, flip-kept}
 use Rattle.dbm_core.proofs.NodeLemmas.{flip_below}
 use Rattle.dbm_core.specs.Limits.{IsLimited, AreAtMost, AreWithin, HasZeroDiagonal, IsWithin, IsZeroAtMost}
-use Rattle.dbm_core.proofs.MarkLemmas.{by_order, next_mark-above}
+use Rattle.dbm_core.proofs.ThresholdLemmas.{by_order, next_threshold-above}
 use Rattle.dbm_core.specs.Nodes.{is_single, flip}
-use Rattle.dbm_core.specs.Operations.{forgotten, is_pair, joined, lowered, next_mark, unbounded, widen_bound, widened}
+use Rattle.dbm_core.specs.Operations.{forgotten, is_pair, joined, lowered, next_threshold, unbounded, widen_bound, widened}
 use Rattle.dbm_core.specs.Weights.{AtMost, greatest, least}
 
 pub zero-at_most : (n : ℕ) (d : ℕ → ℕ → Option ℤ) → HasZeroDiagonal n d → IsZeroAtMost n d
@@ -66,15 +66,15 @@ joined-within a b n c p q i j hi hj = greatest-cases (IsWithin c) (entry a i j) 
 pub widen_bound-left : (ms : List ℤ) (d : Bool) (a b : Option ℤ) → AtMost a (widen_bound ms d a b)
 widen_bound-left ms d None b = tt
 widen_bound-left ms d (Some x) None = tt
-widen_bound-left ms d (Some x) (Some y) = by_order (λ v. AtMost (Some x) (cond v (next_mark ms d y) (Some x))) x y
-    (λ l. AtMost-trans (Some x) (Some y) (next_mark ms d y) (let f : x ≤ℤ y = omega (arith, ints) in f) (next_mark-above ms d y))
+widen_bound-left ms d (Some x) (Some y) = by_order (λ v. AtMost (Some x) (cond v (next_threshold ms d y) (Some x))) x y
+    (λ l. AtMost-trans (Some x) (Some y) (next_threshold ms d y) (let f : x ≤ℤ y = omega (arith, ints) in f) (next_threshold-above ms d y))
     (λ l. AtMost-refl (Some x))
 
 pub widen_bound-right : (ms : List ℤ) (d : Bool) (a b : Option ℤ) → AtMost b (widen_bound ms d a b)
 widen_bound-right ms d None b = tt
 widen_bound-right ms d (Some x) None = tt
-widen_bound-right ms d (Some x) (Some y) = by_order (λ v. AtMost (Some y) (cond v (next_mark ms d y) (Some x))) x y
-    (λ l. next_mark-above ms d y) (λ l. l)
+widen_bound-right ms d (Some x) (Some y) = by_order (λ v. AtMost (Some y) (cond v (next_threshold ms d y) (Some x))) x y
+    (λ l. next_threshold-above ms d y) (λ l. l)
 
 pub widened-above_left : (ms : List ℤ) (a b : HalfMatrix) (n : ℕ) → AreAtMost n (entry a) (widened ms a b)
 widened-above_left ms a b n i j hi hj = widen_bound-left ms (is_single i j) (entry a i j) (entry b i j)

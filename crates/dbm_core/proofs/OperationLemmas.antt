@@ -15,11 +15,11 @@ joined-coherent a b h k e i j hi hj =
     ap (λ x. greatest x (entry b i j)) (entry-coherent a h i j hi hj)
     ∙ ap (greatest (entry a (flip j) (flip i))) (entry-coherent b k i j (omega arith) (omega arith))
 
-pub widened-coherent : (marks : List ℤ) (a b : HalfMatrix) → IsMatrix a → IsMatrix b → length b.kinds ≡ length a.kinds → IsCoherent (widened marks a b) (nodes a)
-widened-coherent marks a b h k e i j hi hj =
-    ap (λ d. widen_bound marks d (entry a i j) (entry b i j)) (single-flip i j)
-    ∙ ap (λ x. widen_bound marks (is_single (flip j) (flip i)) x (entry b i j)) (entry-coherent a h i j hi hj)
-    ∙ ap (widen_bound marks (is_single (flip j) (flip i)) (entry a (flip j) (flip i))) (entry-coherent b k i j (omega arith) (omega arith))
+pub widened-coherent : (thresholds : List ℤ) (a b : HalfMatrix) → IsMatrix a → IsMatrix b → length b.kinds ≡ length a.kinds → IsCoherent (widened thresholds a b) (nodes a)
+widened-coherent thresholds a b h k e i j hi hj =
+    ap (λ d. widen_bound thresholds d (entry a i j) (entry b i j)) (single-flip i j)
+    ∙ ap (λ x. widen_bound thresholds (is_single (flip j) (flip i)) x (entry b i j)) (entry-coherent a h i j hi hj)
+    ∙ ap (widen_bound thresholds (is_single (flip j) (flip i)) (entry a (flip j) (flip i))) (entry-coherent b k i j (omega arith) (omega arith))
 
 or_swap : (p q : Bool) → p || q ≡ q || p
 or_swap true true = refl

@@ -6,17 +6,17 @@ use Rattle.std.proofs.lemmas.Bool.{cases_lt}
 use Rattle.std.proofs.lemmas.List.Sums.{sum_by-cons, count_by-le-length}
 use Rattle.dbm_core.specs.Half.{HalfMatrix, IsMatrix, HasEntries, entry, nodes}
 use Rattle.dbm_core.specs.Nodes.{is_single}
-use Rattle.dbm_core.specs.Operations.{mark_value, next_mark, widen_bound, widened, IsMark, IsNextMark}
+use Rattle.dbm_core.specs.Operations.{threshold_value, next_threshold, widen_bound, widened, IsThreshold, IsNextThreshold}
 use Rattle.dbm_core.specs.Rises.{sum_below, bound_rises, rises}
-use Rattle.dbm_core.proofs.MarkLemmas.{by_order, next_mark-is-least, under}
+use Rattle.dbm_core.proofs.ThresholdLemmas.{by_order, next_threshold-is-least, under}
 use Rattle.dbm_core.proofs.SameLemmas.{entries-determine}
 
--- how many marks are above x
+-- how many thresholds are above x
 abbrev above : List ℤ → Bool → ℤ → ℕ
-above marks d x = count_by (λ m. int_lt x (mark_value d m)) marks
+above thresholds d x = count_by (λ m. int_lt x (threshold_value d m)) thresholds
 
-above-cons : (m : ℤ) (ms : List ℤ) (d : Bool) (x : ℤ) → above (m ∷ ms) d x ≡ cond (int_lt x (mark_value d m)) 1 0 + above ms d x
-above-cons m ms d x = sum_by-cons (λ m. cond (int_lt x (mark_value d m)) 1 0) m ms
+above-cons : (m : ℤ) (ms : List ℤ) (d : Bool) (x : ℤ) → above (m ∷ ms) d x ≡ cond (int_lt x (threshold_value d m)) 1 0 + above ms d x
+above-cons m ms d x = sum_by-cons (λ m. cond (int_lt x (threshold_value d m)) 1 0) m ms
 
 one_more : (x y k : ℤ) → x ≤ℤ y → cond (int_lt y k) 1 0 ≤ cond (int_lt x k) 1 0
 one_more x y k l = by_order (λ a. cond a 1 0 ≤ cond (int_lt x k) 1 0) y k
@@ -26,39 +26,39 @@ one_more x y k l = by_order (λ a. cond a 1 0 ≤ cond (int_lt x k) 1 0) y k
 above-mono : (ms : List ℤ) (d : Bool) (x y : ℤ) → x ≤ℤ y → above ms d y ≤ above ms d x
 above-mono [] d x y l = omega arith
 above-mono (m ∷ ms) d x y l = rw (above-cons m ms d x) (rw (above-cons m ms d y)
-    (let p : cond (int_lt y (mark_value d m)) 1 0 ≤ cond (int_lt x (mark_value d m)) 1 0 = one_more x y (mark_value d m) l in
+    (let p : cond (int_lt y (threshold_value d m)) 1 0 ≤ cond (int_lt x (threshold_value d m)) 1 0 = one_more x y (threshold_value d m) l in
     let q : above ms d y ≤ above ms d x = above-mono ms d x y l in add-le-add p q))
 
--- the mark v itself is above x, and not above v
-above-less : (ms : List ℤ) (d : Bool) (x m : ℤ) → IsMark ms m → x <ℤ mark_value d m → above ms d (mark_value d m) < above ms d x
+-- the threshold v itself is above x, and not above v
+above-less : (ms : List ℤ) (d : Bool) (x m : ℤ) → IsThreshold ms m → x <ℤ threshold_value d m → above ms d (threshold_value d m) < above ms d x
 above-less [] d x m i l = absurd i
-above-less (k ∷ ks) d x m (inl e) l = subst (λ t. above (k ∷ ks) d (mark_value d t) < above (k ∷ ks) d x) (sym e)
-    (rw (above-cons k ks d x) (rw (above-cons k ks d (mark_value d k))
-    (here (mark_value d k) x (above ks d (mark_value d k)) (above ks d x) (subst (λ t. x <ℤ mark_value d t) e l)
-    (above-mono ks d x (mark_value d k) (under x (mark_value d k) (subst (λ t. x <ℤ mark_value d t) e l))))))
+above-less (k ∷ ks) d x m (inl e) l = subst (λ t. above (k ∷ ks) d (threshold_value d t) < above (k ∷ ks) d x) (sym e)
+    (rw (above-cons k ks d x) (rw (above-cons k ks d (threshold_value d k))
+    (here (threshold_value d k) x (above ks d (threshold_value d k)) (above ks d x) (subst (λ t. x <ℤ threshold_value d t) e l)
+    (above-mono ks d x (threshold_value d k) (under x (threshold_value d k) (subst (λ t. x <ℤ threshold_value d t) e l))))))
   where
     here : (v x : ℤ) (a b : ℕ) → x <ℤ v → a ≤ b → cond (int_lt v v) 1 0 + a < cond (int_lt x v) 1 0 + b
     here v x a b l h = by_order (λ t. cond t 1 0 + a < cond (int_lt x v) 1 0 + b) v v (λ p. absurd (omega (arith, ints)))
         (λ p. by_order (λ t. 0 + a < cond t 1 0 + b) x v (λ q. omega arith) (λ q. absurd (omega (arith, ints))))
-above-less (k ∷ ks) d x m (inr j) l = rw (above-cons k ks d x) (rw (above-cons k ks d (mark_value d m))
+above-less (k ∷ ks) d x m (inr j) l = rw (above-cons k ks d x) (rw (above-cons k ks d (threshold_value d m))
     (add-lt-add_of_le_of_lt
-    (one_more x (mark_value d m) (mark_value d k) (under x (mark_value d m) l)) (above-less ks d x m j l)))
+    (one_more x (threshold_value d m) (threshold_value d k) (under x (threshold_value d m) l)) (above-less ks d x m j l)))
 
 -- a widened bound is the old one, or can rise less often
 bound_rises-widened : (ms : List ℤ) (d : Bool) (a b : Option ℤ) → (widen_bound ms d a b ≡ a) ⊎ (bound_rises ms d (widen_bound ms d a b) < bound_rises ms d a)
 bound_rises-widened ms d None b = inl refl
 bound_rises-widened ms d (Some x) None = inr (omega arith)
 bound_rises-widened ms d (Some x) (Some y) =
-    by_order (λ v. (cond v (next_mark ms d y) (Some x) ≡ Some x) ⊎ (bound_rises ms d (cond v (next_mark ms d y) (Some x)) < bound_rises ms d (Some x))) x y
-    (λ l. inr (to_mark (next_mark ms d y) (next_mark-is-least ms d y) l)) (λ l. inl refl)
+    by_order (λ v. (cond v (next_threshold ms d y) (Some x) ≡ Some x) ⊎ (bound_rises ms d (cond v (next_threshold ms d y) (Some x)) < bound_rises ms d (Some x))) x y
+    (λ l. inr (to_threshold (next_threshold ms d y) (next_threshold-is-least ms d y) l)) (λ l. inl refl)
   where
     step : (x y v : ℤ) → x <ℤ y → y ≤ℤ v → x <ℤ v
     step x y v p q = omega (arith, ints)
 
-    to_mark : (o : Option ℤ) → IsNextMark ms d y o → x <ℤ y → bound_rises ms d o < bound_rises ms d (Some x)
-    to_mark None h l = omega arith
-    to_mark (Some v) h l =
-        let p : above ms d (mark_value d h.0.0) < above ms d x = above-less ms d x h.0.0 h.0.1 (subst (λ t. x <ℤ t) (sym h.0.2) (step x y v l h.1.0)) in
+    to_threshold : (o : Option ℤ) → IsNextThreshold ms d y o → x <ℤ y → bound_rises ms d o < bound_rises ms d (Some x)
+    to_threshold None h l = omega arith
+    to_threshold (Some v) h l =
+        let p : above ms d (threshold_value d h.0.0) < above ms d x = above-less ms d x h.0.0 h.0.1 (subst (λ t. x <ℤ t) (sym h.0.2) (step x y v l h.1.0)) in
         let q : above ms d v < above ms d x = subst (λ t. above ms d t < above ms d x) h.0.2 p in more (above ms d v) (above ms d x) q
       where
         more : (a b : ℕ) → a < b → 1 + a < 1 + b
@@ -66,7 +66,7 @@ bound_rises-widened ms d (Some x) (Some y) =
 
 bound_rises-few : (ms : List ℤ) (d : Bool) (a : Option ℤ) → bound_rises ms d a ≤ length ms + 1
 bound_rises-few ms d None = omega arith
-bound_rises-few ms d (Some x) = omega (arith, count_by-le-length (λ m. int_lt x (mark_value d m)) ms)
+bound_rises-few ms d (Some x) = omega (arith, count_by-le-length (λ m. int_lt x (threshold_value d m)) ms)
 
 -- ---- sums
 

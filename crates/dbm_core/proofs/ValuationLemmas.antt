@@ -12,7 +12,7 @@ use Rattle.dbm_core.specs.Nodes.{flip}
 use Rattle.dbm_core.specs.Operations.{unbounded, forgotten, lowered}
 use Rattle.dbm_core.specs.Valuations.{node_value, Meets, IsSatisfiedBy, Covers, Frees, AgreeButAt, AddsBound}
 use Rattle.dbm_core.specs.Weights.{AtMost}
-use Rattle.plain_values.proofs.Integers.{neg_twice}
+use Rattle.base_values.proofs.Integers.{neg_twice}
 
 pub node_value-even : (x : ℕ → ℤ) (i : ℕ) → i % 2 ≡ 0 → node_value x i ≡ x (i / 2)
 unfolding node_value

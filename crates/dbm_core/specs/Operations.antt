@@ -36,41 +36,41 @@ lower_pair kept i j x = cond (ltb j (row_width i)) (lower_at kept (row_start i +
 
 -- ---- the widening
 
--- a mark, or its double
-abbrev pub mark_value : Bool → ℤ → ℤ
-mark_value doubled m = cond doubled (m +ℤ m) m
+-- a threshold, or its double
+abbrev pub threshold_value : Bool → ℤ → ℤ
+threshold_value doubled m = cond doubled (m +ℤ m) m
 
--- the least of the marks' values that is not less than the bound; none where all are less
-abbrev pub next_mark : List ℤ → Bool → ℤ → Option ℤ
-next_mark [] doubled bound = None
-next_mark (m ∷ ms) doubled bound = cond (int_lt (mark_value doubled m) bound) (next_mark ms doubled bound)
-    (least (Some (mark_value doubled m)) (next_mark ms doubled bound))
+-- the least of the thresholds' values that is not less than the bound; none where all are less
+abbrev pub next_threshold : List ℤ → Bool → ℤ → Option ℤ
+next_threshold [] doubled bound = None
+next_threshold (m ∷ ms) doubled bound = cond (int_lt (threshold_value doubled m) bound) (next_threshold ms doubled bound)
+    (least (Some (threshold_value doubled m)) (next_threshold ms doubled bound))
 
--- a bound widened: it stays where the new one is not greater, else goes to the next mark
+-- a bound widened: it stays where the new one is not greater, else goes to the next threshold
 abbrev pub widen_bound : List ℤ → Bool → Option ℤ → Option ℤ → Option ℤ
-widen_bound marks doubled None new = None
-widen_bound marks doubled (Some old) None = None
-widen_bound marks doubled (Some old) (Some new) = cond (int_lt old new) (next_mark marks doubled new) (Some old)
+widen_bound thresholds doubled None new = None
+widen_bound thresholds doubled (Some old) None = None
+widen_bound thresholds doubled (Some old) (Some new) = cond (int_lt old new) (next_threshold thresholds doubled new) (Some old)
 
--- the widening of a by b: at a pair (i, i'), whose bound is on twice a value, the marks are doubled
+-- the widening of a by b: at a pair (i, i'), whose bound is on twice a value, the thresholds are doubled
 abbrev pub widened : List ℤ → HalfMatrix → HalfMatrix → ℕ → ℕ → Option ℤ
-widened marks a b i j = widen_bound marks (is_single i j) (entry a i j) (entry b i j)
+widened thresholds a b i j = widen_bound thresholds (is_single i j) (entry a i j) (entry b i j)
 
--- m is one of the marks
-abbrev pub IsMark : List ℤ → ℤ → Type 0
-IsMark [] m = ⊥
-IsMark (k ∷ ks) m = (m ≡ k) ⊎ IsMark ks m
+-- m is one of the thresholds
+abbrev pub IsThreshold : List ℤ → ℤ → Type 0
+IsThreshold [] m = ⊥
+IsThreshold (k ∷ ks) m = (m ≡ k) ⊎ IsThreshold ks m
 
--- each mark's value that is not less than the bound is v at least
-abbrev pub IsBelowMarks : List ℤ → Bool → ℤ → ℤ → Type 0
-IsBelowMarks marks doubled bound v = (m : ℤ) → IsMark marks m → bound ≤ℤ mark_value doubled m → v ≤ℤ mark_value doubled m
+-- each threshold's value that is not less than the bound is v at least
+abbrev pub IsBelowThresholds : List ℤ → Bool → ℤ → ℤ → Type 0
+IsBelowThresholds thresholds doubled bound v = (m : ℤ) → IsThreshold thresholds m → bound ≤ℤ threshold_value doubled m → v ≤ℤ threshold_value doubled m
 
--- the least mark's value that is not less than the bound, none where all are less
-abbrev pub IsNextMark : List ℤ → Bool → ℤ → Option ℤ → Type 0
-IsNextMark marks doubled bound None = (m : ℤ) → IsMark marks m → mark_value doubled m <ℤ bound
-IsNextMark marks doubled bound (Some v) =
-    ((m : ℤ) × IsMark marks m × (mark_value doubled m ≡ v)) × ((bound ≤ℤ v) × IsBelowMarks marks doubled bound v)
+-- the least threshold's value that is not less than the bound, none where all are less
+abbrev pub IsNextThreshold : List ℤ → Bool → ℤ → Option ℤ → Type 0
+IsNextThreshold thresholds doubled bound None = (m : ℤ) → IsThreshold thresholds m → threshold_value doubled m <ℤ bound
+IsNextThreshold thresholds doubled bound (Some v) =
+    ((m : ℤ) × IsThreshold thresholds m × (threshold_value doubled m ≡ v)) × ((bound ≤ℤ v) × IsBelowThresholds thresholds doubled bound v)
 
--- what `next_mark` gives is that
-abbrev pub NextMarkIsLeast : Type 0
-NextMarkIsLeast = (marks : List ℤ) (doubled : Bool) (bound : ℤ) → IsNextMark marks doubled bound (next_mark marks doubled bound)
+-- what `next_threshold` gives is that
+abbrev pub NextThresholdIsLeast : Type 0
+NextThresholdIsLeast = (thresholds : List ℤ) (doubled : Bool) (bound : ℤ) → IsNextThreshold thresholds doubled bound (next_threshold thresholds doubled bound)

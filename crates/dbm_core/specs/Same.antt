@@ -9,7 +9,7 @@ use Rattle.std.specs.Cmp.{IsEquivalence, decided}
 use Rattle.std.proofs.Common.{ap, ◌∙◌}
 use Rattle.std.proofs.lemmas.Slice.Eq.{slice_eq-Decides}
 use Rattle.std.proofs.lemmas.Bool.{and_parts, and_from}
-use Rattle.plain_values.proofs.Integers.{word_Decides}
+use Rattle.base_values.proofs.Integers.{word_Decides}
 
 -- what `==` answers
 abbrev pub same_matrix : HalfMatrix → HalfMatrix → Bool

@@ -7,7 +7,7 @@ ghost use Rattle.dbm_core.specs.Weights.{greatest};
 
 use crate::bounds::{greater, smaller};
 use crate::nodes::{place, width};
-use plain_values::Memory;
+use base_values::Memory;
 use std::alloc::Global;
 
 /// Gives each kept entry of this many slots the value that the closure makes of it.

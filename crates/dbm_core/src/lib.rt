@@ -15,29 +15,29 @@
 //! A matrix has up to 16 slots, so that all sums of closing fit 128 bits.
 //!
 //! `get` and `set_least` take constant time and no memory, and `update_slot` time for the pairs of one
-//! slot alone. Every other operation is one pass over the kept entries (`widen` goes over the marks at
+//! slot alone. Every other operation is one pass over the kept entries (`widen` goes over the thresholds at
 //! each entry that rises): `update` rewrites them in place, and the others make a new matrix by two
 //! allocations.
 #![tactic(auto)]
 
-ghost use Rattle.dbm_core.specs.Operations.{NextMarkIsLeast};
+ghost use Rattle.dbm_core.specs.Operations.{NextThresholdIsLeast};
 ghost use Rattle.dbm_core.specs.Tables.{TablesDetermine, TablesHaveEntries};
 
 mod bounds;
 mod kept;
-mod marks;
 mod matrix;
 mod nodes;
 mod operations;
+mod thresholds;
 
 pub use bounds::{greater, smaller};
 pub use matrix::Matrix;
 pub use nodes::other_sign;
 
-/// A law, with nothing to run: the mark that a widened bound goes to is the least of the marks'
+/// A law, with nothing to run: the threshold that a widened bound goes to is the least of the thresholds'
 /// values that is not less than the bound, and there is none exactly where all are less.
-pub fn next_mark_law()
-    ensures next_mark_is_least { NextMarkIsLeast }
+pub fn next_threshold_law()
+    ensures next_threshold_is_least { NextThresholdIsLeast }
 {}
 
 /// A law, with nothing to run: a coherent table of entries is that of one matrix.

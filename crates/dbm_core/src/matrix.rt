@@ -11,7 +11,7 @@ ghost use Rattle.dbm_core.specs.Valuations.{IsSatisfiedBy, AddsBound};
 
 use crate::kept::{greater_each, lower_kept, update_kept, update_slot_kept};
 use crate::nodes::{other_sign, place, width};
-use plain_values::Memory;
+use base_values::Memory;
 use std::alloc::Global;
 use std::hash::{Hash, Hasher};
 use std::marker::Model;

@@ -7,9 +7,9 @@ ghost use Rattle.dbm_core.specs.Rises.{rises};
 ghost use Rattle.dbm_core.specs.Valuations.{Covers, Frees};
 
 use crate::Matrix;
-use crate::marks::widen_one;
 use crate::nodes::other_sign;
-use plain_values::Memory;
+use crate::thresholds::widen_one;
+use base_values::Memory;
 use std::alloc::Global;
 
 impl Matrix {
@@ -56,17 +56,17 @@ impl Matrix {
     /// The widening of this matrix by another: neither is closed here.
     ///
     /// A bound stays where the other's is not greater. Any other bound becomes the least of the
-    /// marks that is not less than the other's, and none where there is no such mark; for a pair
-    /// (i, i'), whose bound is on twice a slot's value, the marks are doubled. So each entry
-    /// rises at most once for each mark and once more, and never falls.
-    pub fn widen(&self, alloc: Global, marks: &[i64], other: &Matrix) -> Result<Matrix, Memory>
+    /// thresholds that is not less than the other's, and none where there is no such threshold; for a pair
+    /// (i, i'), whose bound is on twice a slot's value, the thresholds are doubled. So each entry
+    /// rises at most once for each threshold and once more, and never falls.
+    pub fn widen(&self, alloc: Global, thresholds: &[i64], other: &Matrix) -> Result<Matrix, Memory>
         requires same_kinds { other.now.kinds ≡ self.now.kinds }
-        ensures entries { IfOk result (HasEntries self.now.kinds (widened marks.now self.now other.now)) }
+        ensures entries { IfOk result (HasEntries self.now.kinds (widened thresholds.now self.now other.now)) }
         ensures covers_left { IfOk result (Covers self.now) }
         ensures covers_right { IfOk result (Covers other.now) }
         ensures limited { IsLimited (2 ^ 64) self.now → IsLimited (2 ^ 64) other.now → IfOk result (IsLimited (2 ^ 64)) }
-        ensures rises { IfOk result (λ m. (m ≡ self.now) ⊎ (rises marks.now m < rises marks.now self.now)) }
-        ensures few_rises { rises marks.now self.now ≤ nodes self.now * (nodes self.now * (length marks.now + 1)) }
+        ensures rises { IfOk result (λ m. (m ≡ self.now) ⊎ (rises thresholds.now m < rises thresholds.now self.now)) }
+        ensures few_rises { rises thresholds.now self.now ≤ nodes self.now * (nodes self.now * (length thresholds.now + 1)) }
     {
         let kinds = self.kinds();
         let _slots = other.kinds();
@@ -78,9 +78,16 @@ impl Matrix {
                 requires column { j < nodes self.now }
                 requires few { nodes self.now < 2 ^ 32 }
                 requires same { other.now.kinds ≡ self.now.kinds }
-                ensures value { result ≡ widened marks.entry.now self.entry.now other.entry.now i j }
+                ensures value { result ≡ widened thresholds.entry.now self.entry.now other.entry.now i j }
                 ensures within { IsWithin (2 ^ 64) (entry self.entry.now i j) → IsWithin (2 ^ 64) result }
-            { widen_one(marks, j == other_sign(i), self.get(i, j), other.get(i, j)) },
+            {
+                widen_one(
+                    thresholds,
+                    j == other_sign(i),
+                    self.get(i, j),
+                    other.get(i, j),
+                )
+            },
         )
     }
 }

@@ -23,7 +23,7 @@ use Rattle.dbm_incremental.specs.Triangles.{AreSoundWeights}
 use Rattle.dbm_incremental.proofs.StandLemmas.{apart-even, apart-odd, by_node, flip-out, neg-zero, node-even, node-odd, node-other, reached-self, shift-even, shift-odd, shift-other, stood, stood-inside, stood-out, stood-strong, stood-weights}
 use Rattle.dbm_close.proofs.SlotLemmas.{even-flip}
 use Rattle.dbm_core.proofs.ValuationLemmas.{lowered-here}
-use Rattle.plain_values.proofs.Integers.{neg_twice}
+use Rattle.base_values.proofs.Integers.{neg_twice}
 
 -- entries from a node to one that stands for the same
 stood-edge : (d : ℕ → ℕ → Option ℤ) (n : ℕ) (o : ℕ → ℕ) (p : ℕ → ℤ) (i j k : ℕ) (z : ℤ) → HasZeroDiagonal n d → k < n → o i ≡ k → o j ≡ k → p j -ℤ p i ≡ z → AtMost (stood d o p i j) (Some z)

@@ -19,7 +19,7 @@ use Rattle.dbm_incremental.specs.ClosedMatrices.{IsClosed, IsStrong, IsWhole}
 use Rattle.dbm_incremental.specs.Triangles.{IsTriangular}
 use Rattle.dbm_core.proofs.LimitLemmas.{greatest-left, greatest-right, greatest-cases}
 use Rattle.std.proofs.Math.Bool.{or-true}
-use Rattle.plain_values.proofs.Integers.{between}
+use Rattle.base_values.proofs.Integers.{between}
 
 greatest-least : (a b c : Option ℤ) → AtMost a c → AtMost b c → AtMost (greatest a b) c
 greatest-least a b None p q = tt

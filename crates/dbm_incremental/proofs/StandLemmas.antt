@@ -16,7 +16,7 @@ use Rattle.dbm_incremental.specs.ClosedMatrices.{IsStrong}
 use Rattle.dbm_incremental.specs.Equations.{stand_node, stand_shift}
 use Rattle.dbm_incremental.specs.Triangles.{AreSoundWeights}
 use Rattle.dbm_close.proofs.SlotLemmas.{even-flip, odd-flip}
-use Rattle.plain_values.proofs.Integers.{neg_twice}
+use Rattle.base_values.proofs.Integers.{neg_twice}
 
 -- ---- an equation: each node i stands for o i plus p i
 

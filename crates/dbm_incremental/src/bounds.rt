@@ -7,9 +7,9 @@ ghost use Rattle.dbm_incremental.specs.ClosedMatrices.{IsClosed, IsWhole};
 ghost use Rattle.dbm_incremental.specs.Steps.{AreBounds, ClosesAllLowered};
 
 use crate::lowering::lower;
+use base_values::Memory;
 use dbm_close::{Closed, finish};
 use dbm_core::Matrix;
-use plain_values::Memory;
 use std::alloc::Global;
 
 /// A bound on the difference of what two nodes stand for: `v_column - v_row` is `bound` at most.

@@ -6,9 +6,9 @@ ghost use Rattle.dbm_incremental.specs.Answers.{IsClosedAnswer};
 ghost use Rattle.dbm_incremental.specs.ClosedMatrices.{IsClosed, IsStrong, IsWhole};
 ghost use Rattle.dbm_incremental.specs.Equations.{ClosesEquated, stand_node, stand_shift, stood_entry};
 
+use base_values::Memory;
 use dbm_close::{Closed, finish_slot, plus};
 use dbm_core::{Matrix, other_sign};
-use plain_values::Memory;
 use std::alloc::Global;
 
 /// Closes a closed matrix in which slot q's bounds are dropped and q is made node y, of another

@@ -7,8 +7,8 @@ use Rattle.dbm_incremental.specs.ClosedMatrices.{IsClosed}
 use Rattle.dbm_incremental.specs.declared.bounds.Bound.{Bound}
 use Rattle.dbm_incremental.specs.Steps.{ClosesAllLowered, lowered_all}
 use Rattle.dbm_incremental.specs.Triangles.{AreSoundWeights}
-use Rattle.dbm_narrow.specs.declared.closing.Outcome.{Outcome}
-use Rattle.dbm_narrow.specs.declared.closing.Outcome.TheVariants.{Closed, Empty, TooWide as OutcomeTooWide}
+use Rattle.dbm_narrow.specs.declared.closing.ClosingResult.{ClosingResult}
+use Rattle.dbm_narrow.specs.declared.closing.ClosingResult.TheVariants.{Closed, Empty, TooWide as OutcomeTooWide}
 use Rattle.dbm_narrow.specs.declared.walks.Walks.{Walks}
 use Rattle.dbm_narrow.specs.declared.walks.Walks.TheVariants.{Done, Negative, TooWide}
 use Rattle.dbm_narrow.specs.Entries.{held}
@@ -32,7 +32,7 @@ pub record LowersClosed (kinds : List Bool) (xs ys : List ℤ) (bs : List Bound)
   pub closed : IsClosed (held kinds ys)
 
 -- what closing it answers
-abbrev pub IsLoweredOutcome : List Bool → List ℤ → List ℤ → List Bound → Outcome → Type 0
+abbrev pub IsLoweredOutcome : List Bool → List ℤ → List ℤ → List Bound → ClosingResult → Type 0
 IsLoweredOutcome kinds xs ys bs Closed = LowersClosed kinds xs ys bs
 IsLoweredOutcome kinds xs ys bs Empty = ClosesAllLowered (held kinds xs) bs wide.Empty
 IsLoweredOutcome kinds xs ys bs OutcomeTooWide = Unit {0}

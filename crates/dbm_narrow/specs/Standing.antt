@@ -5,8 +5,8 @@ use Rattle.dbm_core.specs.Half.{entry, row_width}
 use Rattle.dbm_core.specs.Nodes.{flip}
 use Rattle.dbm_incremental.specs.ClosedMatrices.{IsClosed}
 use Rattle.dbm_incremental.specs.Equations.{ClosesEquated, stood_entry}
-use Rattle.dbm_narrow.specs.declared.closing.Outcome.{Outcome}
-use Rattle.dbm_narrow.specs.declared.closing.Outcome.TheVariants.{Closed, Empty, TooWide}
+use Rattle.dbm_narrow.specs.declared.closing.ClosingResult.{ClosingResult}
+use Rattle.dbm_narrow.specs.declared.closing.ClosingResult.TheVariants.{Closed, Empty, TooWide}
 use Rattle.dbm_narrow.specs.Entries.{AreEntries, at, held, settle}
 use Rattle.dbm_narrow.specs.Rounds.{IsNarrow}
 
@@ -31,7 +31,7 @@ pub record EquatesClosed (kinds : List Bool) (xs ys : List ℤ) (q y : ℕ) (c :
   pub closes : ClosesEquated (held kinds xs) q y c (wide.Matrix (held kinds ys))
   pub closed : IsClosed (held kinds ys)
 
-abbrev pub IsEquatedOutcome : List Bool → List ℤ → List ℤ → ℕ → ℕ → ℤ → Outcome → Type 0
+abbrev pub IsEquatedOutcome : List Bool → List ℤ → List ℤ → ℕ → ℕ → ℤ → ClosingResult → Type 0
 IsEquatedOutcome kinds xs ys q y c Closed = EquatesClosed kinds xs ys q y c
 IsEquatedOutcome kinds xs ys q y c Empty = ClosesEquated (held kinds xs) q y c wide.Empty
 IsEquatedOutcome kinds xs ys q y c TooWide = Unit {0}

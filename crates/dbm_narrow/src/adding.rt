@@ -6,7 +6,7 @@ ghost use Rattle.dbm_narrow.specs.Held.{IsSmallOf};
 ghost use Rattle.dbm_narrow.specs.Lowerings.{HasOwnWeights};
 ghost use Rattle.dbm_narrow.specs.Rounds.{IsNarrow};
 
-use crate::closing::Outcome;
+use crate::closing::ClosingResult;
 use crate::lower::lower;
 use crate::steps::finish;
 use crate::walks::Walks;
@@ -48,7 +48,7 @@ pub fn lower_all(kinds: &[bool], entries: &mut [i32], bounds: &[Bound]) -> Walks
 
 /// Closes the entries with the bounds lowered, in place. After an answer other than `Closed` they are
 /// of no use.
-pub fn close_lowered(kinds: &[bool], entries: &mut [i32], bounds: &[Bound]) -> Outcome
+pub fn close_lowered(kinds: &[bool], entries: &mut [i32], bounds: &[Bound]) -> ClosingResult
     requires narrow { IsNarrow kinds.now entries.old }
     requires weights { HasOwnWeights kinds.now entries.old }
     requires bounds { AreBounds (2 * length kinds.now) bounds.now }
@@ -56,11 +56,11 @@ pub fn close_lowered(kinds: &[bool], entries: &mut [i32], bounds: &[Bound]) -> O
 {
     match lower_all(kinds, entries, bounds) {
         Walks::Done => if finish(kinds, entries) {
-            Outcome::Closed
+            ClosingResult::Closed
         } else {
-            Outcome::Empty
+            ClosingResult::Empty
         },
-        Walks::Negative => Outcome::Empty,
-        Walks::TooWide => Outcome::TooWide,
+        Walks::Negative => ClosingResult::Empty,
+        Walks::TooWide => ClosingResult::TooWide,
     }
 }

@@ -8,10 +8,10 @@ ghost use Rattle.dbm_narrow.specs.Closed.{IsClosing, IsClosingEquated, IsClosing
 
 use crate::Narrow;
 use crate::adding::close_lowered;
-use crate::closing::{Outcome, close_entries};
+use crate::closing::{ClosingResult, close_entries};
 use crate::standing::close_stood;
+use base_values::Memory;
 use dbm_incremental::Bound;
-use plain_values::Memory;
 use std::alloc::Global;
 
 /// What closing answers.
@@ -34,9 +34,9 @@ pub fn close(alloc: Global, m: &Narrow) -> Result<Closing, Memory>
     let kinds = Vec::from_slice(alloc, m.kinds.as_slice())?;
     let mut entries = Vec::from_slice(alloc, m.entries.as_slice())?;
     match close_entries(kinds.as_slice(), entries.as_mut_slice()) {
-        Outcome::Closed => Ok(Closing::Matrix(Narrow { kinds, entries })),
-        Outcome::Empty => Ok(Closing::Empty),
-        Outcome::TooWide => Ok(Closing::TooWide),
+        ClosingResult::Closed => Ok(Closing::Matrix(Narrow { kinds, entries })),
+        ClosingResult::Empty => Ok(Closing::Empty),
+        ClosingResult::TooWide => Ok(Closing::TooWide),
     }
 }
 
@@ -53,9 +53,9 @@ pub fn close_after_bounds(
     let kinds = Vec::from_slice(alloc, closed.kinds.as_slice())?;
     let mut entries = Vec::from_slice(alloc, closed.entries.as_slice())?;
     match close_lowered(kinds.as_slice(), entries.as_mut_slice(), bounds) {
-        Outcome::Closed => Ok(Closing::Matrix(Narrow { kinds, entries })),
-        Outcome::Empty => Ok(Closing::Empty),
-        Outcome::TooWide => Ok(Closing::TooWide),
+        ClosingResult::Closed => Ok(Closing::Matrix(Narrow { kinds, entries })),
+        ClosingResult::Empty => Ok(Closing::Empty),
+        ClosingResult::TooWide => Ok(Closing::TooWide),
     }
 }
 
@@ -77,8 +77,8 @@ pub fn close_equation(
     let kinds = Vec::from_slice(alloc, closed.kinds.as_slice())?;
     let mut entries = Vec::from_slice(alloc, closed.entries.as_slice())?;
     match close_stood(kinds.as_slice(), entries.as_mut_slice(), q, y, c) {
-        Outcome::Closed => Ok(Closing::Matrix(Narrow { kinds, entries })),
-        Outcome::Empty => Ok(Closing::Empty),
-        Outcome::TooWide => Ok(Closing::TooWide),
+        ClosingResult::Closed => Ok(Closing::Matrix(Narrow { kinds, entries })),
+        ClosingResult::Empty => Ok(Closing::Empty),
+        ClosingResult::TooWide => Ok(Closing::TooWide),
     }
 }

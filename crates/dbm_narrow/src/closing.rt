@@ -8,7 +8,7 @@ use crate::walks::{Walks, least_weights};
 
 /// What closing answers.
 #[derive(Clone, Copy, Debug, PartialEq, Eq)]
-pub enum Outcome {
+pub enum ClosingResult {
     /// The entries are closed.
     Closed,
     /// No values satisfy them.
@@ -18,18 +18,18 @@ pub enum Outcome {
 }
 
 /// Closes the entries, in place. After an answer other than `Closed` they are of no use.
-pub fn close_entries(kinds: &[bool], entries: &mut [i32]) -> Outcome
+pub fn close_entries(kinds: &[bool], entries: &mut [i32]) -> ClosingResult
     requires narrow { IsNarrow kinds.now entries.old }
     requires diagonal { HasLowDiagonal kinds.now entries.old }
     ensures outcome { IsOutcome kinds.now entries.old entries.new result }
 {
     match least_weights(kinds, entries) {
         Walks::Done => if finish(kinds, entries) {
-            Outcome::Closed
+            ClosingResult::Closed
         } else {
-            Outcome::Empty
+            ClosingResult::Empty
         },
-        Walks::Negative => Outcome::Empty,
-        Walks::TooWide => Outcome::TooWide,
+        Walks::Negative => ClosingResult::Empty,
+        Walks::TooWide => ClosingResult::TooWide,
     }
 }

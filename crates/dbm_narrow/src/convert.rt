@@ -6,8 +6,8 @@ ghost use Rattle.dbm_narrow.specs.Held.{IsEntryOf, IsNarrowOf};
 use crate::Narrow;
 use crate::adding::small_bound;
 use crate::entries::NONE;
+use base_values::Memory;
 use dbm_core::Matrix;
-use plain_values::Memory;
 use std::alloc::Global;
 
 /// The matrix in narrow entries, None exactly where a bound lies outside the limits.

@@ -8,7 +8,7 @@ ghost use Rattle.dbm_narrow.specs.Rows.{EachIs, RestStays, RowIs, RowsAre};
 use crate::Narrow;
 use crate::entries::NONE;
 use crate::rows::{row_at, row_len};
-use plain_values::Memory;
+use base_values::Memory;
 use std::alloc::Global;
 
 /// The bounds on a slot dropped: the slot may then have any value. The diagonal stays.

@@ -7,7 +7,7 @@ ghost use Rattle.dbm_narrow.specs.Rows.{AreGreater};
 
 use crate::Narrow;
 use crate::entries::greater;
-use plain_values::Memory;
+use base_values::Memory;
 use std::alloc::Global;
 
 /// The greater of the two bounds at each pair: the result fits, as both do.

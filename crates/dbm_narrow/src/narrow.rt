@@ -5,7 +5,7 @@ ghost use Rattle.dbm_core.specs.Limits.{AreWithin};
 
 use crate::entries::wide_bound;
 use crate::rows::entry_at;
-use plain_values::Memory;
+use base_values::Memory;
 use std::alloc::Global;
 use std::marker::Model;
 

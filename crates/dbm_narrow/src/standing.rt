@@ -8,7 +8,7 @@ ghost use Rattle.dbm_narrow.specs.Rows.{ColumnsAre, EachIs, RestStays, RowIs, Ro
 ghost use Rattle.dbm_narrow.specs.Standing.{IsEquatedOutcome, StandsTo, replaced, stood_at};
 
 use crate::adding::small_bound;
-use crate::closing::Outcome;
+use crate::closing::ClosingResult;
 use crate::entries::{FREE, GREATEST, LEAST, plus};
 use crate::middle::stepped;
 use crate::rows::{row_at, row_len, whole_row};
@@ -17,7 +17,13 @@ use dbm_core::other_sign;
 
 /// Closes the entries with slot q made node y plus c, in place. After an answer other than `Closed`
 /// they are of no use.
-pub fn close_stood(kinds: &[bool], entries: &mut [i32], q: usize, y: usize, c: i128) -> Outcome
+pub fn close_stood(
+    kinds: &[bool],
+    entries: &mut [i32],
+    q: usize,
+    y: usize,
+    c: i128,
+) -> ClosingResult
     requires narrow { IsNarrow kinds.now entries.old }
     requires closed { IsClosed (held kinds.now entries.old) }
     requires slot { q < length kinds.now }
@@ -26,13 +32,13 @@ pub fn close_stood(kinds: &[bool], entries: &mut [i32], q: usize, y: usize, c: i
     ensures outcome { IsEquatedOutcome kinds.now entries.old entries.new q y c result }
 {
     match small_bound(c) {
-        None => Outcome::TooWide,
+        None => ClosingResult::TooWide,
         Some(small) => close_small(kinds, entries, q, y, small),
     }
 }
 
 // The same of a number within the limits.
-fn close_small(kinds: &[bool], entries: &mut [i32], q: usize, y: usize, c: i32) -> Outcome
+fn close_small(kinds: &[bool], entries: &mut [i32], q: usize, y: usize, c: i32) -> ClosingResult
     requires narrow { IsNarrow kinds.now entries.old }
     requires closed { IsClosed (held kinds.now entries.old) }
     requires slot { q < length kinds.now }
@@ -43,12 +49,12 @@ fn close_small(kinds: &[bool], entries: &mut [i32], q: usize, y: usize, c: i32) 
     ensures outcome { IsEquatedOutcome kinds.now entries.old entries.new q y c result }
 {
     if !stand(kinds, entries, q, y, c) {
-        return Outcome::TooWide;
+        return ClosingResult::TooWide;
     }
     if finish(kinds, entries) {
-        Outcome::Closed
+        ClosingResult::Closed
     } else {
-        Outcome::Empty
+        ClosingResult::Empty
     }
 }
 

@@ -3,9 +3,9 @@ use Rattle.std.proofs.Common.{ℕ, zero, suc, ◌+◌, ◌<◌, ◌≡◌, List,
 use Rattle.imp_slots.specs.Plain.{Numeric}
 use Rattle.num_bounds.specs.Bounds.{Bounds}
 use Rattle.num_bounds.specs.Operations.{single}
-use Rattle.interval_meaning.specs.Operations.{filled, in_front}
+use Rattle.dom_interval_meaning.specs.Operations.{filled, in_front}
 use Rattle.dom_interval.specs.Lists.{filled_slot, behind_these}
-use Rattle.interval_meaning.specs.declared.slot_range.SlotRange.{SlotRange}
+use Rattle.dom_interval_meaning.specs.declared.slot_range.SlotRange.{SlotRange}
 
 step_none : (ks : List Numeric) (i : ℕ) (k : Numeric) → i < length ks → k ≡ get_or ks i k → filled (drop i ks) [] ≡ record { is_array = k.is_array; range = single (pos 0) } ∷ filled (drop (suc i) ks) []
 step_none [] i k h e = absurd (omega arith)

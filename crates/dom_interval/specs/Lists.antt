@@ -3,7 +3,7 @@ use Rattle.std.specs.Prelude.{ℕ, pos, List, ◌++◌, slice_index_or, Option, 
 use Rattle.imp_slots.specs.Plain.{Numeric}
 use Rattle.num_bounds.specs.Bounds.{Bounds}
 use Rattle.num_bounds.specs.Operations.{single}
-use Rattle.interval_meaning.specs.declared.slot_range.SlotRange.{SlotRange}
+use Rattle.dom_interval_meaning.specs.declared.slot_range.SlotRange.{SlotRange}
 
 -- the slot of a layout at place i, with the range at that place
 abbrev pub filled_slot : Numeric → List Bounds → ℕ → SlotRange

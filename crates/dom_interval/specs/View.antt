@@ -1,4 +1,4 @@
-use Rattle.interval_meaning.specs.State.{Intervals, Empty, Within}
+use Rattle.dom_interval_meaning.specs.State.{Intervals, Empty, Within}
 use Rattle.dom_interval.specs.declared.state.Kept.{Kept}
 use Rattle.dom_interval.specs.declared.state.Kept.TheVariants as kept
 

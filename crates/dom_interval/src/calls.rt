@@ -2,8 +2,8 @@
 ghost use Rattle.std.specs.Prelude.{◌≡◌, IfOk, map};
 ghost use Rattle.std.specs.Option.{option_map};
 ghost use Rattle.imp_slots.specs.CallViews.{argument_of, taken_of};
-ghost use Rattle.interval_meaning.specs.State.{Within};
-ghost use Rattle.interval_meaning.specs.Operations as operations;
+ghost use Rattle.dom_interval_meaning.specs.State.{Within};
+ghost use Rattle.dom_interval_meaning.specs.Operations as operations;
 ghost use Rattle.dom_interval.specs.Lists.{filled_slot, behind_these};
 
 use crate::compare::{empty, with_range, within};
@@ -48,7 +48,7 @@ fn filled(
 }
 
 /// The state in front of main's body.
-#[tactic(auto, unfolding(interval_meaning::specs::Operations::init))]
+#[tactic(auto, unfolding(dom_interval_meaning::specs::Operations::init))]
 pub fn initial(alloc: Global, main: &Layout) -> Result<IntervalState, AllocError>
     ensures exact { IfOk result (λ s. s ≡ operations.init main.now) }
 {
@@ -84,7 +84,7 @@ fn argument_ranges(
 }
 
 /// The slots of a callee's frame.
-#[tactic(auto, unfolding(interval_meaning::specs::Operations::enter))]
+#[tactic(auto, unfolding(dom_interval_meaning::specs::Operations::enter))]
 fn entered_from(
     alloc: Global,
     entering: &Entering,
@@ -102,7 +102,7 @@ fn entered_from(
 }
 
 /// The state in front of a callee's body.
-#[tactic(auto, unfolding(interval_meaning::specs::Operations::enter))]
+#[tactic(auto, unfolding(dom_interval_meaning::specs::Operations::enter))]
 pub fn entered(
     alloc: Global,
     entering: &Entering,
@@ -128,7 +128,7 @@ fn taken(returning: Option<Returning>, slots: Vec<SlotRange>, callee: &[SlotRang
 }
 
 /// The state behind a call.
-#[tactic(auto, unfolding(interval_meaning::specs::Operations::leave))]
+#[tactic(auto, unfolding(dom_interval_meaning::specs::Operations::leave))]
 pub fn left(
     returning: Option<Returning>,
     s: &IntervalState,

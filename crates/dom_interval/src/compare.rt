@@ -2,9 +2,9 @@
 ghost use Rattle.std.specs.Prelude.{◌≡◌, ◌&&◌, false};
 ghost use Rattle.std.specs.Ordering.{int_eq};
 ghost use Rattle.domain_laws.specs.Checks.{opposite};
-ghost use Rattle.interval_meaning.specs.State.{Empty, Within};
-ghost use Rattle.interval_meaning.specs.Ranges as ranges;
-ghost use Rattle.interval_meaning.specs.Operations as operations;
+ghost use Rattle.dom_interval_meaning.specs.State.{Empty, Within};
+ghost use Rattle.dom_interval_meaning.specs.Ranges as ranges;
+ghost use Rattle.dom_interval_meaning.specs.Operations as operations;
 
 use crate::evaluate::{evaluate, range};
 use crate::state::Kept;

@@ -1,8 +1,8 @@
 //! The intervals as a domain.
 ghost use Rattle.std.specs.Prelude.{refl};
-ghost use Rattle.interval_meaning.specs.Domain.{intervals};
-ghost use Rattle.interval_meaning.specs.Covers as meaning;
-ghost use Rattle.interval_meaning.proofs.Laws.{interval_laws, interval_keeps_dead};
+ghost use Rattle.dom_interval_meaning.specs.Domain.{intervals};
+ghost use Rattle.dom_interval_meaning.specs.Covers as meaning;
+ghost use Rattle.dom_interval_meaning.proofs.Laws.{interval_laws, interval_keeps_dead};
 
 use crate::IntervalState;
 use crate::calls::{entered, initial, left};
@@ -12,9 +12,9 @@ use crate::statements::{behind, is_empty};
 use crate::text::state_text;
 use crate::verdicts::verdict;
 use crate::widening::widened;
+use base_values::{Memory, Text};
 use domain_laws::{Domain, Steps, Verdict};
 use imp_slots::{Layout, SlotCall, SlotCond, SlotStmt};
-use plain_values::{Memory, Text};
 use std::alloc::Global;
 use std::sync::ledger::Ledger;
 
@@ -79,13 +79,13 @@ impl Domain for Interval {
     fn widen<L: Ledger>(
         &self,
         alloc: Global,
-        marks: &[i64],
+        thresholds: &[i64],
         l: &IntervalState,
         r: &IntervalState,
         steps: &mut Steps<L>,
     ) -> Result<IntervalState, Memory> {
         steps.tick();
-        Ok(widened(alloc, marks, l, r)?)
+        Ok(widened(alloc, thresholds, l, r)?)
     }
 
     fn enter<L: Ledger>(

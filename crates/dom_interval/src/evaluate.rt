@@ -1,11 +1,11 @@
 //! The ranges of expressions.
 ghost use Rattle.std.specs.Prelude.{◌≡◌, ◌<◌, ◌^◌, pos, false};
-ghost use Rattle.interval_meaning.specs.Ranges.{slot_at, range_at, range_of, extremes};
+ghost use Rattle.dom_interval_meaning.specs.Ranges.{slot_at, range_at, range_of, extremes};
 
 use crate::SlotRange;
+use dom_numeric::{LONGEST, operate};
 use imp_slots::{SlotExpr, SlotExprNode};
 use num_bounds::Range;
-use numeric_slots::{LONGEST, operate};
 
 /// The full range.
 pub fn full() -> Range
@@ -56,7 +56,7 @@ fn literal(n: u64) -> Range
 }
 
 /// The range of an expression, or `None` where it has no value.
-#[tactic(auto, unfolding(numeric_slots::specs::Ranges::range_by))]
+#[tactic(auto, unfolding(dom_numeric::specs::Ranges::range_by))]
 pub fn evaluate(slots: &[SlotRange], expr: &SlotExpr) -> Option<Range>
     ensures exact { result ≡ range_of slots.now expr.now }
 {

@@ -2,15 +2,15 @@
 ghost use Rattle.std.specs.Prelude.{◌≡◌, IfOk, map};
 ghost use Rattle.std.specs.List.{zip};
 ghost use Rattle.num_bounds.specs.Operations.{hull_of};
-ghost use Rattle.interval_meaning.specs.Operations as operations;
+ghost use Rattle.dom_interval_meaning.specs.Operations as operations;
 
 use crate::compare::{compare, empty, opposite_of, within};
 use crate::state::Kept;
 use crate::{IntervalState, SlotRange};
+use base_values::Memory;
 use imp_slots::{SlotCond, SlotCondNode, SlotExpr};
 use imp_syntax::Relation;
 use num_bounds::Range;
-use plain_values::Memory;
 use std::alloc::{AllocError, Global};
 
 /// The slots once more.
@@ -56,7 +56,7 @@ fn hulls(
 }
 
 /// The outer ends of both.
-#[tactic(auto, unfolding(interval_meaning::specs::Operations::join))]
+#[tactic(auto, unfolding(dom_interval_meaning::specs::Operations::join))]
 pub fn joined(
     alloc: Global,
     l: &IntervalState,
@@ -81,7 +81,7 @@ fn compared(relation: Relation, a: &SlotExpr, b: &SlotExpr, s: IntervalState) ->
 }
 
 /// The state where the condition has this truth value.
-#[tactic(auto, unfolding(interval_meaning::specs::Operations::assume), using(crate::proofs::Links::links_say_nothing))]
+#[tactic(auto, unfolding(dom_interval_meaning::specs::Operations::assume), using(crate::proofs::Links::links_say_nothing))]
 pub fn assumed(
     alloc: Global,
     c: &SlotCond,

@@ -1,17 +1,17 @@
 //! Intervals as texts, and their order.
 ghost use Rattle.std.specs.Prelude.{◌≡◌};
 ghost use Rattle.std.specs.Option.{option_map};
-ghost use Rattle.interval_words.specs.Slots.{slots_in};
-ghost use Rattle.interval_words.specs.Words.{interval_port};
-ghost use Rattle.interval_words.proofs.Portable.{interval_portable};
+ghost use Rattle.dom_interval_words.specs.Slots.{slots_in};
+ghost use Rattle.dom_interval_words.specs.Words.{interval_port};
+ghost use Rattle.dom_interval_words.proofs.Portable.{interval_portable};
 
 use crate::compare::{empty, within};
 use crate::domain::Interval;
 use crate::state::Kept;
 use crate::{IntervalState, SlotRange};
+use base_values::{Memory, Text};
+use cert_meaning::Portable;
 use imp_slots::Layout;
-use plain_values::{Memory, Text};
-use portable_states::Portable;
 use std::alloc::Global;
 
 /// The slots of a state, none where it is Empty.
@@ -38,7 +38,7 @@ impl Portable for Interval {
     ghost port = { λ d. interval_port };
 
     fn put(&self, alloc: Global, s: &IntervalState) -> Result<Text, Memory> {
-        interval_words::put(alloc, slots(s))
+        dom_interval_words::put(alloc, slots(s))
     }
 
     fn take(
@@ -47,11 +47,11 @@ impl Portable for Interval {
         layouts: &[Layout],
         text: &[u8],
     ) -> Result<Option<IntervalState>, Memory> {
-        Ok(interval_words::take(alloc, layouts, text)?.map(state))
+        Ok(dom_interval_words::take(alloc, layouts, text)?.map(state))
     }
 
     fn leq(&self, alloc: Global, l: &IntervalState, r: &IntervalState) -> Result<bool, Memory> {
-        Ok(interval_words::leq(slots(l), slots(r)))
+        Ok(dom_interval_words::leq(slots(l), slots(r)))
     }
 
     ghost port_laws = { λ d. interval_portable };

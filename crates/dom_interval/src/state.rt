@@ -1,9 +1,9 @@
 //! States of the intervals' domain, and when two are equal.
 ghost use Rattle.std.specs.Prelude.{◌≡◌};
-ghost use Rattle.interval_meaning.specs.State.{Intervals, intervals_same, intervals_fed};
-ghost use Rattle.interval_meaning.proofs.StateLaws.{intervals_equiv, intervals_per, intervals_fed-same};
+ghost use Rattle.dom_interval_meaning.specs.State.{Intervals, intervals_same, intervals_fed};
+ghost use Rattle.dom_interval_meaning.proofs.StateLaws.{intervals_equiv, intervals_per, intervals_fed-same};
 
-use interval_meaning::SlotRange;
+use dom_interval_meaning::SlotRange;
 use std::hash::{Hash, Hasher};
 use std::marker::Model;
 
@@ -20,7 +20,7 @@ pub(crate) enum Kept {
 }
 
 impl Model for IntervalState {
-    ghost use Rattle.interval_meaning.specs.State.{Intervals, intervals_code};
+    ghost use Rattle.dom_interval_meaning.specs.State.{Intervals, intervals_code};
 
     ghost Value = { Intervals };
 

@@ -6,24 +6,24 @@ ghost use Rattle.imp_syntax.specs.declared.words.Relation.TheVariants as relatio
 ghost use Rattle.imp_slots.specs.ActionViews.{effect_of, act_of};
 ghost use Rattle.domain_laws.specs.Checks as checks;
 ghost use Rattle.domain_laws.specs.Guards.{past_check};
-ghost use Rattle.interval_meaning.specs.State.{Within};
-ghost use Rattle.interval_meaning.specs.Ranges as ranges;
-ghost use Rattle.interval_meaning.specs.Operations as operations;
+ghost use Rattle.dom_interval_meaning.specs.State.{Within};
+ghost use Rattle.dom_interval_meaning.specs.Ranges as ranges;
+ghost use Rattle.dom_interval_meaning.specs.Operations as operations;
 
 use crate::compare::{empty, related, side, with_range, within};
 use crate::evaluate::{evaluate, full, range};
 use crate::guards::{assumed, copied};
 use crate::state::Kept;
 use crate::{IntervalState, SlotRange};
+use dom_numeric::LONGEST;
 use domain_laws::Verdict;
 use imp_slots::{SlotAction, SlotExpr, SlotStmt};
 use imp_syntax::Relation;
 use num_bounds::Range;
-use numeric_slots::LONGEST;
 use std::alloc::{AllocError, Global};
 
 /// `0 <= e`
-#[tactic(auto, unfolding(numeric_slots::specs::Ranges::range_by))]
+#[tactic(auto, unfolding(dom_numeric::specs::Ranges::range_by))]
 fn not_below_zero(e: &SlotExpr, slots: Vec<SlotRange>) -> IntervalState
     ensures exact { result ≡ operations.compare_ranges relations.AtMost (Literal 0) e.now slots.items }
 {
@@ -41,7 +41,7 @@ fn not_below_zero(e: &SlotExpr, slots: Vec<SlotRange>) -> IntervalState
 }
 
 /// `e < len a`
-#[tactic(auto, unfolding(numeric_slots::specs::Ranges::range_by))]
+#[tactic(auto, unfolding(dom_numeric::specs::Ranges::range_by))]
 fn below_length(a: u32, e: &SlotExpr, slots: Vec<SlotRange>) -> IntervalState
     ensures exact { result ≡ operations.compare_ranges relations.Less e.now (Length a) slots.items }
 {
@@ -55,7 +55,7 @@ fn below_length(a: u32, e: &SlotExpr, slots: Vec<SlotRange>) -> IntervalState
 }
 
 /// `0 <= e && e < len a`
-#[tactic(auto, unfolding(interval_meaning::specs::Operations::assume))]
+#[tactic(auto, unfolding(dom_interval_meaning::specs::Operations::assume))]
 fn in_bounds(a: u32, e: &SlotExpr, slots: Vec<SlotRange>) -> IntervalState
     ensures exact { result ≡ operations.assume (checks.checked_guard (checks.Within a e.now)) true (Within slots.items) }
 {
@@ -66,7 +66,7 @@ fn in_bounds(a: u32, e: &SlotExpr, slots: Vec<SlotRange>) -> IntervalState
 }
 
 /// The slots where the check of a statement holds.
-#[tactic(auto, unfolding(interval_meaning::specs::Operations::assume))]
+#[tactic(auto, unfolding(dom_interval_meaning::specs::Operations::assume))]
 fn checked(
     alloc: Global,
     action: &SlotAction,
@@ -104,7 +104,7 @@ fn set_int(x: u32, e: &SlotExpr, slots: Vec<SlotRange>) -> IntervalState
 }
 
 /// `a = array e`
-#[tactic(auto, unfolding(interval_meaning::specs::Operations::does))]
+#[tactic(auto, unfolding(dom_interval_meaning::specs::Operations::does))]
 fn make_array(a: u32, e: &SlotExpr, slots: Vec<SlotRange>) -> IntervalState
     ensures exact { result ≡ operations.does (plain.MakeArray a e.now) slots.items }
 {
@@ -128,7 +128,7 @@ fn needs_value(e: &SlotExpr, slots: Vec<SlotRange>) -> IntervalState
 }
 
 /// What a statement does behind its check.
-#[tactic(auto, unfolding(interval_meaning::specs::Operations::does))]
+#[tactic(auto, unfolding(dom_interval_meaning::specs::Operations::does))]
 fn done(action: &SlotAction, slots: Vec<SlotRange>) -> IntervalState
     ensures exact { result ≡ operations.does (effect_of action.now) slots.items }
 {
@@ -155,7 +155,7 @@ fn done(action: &SlotAction, slots: Vec<SlotRange>) -> IntervalState
 }
 
 /// The slots behind a simple statement.
-#[tactic(auto, unfolding(interval_meaning::specs::Operations::post))]
+#[tactic(auto, unfolding(dom_interval_meaning::specs::Operations::post))]
 fn performed(
     alloc: Global,
     action: &SlotAction,
@@ -170,7 +170,7 @@ fn performed(
 }
 
 /// The state behind a simple statement or a break.
-#[tactic(auto, unfolding(interval_meaning::specs::Operations::post), using(interval_meaning::proofs::Laws::post_empty))]
+#[tactic(auto, unfolding(dom_interval_meaning::specs::Operations::post), using(dom_interval_meaning::proofs::Laws::post_empty))]
 pub fn behind(
     alloc: Global,
     stmt: &SlotStmt,
@@ -188,7 +188,7 @@ pub fn behind(
 }
 
 /// Whether nothing is described.
-#[tactic(auto, unfolding(interval_meaning::specs::Operations::dead))]
+#[tactic(auto, unfolding(dom_interval_meaning::specs::Operations::dead))]
 pub fn is_empty(s: &IntervalState) -> bool
     ensures exact { result ≡ operations.dead s.now }
 {

@@ -1,12 +1,12 @@
 //! The text of a state.
 ghost use Rattle.std.specs.Prelude.{◌≡◌, IfOk};
-ghost use Rattle.interval_meaning.specs.Text as texts;
+ghost use Rattle.dom_interval_meaning.specs.Text as texts;
 
 use crate::state::Kept;
 use crate::{IntervalState, SlotRange};
+use base_values::{Memory, Text};
+use dom_numeric::{put_range, put_space};
 use imp_slots::{Layout, NumericSlot};
-use numeric_slots::{put_range, put_space};
-use plain_values::{Memory, Text};
 use std::alloc::Global;
 
 /// The slots, with one space between; `any` where there are none.
@@ -28,7 +28,7 @@ fn slots_text(alloc: Global, numbers: &[NumericSlot], slots: &[SlotRange]) -> Re
 }
 
 /// A state's text: `none` where it is empty.
-#[tactic(auto, unfolding(interval_meaning::specs::Text::text))]
+#[tactic(auto, unfolding(dom_interval_meaning::specs::Text::text))]
 pub fn state_text(alloc: Global, layout: &Layout, s: &IntervalState) -> Result<Text, Memory>
     ensures value { IfOk result (λ v. v ≡ texts.text layout.now s.now) }
 {

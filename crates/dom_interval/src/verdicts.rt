@@ -5,9 +5,9 @@ ghost use Rattle.imp_slots.specs.Plain.{Literal, Length, Does};
 ghost use Rattle.imp_slots.specs.ActionViews.{effect_of, act_of};
 ghost use Rattle.domain_laws.specs.Checks as checks;
 ghost use Rattle.domain_laws.specs.Guards.{verdict_on};
-ghost use Rattle.analysis_words.specs.declared.verdict.Verdict.TheVariants as verdicts;
-ghost use Rattle.interval_meaning.specs.State.{Within};
-ghost use Rattle.interval_meaning.specs.Operations as operations;
+ghost use Rattle.imp_words.specs.declared.verdict.Verdict.TheVariants as verdicts;
+ghost use Rattle.dom_interval_meaning.specs.State.{Within};
+ghost use Rattle.dom_interval_meaning.specs.Operations as operations;
 
 use crate::compare::{empty, related, side, within};
 use crate::evaluate::{evaluate, range};
@@ -22,7 +22,7 @@ use num_bounds::Range;
 use std::alloc::{AllocError, Global};
 
 /// `0 > e`
-#[tactic(auto, unfolding(numeric_slots::specs::Ranges::range_by))]
+#[tactic(auto, unfolding(dom_numeric::specs::Ranges::range_by))]
 fn below_zero(e: &SlotExpr, slots: Vec<SlotRange>) -> IntervalState
     ensures exact { result ≡ operations.compare_ranges relations.Greater (Literal 0) e.now slots.items }
 {
@@ -40,7 +40,7 @@ fn below_zero(e: &SlotExpr, slots: Vec<SlotRange>) -> IntervalState
 }
 
 /// `e >= len a`
-#[tactic(auto, unfolding(numeric_slots::specs::Ranges::range_by))]
+#[tactic(auto, unfolding(dom_numeric::specs::Ranges::range_by))]
 fn past_length(a: u32, e: &SlotExpr, slots: Vec<SlotRange>) -> IntervalState
     ensures exact { result ≡ operations.compare_ranges relations.AtLeast e.now (Length a) slots.items }
 {
@@ -54,7 +54,7 @@ fn past_length(a: u32, e: &SlotExpr, slots: Vec<SlotRange>) -> IntervalState
 }
 
 /// The slots where an index is outside its array.
-#[tactic(auto, unfolding(interval_meaning::specs::Operations::assume))]
+#[tactic(auto, unfolding(dom_interval_meaning::specs::Operations::assume))]
 fn out_of_bounds(
     alloc: Global,
     a: u32,
@@ -79,7 +79,7 @@ fn safe_if_empty(failing: &IntervalState) -> Verdict
     }
 }
 
-#[tactic(auto, unfolding(interval_meaning::specs::Operations::check, interval_meaning::specs::Operations::dead))]
+#[tactic(auto, unfolding(dom_interval_meaning::specs::Operations::check, dom_interval_meaning::specs::Operations::dead))]
 fn index_verdict(
     alloc: Global,
     a: u32,
@@ -92,7 +92,7 @@ fn index_verdict(
     Ok(safe_if_empty(&failing))
 }
 
-#[tactic(auto, unfolding(interval_meaning::specs::Operations::dead))]
+#[tactic(auto, unfolding(dom_interval_meaning::specs::Operations::dead))]
 fn claim_verdict(alloc: Global, c: &SlotCond, slots: &Vec<SlotRange>) -> Result<Verdict, AllocError>
     ensures exact { IfOk result (λ v. v ≡ verdict_on operations.assume operations.dead (Some (checks.Claims c.now)) (Within slots.now.items)) }
 {
@@ -100,7 +100,7 @@ fn claim_verdict(alloc: Global, c: &SlotCond, slots: &Vec<SlotRange>) -> Result<
     Ok(safe_if_empty(&failing))
 }
 
-#[tactic(auto, unfolding(interval_meaning::specs::Operations::assume, interval_meaning::specs::Operations::check, interval_meaning::specs::Operations::dead))]
+#[tactic(auto, unfolding(dom_interval_meaning::specs::Operations::assume, dom_interval_meaning::specs::Operations::check, dom_interval_meaning::specs::Operations::dead))]
 fn action_verdict(
     alloc: Global,
     action: &SlotAction,
@@ -128,7 +128,7 @@ fn action_verdict(
 }
 
 /// What a state says of the check of the statement behind it.
-#[tactic(auto, using(interval_meaning::proofs::Laws::check_empty), unfolding(interval_meaning::specs::Operations::check, interval_meaning::specs::Operations::dead))]
+#[tactic(auto, using(dom_interval_meaning::proofs::Laws::check_empty), unfolding(dom_interval_meaning::specs::Operations::check, dom_interval_meaning::specs::Operations::dead))]
 pub fn verdict(alloc: Global, stmt: &SlotStmt, s: &IntervalState) -> Result<Verdict, AllocError>
     ensures exact { IfOk result (λ v. v ≡ operations.check (act_of stmt.now) s.now) }
 {

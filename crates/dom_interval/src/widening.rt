@@ -2,8 +2,8 @@
 ghost use Rattle.std.specs.Prelude.{◌≡◌, ◌<◌, ◌≤ℤ◌, pos, int_le, if◌then◌else◌, slice_index_or, length, IfOk, map};
 ghost use Rattle.std.specs.List.{zip};
 ghost use Rattle.std.specs.Int.{int_max, int_min};
-ghost use Rattle.interval_meaning.specs.Widening as widening;
-ghost use Rattle.interval_meaning.specs.Widening.{better_below, better_above};
+ghost use Rattle.dom_interval_meaning.specs.Widening as widening;
+ghost use Rattle.dom_interval_meaning.specs.Widening.{better_below, better_above};
 
 use crate::compare::within;
 use crate::evaluate::extremes_of;
@@ -30,29 +30,29 @@ impl Model for End {
     ghost inverse = { λ z. record { value = z } };
 }
 
-/// The better one of the best so far and the mark at a place.
-fn nearer_below(best: End, marks: &[i64], i: usize, high: End, end: End) -> End
-    requires within { i < length marks.now }
-    ensures exact { result ≡ better_below best (slice_index_or marks.now i (pos 0)) high end }
+/// The better one of the best so far and the threshold at a place.
+fn nearer_below(best: End, thresholds: &[i64], i: usize, high: End, end: End) -> End
+    requires within { i < length thresholds.now }
+    ensures exact { result ≡ better_below best (slice_index_or thresholds.now i (pos 0)) high end }
 {
-    let mark = marks[i];
-    if mark <= end.value && mark <= high.value {
+    let threshold = thresholds[i];
+    if threshold <= end.value && threshold <= high.value {
         End {
-            value: mark.max(best.value),
+            value: threshold.max(best.value),
         }
     } else {
         best
     }
 }
 
-fn nearer_above(best: End, marks: &[i64], i: usize, low: End, end: End) -> End
-    requires within { i < length marks.now }
-    ensures exact { result ≡ better_above best (slice_index_or marks.now i (pos 0)) low end }
+fn nearer_above(best: End, thresholds: &[i64], i: usize, low: End, end: End) -> End
+    requires within { i < length thresholds.now }
+    ensures exact { result ≡ better_above best (slice_index_or thresholds.now i (pos 0)) low end }
 {
-    let mark = marks[i];
-    if end.value <= mark && low.value <= mark {
+    let threshold = thresholds[i];
+    if end.value <= threshold && low.value <= threshold {
         End {
-            value: mark.min(best.value),
+            value: threshold.min(best.value),
         }
     } else {
         best
@@ -89,47 +89,47 @@ fn high_of(range: Range) -> End
     End { value: range.hi() }
 }
 
-/// The greatest mark within the extremes that is not above the end, or the low extreme.
-fn mark_below(marks: &[i64], extremes: Range, end: End) -> End
-    ensures exact { result ≡ widening.mark_below marks.now extremes end }
+/// The greatest threshold within the extremes that is not above the end, or the low extreme.
+fn threshold_below(thresholds: &[i64], extremes: Range, end: End) -> End
+    ensures exact { result ≡ widening.threshold_below thresholds.now extremes end }
 {
     let high = high_of(extremes);
     let mut best = low_extreme(extremes, end);
-    for i in 0..marks.len() {
-        best = nearer_below(best, marks, i, high, end);
+    for i in 0..thresholds.len() {
+        best = nearer_below(best, thresholds, i, high, end);
     }
     best
 }
 
-/// The least mark within the extremes that is not below the end, or the high extreme.
-fn mark_above(marks: &[i64], extremes: Range, end: End) -> End
-    ensures exact { result ≡ widening.mark_above marks.now extremes end }
+/// The least threshold within the extremes that is not below the end, or the high extreme.
+fn threshold_above(thresholds: &[i64], extremes: Range, end: End) -> End
+    ensures exact { result ≡ widening.threshold_above thresholds.now extremes end }
 {
     let low = low_of(extremes);
     let mut best = high_extreme(extremes, end);
-    for i in 0..marks.len() {
-        best = nearer_above(best, marks, i, low, end);
+    for i in 0..thresholds.len() {
+        best = nearer_above(best, thresholds, i, low, end);
     }
     best
 }
 
-fn low_end(marks: &[i64], extremes: Range, l: End, r: End) -> End
-    ensures exact { result ≡ (if int_le l r then l else widening.mark_below marks.now extremes r) }
+fn low_end(thresholds: &[i64], extremes: Range, l: End, r: End) -> End
+    ensures exact { result ≡ (if int_le l r then l else widening.threshold_below thresholds.now extremes r) }
 {
     if l.value <= r.value {
         l
     } else {
-        mark_below(marks, extremes, r)
+        threshold_below(thresholds, extremes, r)
     }
 }
 
-fn high_end(marks: &[i64], extremes: Range, l: End, r: End) -> End
-    ensures exact { result ≡ (if int_le r l then l else widening.mark_above marks.now extremes r) }
+fn high_end(thresholds: &[i64], extremes: Range, l: End, r: End) -> End
+    ensures exact { result ≡ (if int_le r l then l else widening.threshold_above thresholds.now extremes r) }
 {
     if r.value <= l.value {
         l
     } else {
-        mark_above(marks, extremes, r)
+        threshold_above(thresholds, extremes, r)
     }
 }
 
@@ -140,43 +140,43 @@ fn between(low: End, high: End) -> Range
     Range::from_ends(low.value, high.value)
 }
 
-fn widened_range(marks: &[i64], extremes: Range, l: Range, r: Range) -> Range
-    ensures exact { result ≡ widening.widen_range marks.now extremes l r }
+fn widened_range(thresholds: &[i64], extremes: Range, l: Range, r: Range) -> Range
+    ensures exact { result ≡ widening.widen_range thresholds.now extremes l r }
 {
-    let low = low_end(marks, extremes, low_of(l), low_of(r));
-    let high = high_end(marks, extremes, high_of(l), high_of(r));
+    let low = low_end(thresholds, extremes, low_of(l), low_of(r));
+    let high = high_end(thresholds, extremes, high_of(l), high_of(r));
     between(low, high)
 }
 
 fn widened_slots(
     alloc: Global,
-    marks: &[i64],
+    thresholds: &[i64],
     left: &[SlotRange],
     right: &[SlotRange],
 ) -> Result<Vec<SlotRange>, AllocError>
-    ensures exact { IfOk result (λ v. v.items ≡ map (λ p. widening.widen_slot marks.now p.0 p.1) (zip left.now right.now)) }
+    ensures exact { IfOk result (λ v. v.items ≡ map (λ p. widening.widen_slot thresholds.now p.0 p.1) (zip left.now right.now)) }
 {
     left.iter()
         .zip(right.iter())
         .map(|(a, b)| SlotRange {
             is_array: a.is_array,
-            range: widened_range(marks, extremes_of(a.is_array), a.range, b.range),
+            range: widened_range(thresholds, extremes_of(a.is_array), a.range, b.range),
         })
         .collect(alloc)
 }
 
-/// The next iterate: an end that the right state does not pass stays, any other goes to a mark.
-#[tactic(auto, unfolding(interval_meaning::specs::Widening::widen))]
+/// The next iterate: an end that the right state does not pass stays, any other goes to a threshold.
+#[tactic(auto, unfolding(dom_interval_meaning::specs::Widening::widen))]
 pub fn widened(
     alloc: Global,
-    marks: &[i64],
+    thresholds: &[i64],
     l: &IntervalState,
     r: &IntervalState,
 ) -> Result<IntervalState, AllocError>
-    ensures exact { IfOk result (λ t. t ≡ widening.widen marks.now l.now r.now) }
+    ensures exact { IfOk result (λ t. t ≡ widening.widen thresholds.now l.now r.now) }
 {
     match (&l.kept, &r.kept) {
-        (Kept::Within(a), Kept::Within(b)) => Ok(within(widened_slots(alloc, marks, a, b)?)),
+        (Kept::Within(a), Kept::Within(b)) => Ok(within(widened_slots(alloc, thresholds, a, b)?)),
         (Kept::Empty, _) => copy_of(r),
         (_, Kept::Empty) => copy_of(l),
     }

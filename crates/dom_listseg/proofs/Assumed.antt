@@ -4,8 +4,8 @@ use Rattle.imp_syntax.specs.declared.words.Relation.{Relation}
 use Rattle.imp_slots.specs.Plain.{Term, Compare}
 use Rattle.domain_laws.specs.Checks.{Within}
 use Rattle.domain_laws.specs.Guards.{past_check}
-use Rattle.listseg_meaning.specs.State.{Segments}
-use Rattle.listseg_meaning.specs.Operations.{assume}
+use Rattle.dom_listseg_meaning.specs.State.{Segments}
+use Rattle.dom_listseg_meaning.specs.Operations.{assume}
 
 pub compare_true : (r : Relation) (a b : Term) (s : Segments) → assume (Compare r a b) true s ≡ s
 unfolding assume

@@ -2,11 +2,11 @@
 use Rattle.std.proofs.Common.{◌≡◌, ℕ, ◌+◌, ◌<◌, List, [], ◌∷◌, ◌++◌, map, length, get_or, take, refl, sym, ◌∙◌, ap}
 use Rattle.std.specs.List.{flat_map}
 use Rattle.std.proofs.lemmas.List.{map-append, append-nil, take_more}
-use Rattle.plain_values.proofs.Lists.{take_item}
+use Rattle.base_values.proofs.Lists.{take_item}
 use Rattle.shape_graph.specs.Shape.{Shape}
 use Rattle.shape_graph.proofs.Function.{fold_of}
-use Rattle.listseg_meaning.specs.Sets.{put, union}
-use Rattle.listseg_meaning.proofs.Members.{union-push}
+use Rattle.dom_listseg_meaning.specs.Sets.{put, union}
+use Rattle.dom_listseg_meaning.proofs.Members.{union-push}
 use Rattle.std.proofs.lemmas.Grind.{flat_map-append}
 
 union-append : (gs xs ys : List Shape) → union gs (xs ++ ys) ≡ union (union gs xs) ys

@@ -3,14 +3,14 @@ use Rattle.std.proofs.Common.{◌≡◌, ℕ, ◌<◌, Bool, true, false, cond, 
 use Rattle.std.specs.Prelude.{nat_le}
 use Rattle.std.proofs.lemmas.Bool.{cases_Bool}
 use Rattle.imp_slots.specs.Plain.{Term, Act, DoBreak, Does}
-use Rattle.analysis_words.specs.declared.verdict.Verdict.TheVariants.{Dead, Safe, May}
+use Rattle.imp_words.specs.declared.verdict.Verdict.TheVariants.{Dead, Safe, May}
 use Rattle.domain_laws.specs.Checks.{Check, Within, check_of, checked_guard}
 use Rattle.domain_laws.specs.Guards.{verdict_on}
 use Rattle.shape_graph.specs.Shape.{Shape}
-use Rattle.listseg_meaning.specs.State.{Segments, Top, Graphs}
-use Rattle.listseg_meaning.specs.Sets.{union, most, capped}
-use Rattle.listseg_meaning.specs.Operations.{join, assume, dead, check}
-use Rattle.listseg_meaning.proofs.ConvergenceLaws.{union-le}
+use Rattle.dom_listseg_meaning.specs.State.{Segments, Top, Graphs}
+use Rattle.dom_listseg_meaning.specs.Sets.{union, most, capped}
+use Rattle.dom_listseg_meaning.specs.Operations.{join, assume, dead, check}
+use Rattle.dom_listseg_meaning.proofs.ConvergenceLaws.{union-le}
 
 capped-alive : (gs : List Shape) → 0 < length gs → dead (capped gs) ≡ false
 unfolding capped dead

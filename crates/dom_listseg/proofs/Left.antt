@@ -2,9 +2,9 @@
 use Rattle.std.proofs.Common.{◌≡◌, true, false, List, [], ◌∷◌, Option, refl}
 use Rattle.imp_slots.specs.Plain.{Returning}
 use Rattle.shape_graph.specs.Shape.{Shape}
-use Rattle.listseg_meaning.specs.State.{Segments, Top, Graphs}
-use Rattle.listseg_meaning.specs.Sets.{capped}
-use Rattle.listseg_meaning.specs.Operations.{each, returned, leave, dead}
+use Rattle.dom_listseg_meaning.specs.State.{Segments, Top, Graphs}
+use Rattle.dom_listseg_meaning.specs.Sets.{capped}
+use Rattle.dom_listseg_meaning.specs.Operations.{each, returned, leave, dead}
 
 no-graph : (f : Shape → List Shape) → each f (Graphs []) ≡ Graphs []
 unfolding capped

@@ -7,10 +7,10 @@ use Rattle.shape_graph.specs.declared.graph.Atom.{Atom}
 use Rattle.shape_graph.specs.Shape.{Shape, IsGraph, shape_of}
 use Rattle.shape_graph.proofs.Function.{fold_of, fold_of-self}
 use Rattle.shape_steps.proofs.Graphs.{moved}
-use Rattle.listseg_meaning.specs.State.{Graphs}
-use Rattle.listseg_meaning.specs.Sets.{put}
-use Rattle.listseg_meaning.specs.Operations.{init}
-use Rattle.listseg_meaning.proofs.CallLaws.{init-fits}
+use Rattle.dom_listseg_meaning.specs.State.{Graphs}
+use Rattle.dom_listseg_meaning.specs.Sets.{put}
+use Rattle.dom_listseg_meaning.specs.Operations.{init}
+use Rattle.dom_listseg_meaning.proofs.CallLaws.{init-fits}
 
 pub nils_are : (names : List (List ℕ)) → replicate {A = Option ℕ} (length names) None ≡ map first_link names
 nils_are [] = refl

@@ -5,8 +5,8 @@ use Rattle.concrete_sem.specs.Evaluation.{same_link}
 use Rattle.shape_graph.specs.declared.graph.Atom.{Atom}
 use Rattle.shape_graph.specs.Shape.{Shape, shape_of, atom_at, target_at}
 use Rattle.shape_steps.specs.Steps.{set_last, last_of, slot_of, forget_of, set_next_of, exposed, last_frame_of}
-use Rattle.listseg_meaning.specs.Operations.{read_at, write_at}
-use Rattle.listseg_meaning.proofs.Links.{same-is}
+use Rattle.dom_listseg_meaning.specs.Operations.{read_at, write_at}
+use Rattle.dom_listseg_meaning.proofs.Links.{same-is}
 
 -- what stands there is set again
 set-same : {X : Type 0} (xs : List X) (i : ℕ) (d : X) → slice_set xs i (get_or xs i d) ≡ xs

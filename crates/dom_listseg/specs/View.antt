@@ -1,5 +1,5 @@
 -- What a state says.
-use Rattle.listseg_meaning.specs.State.{Segments, Top, Graphs}
+use Rattle.dom_listseg_meaning.specs.State.{Segments, Top, Graphs}
 use Rattle.dom_listseg.specs.declared.state.Kept.{Kept}
 use Rattle.dom_listseg.specs.declared.state.Kept.TheVariants as kept
 

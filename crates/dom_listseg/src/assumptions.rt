@@ -1,16 +1,16 @@
 //! What is assumed of conditions.
 ghost use Rattle.std.specs.Prelude.{◌≡◌, IfOk, IsTrue};
 ghost use Rattle.std.specs.List.{filter};
-ghost use Rattle.listseg_meaning.specs.State.{Graphs};
-ghost use Rattle.listseg_meaning.specs.Operations as operations;
+ghost use Rattle.dom_listseg_meaning.specs.State.{Graphs};
+ghost use Rattle.dom_listseg_meaning.specs.Operations as operations;
 
 use crate::SegmentState;
 use crate::sets::joined;
 use crate::state::{Kept, copy_of, top, within};
 use crate::targets::agrees;
-use graph_sets::{FoldedGraph, GraphSet};
+use base_values::Memory;
+use dom_listseg_sets::{FoldedGraph, GraphSet};
 use imp_slots::{SlotCond, SlotCondNode};
-use plain_values::Memory;
 use std::alloc::Global;
 
 // Whether the sides of a comparison are as it says in each graph, as far as is seen.
@@ -45,7 +45,7 @@ fn agreeing(
 }
 
 // The state of the graphs in which the sides are as the comparison says: the state itself, where all are.
-#[tactic(auto, using(listseg_meaning::proofs::Rising::filter_rises))]
+#[tactic(auto, using(dom_listseg_meaning::proofs::Rising::filter_rises))]
 fn kept_where(
     alloc: Global,
     equal: bool,
@@ -81,7 +81,7 @@ pub fn compared(
 }
 
 /// The state where the condition has this truth value.
-#[tactic(auto, unfolding(listseg_meaning::specs::Operations::assume), using(crate::proofs::Assumed::compare_true, crate::proofs::Assumed::compare_false))]
+#[tactic(auto, unfolding(dom_listseg_meaning::specs::Operations::assume), using(crate::proofs::Assumed::compare_true, crate::proofs::Assumed::compare_false))]
 pub fn assumed(
     alloc: Global,
     c: &SlotCond,

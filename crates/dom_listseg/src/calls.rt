@@ -4,18 +4,18 @@ ghost use Rattle.concrete_sem.specs.Passing.{first_link, over};
 ghost use Rattle.imp_slots.specs.CallViews.{argument_of, taken_of};
 ghost use Rattle.shape_graph.proofs.Function.{fold_of};
 ghost use Rattle.shape_steps.specs.Steps as steps;
-ghost use Rattle.listseg_meaning.specs.State.{Graphs};
-ghost use Rattle.listseg_meaning.specs.Sets as sets;
-ghost use Rattle.listseg_meaning.specs.Operations as operations;
+ghost use Rattle.dom_listseg_meaning.specs.State.{Graphs};
+ghost use Rattle.dom_listseg_meaning.specs.Sets as sets;
+ghost use Rattle.dom_listseg_meaning.specs.Operations as operations;
 
 use crate::SegmentState;
 use crate::sets::{capped, put_folded, put_kept};
 use crate::state::{Kept, empty, is_empty, listed, top, within};
 use crate::targets::{side, target};
-use graph_sets::{FoldedGraph, GraphSet};
+use base_values::{Memory, Text};
+use dom_listseg_sets::{FoldedGraph, GraphSet};
 use imp_slots::{Argument, Entering, Layout, Returning};
-use plain_values::{Memory, Text};
-use shape_graph::{Graph, Row};
+use shape_graph::{Row, ShapeGraph};
 use shape_steps::{forget, last_frame, pop_frame, push_frame};
 use std::alloc::Global;
 
@@ -34,7 +34,7 @@ pub fn initial(alloc: Global, main: &Layout) -> Result<SegmentState, Memory>
 {
     let mut frames = Vec::with_capacity(alloc, 1)?;
     frames.push(Row::from_slots(nils(alloc, main.links())?))?;
-    let graph = Graph::from_parts(frames, Vec::new(alloc));
+    let graph = ShapeGraph::from_parts(frames, Vec::new(alloc));
     let mut graphs = GraphSet::new(alloc);
     put_folded(alloc, &mut graphs, &graph)?;
     within(alloc, graphs)
@@ -90,7 +90,7 @@ fn entered_sides(alloc: Global, entering: &Entering) -> Result<Vec<Option<u32>>,
 // The targets of sides.
 fn targets(
     alloc: Global,
-    graph: &Graph,
+    graph: &ShapeGraph,
     sides: &[Option<u32>],
 ) -> Result<Vec<Option<usize>>, Memory>
     ensures exact { IfOk result (λ v. v.items ≡ map (steps.argument_of graph.now.frames) sides.now) }
@@ -103,7 +103,11 @@ fn targets(
 }
 
 // The graph with a frame of these sides.
-fn entered_graph(alloc: Global, sides: &[Option<u32>], graph: &Graph) -> Result<Graph, Memory>
+fn entered_graph(
+    alloc: Global,
+    sides: &[Option<u32>],
+    graph: &ShapeGraph,
+) -> Result<ShapeGraph, Memory>
     ensures exact { IfOk result (λ next. next ≡ steps.push_frame_of graph.now (map (steps.argument_of graph.now.frames) sides.now)) }
 {
     let _count = graph.node_count();
@@ -112,7 +116,7 @@ fn entered_graph(alloc: Global, sides: &[Option<u32>], graph: &Graph) -> Result<
 }
 
 // The graphs with a frame of the callee.
-#[tactic(auto, unfolding(listseg_meaning::specs::Operations::enter))]
+#[tactic(auto, unfolding(dom_listseg_meaning::specs::Operations::enter))]
 fn entered_graphs(
     alloc: Global,
     entering: &Entering,
@@ -130,7 +134,7 @@ fn entered_graphs(
 }
 
 /// The state in front of a callee's body.
-#[tactic(auto, unfolding(listseg_meaning::specs::Operations::enter))]
+#[tactic(auto, unfolding(dom_listseg_meaning::specs::Operations::enter))]
 pub fn entered(alloc: Global, entering: &Entering, s: &SegmentState) -> Result<SegmentState, Memory>
     ensures exact { IfOk result (λ t. t ≡ operations.enter entering.now s.now) }
 {
@@ -141,7 +145,7 @@ pub fn entered(alloc: Global, entering: &Entering, s: &SegmentState) -> Result<S
 }
 
 // The graph without its last frame.
-fn without_last(alloc: Global, graph: &Graph) -> Result<Graph, Memory>
+fn without_last(alloc: Global, graph: &ShapeGraph) -> Result<ShapeGraph, Memory>
     ensures exact { IfOk result (λ next. next ≡ steps.pop_frame_of graph.now (length graph.now.frames - 1)) }
 {
     pop_frame(alloc, graph, graph.frames().len().saturating_sub(1))
@@ -151,8 +155,8 @@ fn without_last(alloc: Global, graph: &Graph) -> Result<Graph, Memory>
 fn returned_graph(
     alloc: Global,
     returning: Option<Returning>,
-    graph: &Graph,
-) -> Result<Graph, Memory>
+    graph: &ShapeGraph,
+) -> Result<ShapeGraph, Memory>
     ensures exact { IfOk result (λ next. next ≡ operations.returned (taken_of returning) graph.now) }
 {
     let below = without_last(alloc, graph)?;
@@ -183,7 +187,7 @@ fn returned_graphs(
 }
 
 /// The state behind a call.
-#[tactic(auto, unfolding(listseg_meaning::specs::Operations::leave), using(crate::proofs::Left::leave_graphs, crate::proofs::Left::leave_top, crate::proofs::Left::leave_dead, crate::proofs::Left::leave_done))]
+#[tactic(auto, unfolding(dom_listseg_meaning::specs::Operations::leave), using(crate::proofs::Left::leave_graphs, crate::proofs::Left::leave_top, crate::proofs::Left::leave_dead, crate::proofs::Left::leave_done))]
 pub fn left(
     alloc: Global,
     returning: Option<Returning>,
@@ -217,7 +221,7 @@ fn put_last(alloc: Global, graphs: &mut GraphSet, graph: &FoldedGraph) -> Result
 }
 
 // The last frames of graphs alone.
-#[tactic(auto, unfolding(listseg_meaning::specs::Operations::shed))]
+#[tactic(auto, unfolding(dom_listseg_meaning::specs::Operations::shed))]
 fn last_frames(alloc: Global, graphs: &[FoldedGraph]) -> Result<SegmentState, Memory>
     ensures exact { IfOk result (λ t. t ≡ operations.shed (Graphs graphs.now)) }
 {
@@ -229,7 +233,7 @@ fn last_frames(alloc: Global, graphs: &[FoldedGraph]) -> Result<SegmentState, Me
 }
 
 /// The last frame alone.
-#[tactic(auto, unfolding(listseg_meaning::specs::Operations::shed))]
+#[tactic(auto, unfolding(dom_listseg_meaning::specs::Operations::shed))]
 pub fn shed(alloc: Global, s: &SegmentState) -> Result<SegmentState, Memory>
     ensures exact { IfOk result (λ t. t ≡ operations.shed s.now) }
 {

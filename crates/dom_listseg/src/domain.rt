@@ -1,8 +1,8 @@
 //! The list segments as a domain.
 ghost use Rattle.std.specs.Prelude.{refl};
-ghost use Rattle.listseg_meaning.specs.Domain.{segments};
-ghost use Rattle.listseg_meaning.specs.Covers as meaning;
-ghost use Rattle.listseg_meaning.proofs.Laws.{segments_laws, segments_keep_dead};
+ghost use Rattle.dom_listseg_meaning.specs.Domain.{segments};
+ghost use Rattle.dom_listseg_meaning.specs.Covers as meaning;
+ghost use Rattle.dom_listseg_meaning.proofs.Laws.{segments_laws, segments_keep_dead};
 
 use crate::SegmentState;
 use crate::assumptions::assumed;
@@ -12,10 +12,10 @@ use crate::state::{copy_of, is_empty};
 use crate::statements::behind;
 use crate::text::state_text;
 use crate::verdicts::verdict;
-use analysis_words::Verdict;
+use base_values::{Memory, Text};
 use domain_laws::{Domain, Steps};
 use imp_slots::{Layout, SlotCall, SlotCond, SlotStmt};
-use plain_values::{Memory, Text};
+use imp_words::Verdict;
 use std::alloc::Global;
 use std::sync::ledger::Ledger;
 
@@ -79,7 +79,7 @@ impl Domain for ListSeg {
     fn widen<L: Ledger>(
         &self,
         alloc: Global,
-        marks: &[i64],
+        thresholds: &[i64],
         l: &SegmentState,
         r: &SegmentState,
         steps: &mut Steps<L>,

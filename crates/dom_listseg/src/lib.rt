@@ -3,7 +3,7 @@
 //!
 //! A state is `Top`, of which nothing is known, or at most 64 folded graphs of which one covers, each once and in their
 //! order; no graph at all describes nothing. What the operations are, and that they have the laws of a domain, stands in
-//! `listseg_meaning`; the code here computes exactly these operations.
+//! `dom_listseg_meaning`; the code here computes exactly these operations.
 //!
 //! An operation that changes links makes one graph or two of each graph, folds them in time linear in their slots and
 //! nodes but for what `fold` says, and puts each in its place among the graphs so far, by going through these; a graph

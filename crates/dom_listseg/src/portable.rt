@@ -1,17 +1,17 @@
 //! List segments as texts, and their order.
 ghost use Rattle.std.specs.Prelude.{◌≡◌, IfOk};
 ghost use Rattle.std.specs.Option.{option_map};
-ghost use Rattle.listseg_meaning.specs.Covers as meaning;
-ghost use Rattle.listseg_words.specs.Words.{segment_port, state_in};
-ghost use Rattle.listseg_words.proofs.Portable.{segment_portable};
+ghost use Rattle.dom_listseg_meaning.specs.Covers as meaning;
+ghost use Rattle.dom_listseg_words.specs.Words.{segment_port, state_in};
+ghost use Rattle.dom_listseg_words.proofs.Portable.{segment_portable};
 
 use crate::SegmentState;
 use crate::domain::ListSeg;
 use crate::state::{Kept, listed, top, within};
-use graph_sets::{FoldedGraph, GraphSet};
+use base_values::{Memory, Text};
+use cert_meaning::Portable;
+use dom_listseg_sets::{FoldedGraph, GraphSet};
 use imp_slots::Layout;
-use plain_values::{Memory, Text};
-use portable_states::Portable;
 use std::alloc::{AllocError, Global};
 
 /// The graphs of a state, none where it is Top.
@@ -50,7 +50,7 @@ impl Portable for ListSeg {
     ghost port = { λ d. segment_port };
 
     fn put(&self, alloc: Global, s: &SegmentState) -> Result<Text, Memory> {
-        listseg_words::put(alloc, graphs(s))
+        dom_listseg_words::put(alloc, graphs(s))
     }
 
     fn take(
@@ -60,14 +60,14 @@ impl Portable for ListSeg {
         text: &[u8],
     ) -> Result<Option<SegmentState>, Memory> {
         let counts = counts(alloc, layouts)?;
-        match listseg_words::take(alloc, &counts, text)? {
+        match dom_listseg_words::take(alloc, &counts, text)? {
             None => Ok(None),
             Some(graphs) => Ok(Some(state(alloc, graphs)?)),
         }
     }
 
     fn leq(&self, alloc: Global, l: &SegmentState, r: &SegmentState) -> Result<bool, Memory> {
-        Ok(listseg_words::leq(graphs(l), graphs(r)))
+        Ok(dom_listseg_words::leq(graphs(l), graphs(r)))
     }
 
     ghost port_laws = { λ d. segment_portable };

@@ -1,15 +1,15 @@
 //! Sets of graphs as states.
 ghost use Rattle.std.specs.Prelude.{◌≡◌, IfOk, map};
-ghost use Rattle.listseg_meaning.specs.State.{Graphs};
+ghost use Rattle.dom_listseg_meaning.specs.State.{Graphs};
 ghost use Rattle.shape_graph.proofs.Function.{fold_of};
-ghost use Rattle.listseg_meaning.specs.Sets as sets;
-ghost use Rattle.listseg_meaning.specs.Operations as operations;
+ghost use Rattle.dom_listseg_meaning.specs.Sets as sets;
+ghost use Rattle.dom_listseg_meaning.specs.Operations as operations;
 
 use crate::SegmentState;
 use crate::state::{Kept, copy_of, top, within};
-use graph_sets::{FoldedGraph, GraphSet};
-use plain_values::Memory;
-use shape_graph::Graph;
+use base_values::Memory;
+use dom_listseg_sets::{FoldedGraph, GraphSet};
+use shape_graph::ShapeGraph;
 use std::alloc::Global;
 
 /// How many graphs a state keeps at most.
@@ -25,7 +25,7 @@ pub fn put_kept(graphs: &mut GraphSet, graph: &FoldedGraph) -> Result<(), Memory
 }
 
 /// Puts the fold of a graph in its place, unless it is there.
-pub fn put_folded(alloc: Global, graphs: &mut GraphSet, graph: &Graph) -> Result<(), Memory>
+pub fn put_folded(alloc: Global, graphs: &mut GraphSet, graph: &ShapeGraph) -> Result<(), Memory>
     ensures put { IfOk result (λ _. graphs.new ≡ sets.put (fold_of graph.now) graphs.old) }
 {
     let folded = FoldedGraph::from_graph(alloc, graph)?;
@@ -33,7 +33,7 @@ pub fn put_folded(alloc: Global, graphs: &mut GraphSet, graph: &Graph) -> Result
 }
 
 /// Puts the folds of graphs in their places, unless they are there.
-pub fn put_all(alloc: Global, graphs: &mut GraphSet, others: &[Graph]) -> Result<(), Memory>
+pub fn put_all(alloc: Global, graphs: &mut GraphSet, others: &[ShapeGraph]) -> Result<(), Memory>
     ensures put { IfOk result (λ _. graphs.new ≡ sets.union graphs.old (map fold_of others.now)) }
 {
     for other in others {
@@ -43,7 +43,7 @@ pub fn put_all(alloc: Global, graphs: &mut GraphSet, others: &[Graph]) -> Result
 }
 
 /// The state of these graphs: all, where there are more than a state keeps.
-#[tactic(auto, unfolding(listseg_meaning::specs::Sets::capped))]
+#[tactic(auto, unfolding(dom_listseg_meaning::specs::Sets::capped))]
 pub fn capped(alloc: Global, graphs: GraphSet) -> Result<SegmentState, Memory>
     ensures capped { IfOk result (λ s. s ≡ sets.capped graphs) }
 {
@@ -55,7 +55,7 @@ pub fn capped(alloc: Global, graphs: GraphSet) -> Result<SegmentState, Memory>
 }
 
 // The state of the graphs of both: the left one, where the right one adds none.
-#[tactic(auto, unfolding(listseg_meaning::specs::Sets::capped))]
+#[tactic(auto, unfolding(dom_listseg_meaning::specs::Sets::capped))]
 fn both(
     alloc: Global,
     l: &SegmentState,
@@ -72,7 +72,7 @@ fn both(
 }
 
 /// A state that describes what either describes.
-#[tactic(auto, unfolding(listseg_meaning::specs::Operations::join))]
+#[tactic(auto, unfolding(dom_listseg_meaning::specs::Operations::join))]
 pub fn joined(alloc: Global, l: &SegmentState, r: &SegmentState) -> Result<SegmentState, Memory>
     ensures exact { IfOk result (λ t. t ≡ operations.join l.now r.now) }
 {

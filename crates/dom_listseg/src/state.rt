@@ -1,11 +1,11 @@
 //! States of the list segments' domain: all, or what one of a set of graphs covers.
 ghost use Rattle.std.specs.Prelude.{◌≡◌, IfOk, [], List};
-ghost use Rattle.listseg_meaning.specs.State.{Segments, Top, Graphs, segments_same, segments_fed};
-ghost use Rattle.listseg_meaning.proofs.StateLaws.{segments_equiv, segments_per, segments_fed-same};
-ghost use Rattle.listseg_meaning.specs.Operations as operations;
+ghost use Rattle.dom_listseg_meaning.specs.State.{Segments, Top, Graphs, segments_same, segments_fed};
+ghost use Rattle.dom_listseg_meaning.proofs.StateLaws.{segments_equiv, segments_per, segments_fed-same};
+ghost use Rattle.dom_listseg_meaning.specs.Operations as operations;
 
-use graph_sets::{FoldedGraph, GraphSet};
-use plain_values::Memory;
+use base_values::Memory;
+use dom_listseg_sets::{FoldedGraph, GraphSet};
 use std::alloc::Global;
 use std::hash::{Hash, Hasher};
 use std::marker::Model;
@@ -24,7 +24,7 @@ pub(crate) enum Kept {
 }
 
 impl Model for SegmentState {
-    ghost use Rattle.listseg_meaning.specs.State.{Segments, segments_code};
+    ghost use Rattle.dom_listseg_meaning.specs.State.{Segments, segments_code};
 
     ghost Value = { Segments };
 
@@ -101,7 +101,7 @@ pub fn listed(shared: &Rc<GraphSet>) -> &[FoldedGraph]
 }
 
 /// Whether nothing is described.
-#[tactic(auto, unfolding(listseg_meaning::specs::Operations::dead))]
+#[tactic(auto, unfolding(dom_listseg_meaning::specs::Operations::dead))]
 pub fn is_empty(s: &SegmentState) -> bool
     ensures exact { result ≡ operations.dead s.now }
 {

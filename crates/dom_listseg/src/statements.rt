@@ -4,18 +4,18 @@ ghost use Rattle.imp_slots.specs.ActionViews.{effect_of, act_of};
 ghost use Rattle.domain_laws.specs.Checks as checks;
 ghost use Rattle.domain_laws.specs.Guards.{past_check};
 ghost use Rattle.shape_graph.proofs.Function.{fold_of};
-ghost use Rattle.listseg_meaning.specs.State.{Graphs};
-ghost use Rattle.listseg_meaning.specs.Sets as sets;
-ghost use Rattle.listseg_meaning.specs.Operations as operations;
+ghost use Rattle.dom_listseg_meaning.specs.State.{Graphs};
+ghost use Rattle.dom_listseg_meaning.specs.Sets as sets;
+ghost use Rattle.dom_listseg_meaning.specs.Operations as operations;
 
 use crate::SegmentState;
 use crate::assumptions::{assumed, compared};
 use crate::sets::{capped, put_all, put_kept};
 use crate::state::{Kept, copy_of, empty, listed, top};
 use crate::steps::{stays, stepped};
-use graph_sets::{FoldedGraph, GraphSet};
+use base_values::Memory;
+use dom_listseg_sets::{FoldedGraph, GraphSet};
 use imp_slots::{SlotAction, SlotStmt};
-use plain_values::Memory;
 use std::alloc::Global;
 
 // Puts what a statement makes of a graph: the graph itself, where the statement leaves it as it is.
@@ -84,7 +84,7 @@ fn checked(alloc: Global, action: &SlotAction, s: &SegmentState) -> Result<Segme
 }
 
 /// The state where a link is a cell, or where it is none.
-#[tactic(auto, unfolding(listseg_meaning::specs::Operations::assume))]
+#[tactic(auto, unfolding(dom_listseg_meaning::specs::Operations::assume))]
 pub fn is_cell(alloc: Global, p: u32, sense: bool, s: &SegmentState) -> Result<SegmentState, Memory>
     ensures exact { IfOk result (λ t. t ≡ operations.assume (checks.checked_guard (checks.IsCell p)) sense s.now) }
 {
@@ -96,7 +96,7 @@ pub fn is_cell(alloc: Global, p: u32, sense: bool, s: &SegmentState) -> Result<S
 }
 
 // What a statement does behind its check.
-#[tactic(auto, unfolding(listseg_meaning::specs::Operations::does))]
+#[tactic(auto, unfolding(dom_listseg_meaning::specs::Operations::does))]
 fn done(alloc: Global, action: &SlotAction, s: SegmentState) -> Result<SegmentState, Memory>
     ensures exact { IfOk result (λ t. t ≡ operations.does (effect_of action.now) s) }
 {
@@ -120,7 +120,7 @@ fn done(alloc: Global, action: &SlotAction, s: SegmentState) -> Result<SegmentSt
 }
 
 // The state behind a simple statement. One without a check is done on the graphs as they stand.
-#[tactic(auto, unfolding(listseg_meaning::specs::Operations::does))]
+#[tactic(auto, unfolding(dom_listseg_meaning::specs::Operations::does))]
 fn acted(alloc: Global, action: &SlotAction, s: &SegmentState) -> Result<SegmentState, Memory>
     ensures exact { IfOk result (λ t. t ≡ operations.does (effect_of action.now) (past_check operations.assume (checks.check_of (effect_of action.now)) s.now)) }
 {
@@ -145,7 +145,7 @@ fn checked_first(
 }
 
 /// The state behind a simple statement or a break.
-#[tactic(auto, unfolding(listseg_meaning::specs::Operations::post))]
+#[tactic(auto, unfolding(dom_listseg_meaning::specs::Operations::post))]
 pub fn behind(alloc: Global, stmt: &SlotStmt, s: &SegmentState) -> Result<SegmentState, Memory>
     ensures exact { IfOk result (λ t. t ≡ operations.post (act_of stmt.now) s.now) }
 {

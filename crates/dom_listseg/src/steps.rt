@@ -3,17 +3,17 @@ ghost use Rattle.std.specs.Prelude.{◌≡◌, ◌<◌, [], ◌∷◌, false, So
 ghost use Rattle.shape_graph.specs.Shape.{nodes, atom_at};
 ghost use Rattle.imp_slots.specs.ActionViews.{effect_of};
 ghost use Rattle.shape_steps.specs.Steps.{slot_of, forget_of};
-ghost use Rattle.listseg_meaning.specs.Operations as operations;
+ghost use Rattle.dom_listseg_meaning.specs.Operations as operations;
 
 use crate::targets::{behind, same, target};
+use base_values::Memory;
 use imp_slots::SlotAction;
-use plain_values::Memory;
-use shape_graph::Graph;
+use shape_graph::ShapeGraph;
 use shape_steps::{expose, forget, new_cell, set_next};
 use std::alloc::Global;
 
 // The one graph.
-fn single(alloc: Global, graph: Graph) -> Result<Vec<Graph>, Memory>
+fn single(alloc: Global, graph: ShapeGraph) -> Result<Vec<ShapeGraph>, Memory>
     ensures single { IfOk result (λ v. v.items ≡ graph ∷ []) }
 {
     let mut graphs = Vec::with_capacity(alloc, 1)?;
@@ -22,7 +22,12 @@ fn single(alloc: Global, graph: Graph) -> Result<Vec<Graph>, Memory>
 }
 
 // `p = q.next`
-fn read(alloc: Global, graph: &Graph, to: usize, from: usize) -> Result<Vec<Graph>, Memory>
+fn read(
+    alloc: Global,
+    graph: &ShapeGraph,
+    to: usize,
+    from: usize,
+) -> Result<Vec<ShapeGraph>, Memory>
     ensures exact { IfOk result (λ v. v.items ≡ operations.read_at graph.now to (slot_of graph.now.frames from)) }
 {
     let Some(node) = target(graph, from) else {
@@ -37,7 +42,12 @@ fn read(alloc: Global, graph: &Graph, to: usize, from: usize) -> Result<Vec<Grap
 }
 
 // `p.next = q`
-fn write(alloc: Global, graph: &Graph, to: usize, from: usize) -> Result<Vec<Graph>, Memory>
+fn write(
+    alloc: Global,
+    graph: &ShapeGraph,
+    to: usize,
+    from: usize,
+) -> Result<Vec<ShapeGraph>, Memory>
     ensures exact { IfOk result (λ v. v.items ≡ operations.write_at graph.now (slot_of graph.now.frames to) from) }
 {
     let Some(node) = target(graph, to) else {
@@ -52,8 +62,12 @@ fn write(alloc: Global, graph: &Graph, to: usize, from: usize) -> Result<Vec<Gra
 }
 
 /// The graphs behind a statement, from the one in front of it.
-#[tactic(auto, unfolding(listseg_meaning::specs::Operations::stepped))]
-pub fn stepped(alloc: Global, action: &SlotAction, graph: &Graph) -> Result<Vec<Graph>, Memory>
+#[tactic(auto, unfolding(dom_listseg_meaning::specs::Operations::stepped))]
+pub fn stepped(
+    alloc: Global,
+    action: &SlotAction,
+    graph: &ShapeGraph,
+) -> Result<Vec<ShapeGraph>, Memory>
     ensures exact { IfOk result (λ v. v.items ≡ operations.stepped (effect_of action.now) graph.now) }
 {
     match action {
@@ -80,7 +94,7 @@ pub fn stepped(alloc: Global, action: &SlotAction, graph: &Graph) -> Result<Vec<
 
 // Whether a node is one cell with this target behind it.
 #[tactic(auto, using(crate::proofs::Stays::behind_is))]
-fn has_behind(graph: &Graph, node: usize, target: Option<usize>) -> bool
+fn has_behind(graph: &ShapeGraph, node: usize, target: Option<usize>) -> bool
     requires node { node < nodes graph.now }
     ensures one { IsTrue result → atom_at graph.now.atoms node ≡ record { many = false; target = target } }
 {
@@ -93,7 +107,7 @@ fn has_behind(graph: &Graph, node: usize, target: Option<usize>) -> bool
 
 // Whether `p = q.next` gives p the target that it has, of a q that is one cell.
 #[tactic(auto, using(crate::proofs::Stays::read_stays))]
-fn read_stays(graph: &Graph, to: usize, from: usize) -> bool
+fn read_stays(graph: &ShapeGraph, to: usize, from: usize) -> bool
     ensures same { IsTrue result → operations.read_at graph.now to (slot_of graph.now.frames from) ≡ graph.now ∷ [] }
 {
     match target(graph, from) {
@@ -104,7 +118,7 @@ fn read_stays(graph: &Graph, to: usize, from: usize) -> bool
 
 // Whether `p.next = q` puts behind p's node, one cell, what is there.
 #[tactic(auto, using(crate::proofs::Stays::write_stays))]
-fn write_stays(graph: &Graph, to: usize, from: usize) -> bool
+fn write_stays(graph: &ShapeGraph, to: usize, from: usize) -> bool
     ensures same { IsTrue result → operations.write_at graph.now (slot_of graph.now.frames to) from ≡ graph.now ∷ [] }
 {
     match target(graph, to) {
@@ -115,7 +129,7 @@ fn write_stays(graph: &Graph, to: usize, from: usize) -> bool
 
 // Whether `p = q`, or `p = null`, gives p the target that it has.
 #[tactic(auto, using(crate::proofs::Stays::slot_stays))]
-fn slot_stays(graph: &Graph, to: usize, given: Option<usize>) -> bool
+fn slot_stays(graph: &ShapeGraph, to: usize, given: Option<usize>) -> bool
     ensures same { IsTrue result → forget_of graph.now to given ≡ graph.now }
 {
     same(target(graph, to), given)
@@ -123,8 +137,8 @@ fn slot_stays(graph: &Graph, to: usize, given: Option<usize>) -> bool
 
 /// Whether a statement leaves a graph as it is, as far as is seen: it gives a slot, or a cell's next, the target that is
 /// there.
-#[tactic(auto, unfolding(listseg_meaning::specs::Operations::stepped))]
-pub fn stays(action: &SlotAction, graph: &Graph) -> bool
+#[tactic(auto, unfolding(dom_listseg_meaning::specs::Operations::stepped))]
+pub fn stays(action: &SlotAction, graph: &ShapeGraph) -> bool
     ensures same { IsTrue result → operations.stepped (effect_of action.now) graph.now ≡ graph.now ∷ [] }
 {
     match action {

@@ -3,12 +3,12 @@ ghost use Rattle.std.specs.Prelude.{◌≡◌, ◌<◌, ℕ, Some};
 ghost use Rattle.shape_graph.specs.Shape.{nodes, target_at};
 ghost use Rattle.shape_steps.specs.Steps.{IsTarget, slot_of, argument_of, last_of};
 ghost use Rattle.concrete_sem.specs.Evaluation.{same_link};
-ghost use Rattle.listseg_meaning.specs.Operations as operations;
+ghost use Rattle.dom_listseg_meaning.specs.Operations as operations;
 
-use shape_graph::{Graph, Row};
+use shape_graph::{Row, ShapeGraph};
 
 /// The slots of the last frame.
-pub fn last_slots(graph: &Graph) -> &[Option<usize>]
+pub fn last_slots(graph: &ShapeGraph) -> &[Option<usize>]
     ensures slots { result.now ≡ last_of graph.now.frames }
 {
     let frames = graph.frames();
@@ -19,7 +19,7 @@ pub fn last_slots(graph: &Graph) -> &[Option<usize>]
 }
 
 /// The target of a slot of the last frame; nil where there is no such slot.
-pub fn target(graph: &Graph, slot: usize) -> Option<usize>
+pub fn target(graph: &ShapeGraph, slot: usize) -> Option<usize>
     ensures target { result ≡ slot_of graph.now.frames slot }
     ensures inside { IsTarget (nodes graph.now) result }
 {
@@ -33,7 +33,7 @@ pub fn target(graph: &Graph, slot: usize) -> Option<usize>
 }
 
 /// What is behind a node; nil where there is no such node.
-pub fn behind(graph: &Graph, node: usize) -> Option<usize>
+pub fn behind(graph: &ShapeGraph, node: usize) -> Option<usize>
     ensures target { result ≡ target_at graph.now node }
     ensures inside { IsTarget (nodes graph.now) result }
 {
@@ -45,7 +45,7 @@ pub fn behind(graph: &Graph, node: usize) -> Option<usize>
 }
 
 /// The target of the side of a comparison, or of an argument: nil for null.
-pub fn side(graph: &Graph, side: Option<u32>) -> Option<usize>
+pub fn side(graph: &ShapeGraph, side: Option<u32>) -> Option<usize>
     ensures target { result ≡ argument_of graph.now.frames side }
 {
     match side {
@@ -67,7 +67,7 @@ pub fn same(left: Option<usize>, right: Option<usize>) -> bool
 }
 
 /// Whether the targets of the sides of a comparison are as it says.
-pub fn agrees(graph: &Graph, equal: bool, left: Option<u32>, right: Option<u32>) -> bool
+pub fn agrees(graph: &ShapeGraph, equal: bool, left: Option<u32>, right: Option<u32>) -> bool
     ensures exact { result ≡ operations.agrees equal left right graph.now }
 {
     let same = same(side(graph, left), side(graph, right));

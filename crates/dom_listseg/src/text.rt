@@ -1,17 +1,17 @@
 //! The text of a state.
 ghost use Rattle.std.specs.Prelude.{◌≡◌, ◌++◌, ◌+◌, ◌<◌, ◌^◌, ◌∷◌, [], IfOk, OnOk, if◌then◌else◌, codes};
 ghost use Rattle.std.specs.Fmt.{decimal};
-ghost use Rattle.listseg_meaning.specs.State.{Graphs};
-ghost use Rattle.listseg_meaning.specs.Text as texts;
+ghost use Rattle.dom_listseg_meaning.specs.State.{Graphs};
+ghost use Rattle.dom_listseg_meaning.specs.Text as texts;
 
 use crate::SegmentState;
 use crate::state::{Kept, listed};
 use crate::targets::last_slots;
-use graph_sets::FoldedGraph;
+use base_values::{Memory, Text};
+use dom_listseg_sets::FoldedGraph;
 use imp_slots::Layout;
 use itoa::Buffer;
-use plain_values::{Memory, Text};
-use shape_graph::{Atom, Graph};
+use shape_graph::{Atom, ShapeGraph};
 use std::alloc::Global;
 
 // A node's number, counted from 1.
@@ -23,7 +23,7 @@ fn put_number(text: &mut Text, node: usize) -> Result<(), Memory>
 }
 
 // `nil`, or the node's number.
-#[tactic(auto, unfolding(listseg_meaning::specs::Text::target_text))]
+#[tactic(auto, unfolding(dom_listseg_meaning::specs::Text::target_text))]
 fn put_target(text: &mut Text, target: Option<usize>) -> Result<(), Memory>
     ensures value { OnOk result (text.new ≡ text.old ++ texts.target_text target) }
 {
@@ -44,7 +44,7 @@ fn put_space(text: &mut Text, slot: usize) -> Result<(), Memory>
 }
 
 // `p=nil` or `p=k`, with a space in front of each but the first.
-#[tactic(auto, using(plain_values::proofs::Joined::joined_4))]
+#[tactic(auto, using(base_values::proofs::Joined::joined_4))]
 fn put_slot(text: &mut Text, slot: usize, name: &Text, target: Option<usize>) -> Result<(), Memory>
     ensures value { OnOk result (text.new ≡ text.old ++ (texts.space_at slot ++ name.now ++ codes "=" ++ texts.target_text target)) }
 {
@@ -66,7 +66,7 @@ fn put_kind(text: &mut Text, many: bool) -> Result<(), Memory>
 }
 
 // `k:one(t)` or `k:seg(t)`, with a space in front.
-#[tactic(auto, unfolding(listseg_meaning::specs::Text::node_text), using(plain_values::proofs::Joined::joined_5))]
+#[tactic(auto, unfolding(dom_listseg_meaning::specs::Text::node_text), using(base_values::proofs::Joined::joined_5))]
 fn put_node(text: &mut Text, node: usize, atom: Atom) -> Result<(), Memory>
     ensures value { OnOk result (text.new ≡ text.old ++ texts.node_text node atom) }
 {
@@ -101,8 +101,8 @@ fn put_nodes(text: &mut Text, atoms: &[Atom]) -> Result<(), Memory>
 }
 
 // The slots of the last frame, then the nodes.
-#[tactic(auto, unfolding(listseg_meaning::specs::Text::graph_text), using(plain_values::proofs::Joined::joined_2))]
-fn put_graph(text: &mut Text, names: &[Text], graph: &Graph) -> Result<(), Memory>
+#[tactic(auto, unfolding(dom_listseg_meaning::specs::Text::graph_text), using(base_values::proofs::Joined::joined_2))]
+fn put_graph(text: &mut Text, names: &[Text], graph: &ShapeGraph) -> Result<(), Memory>
     ensures value { OnOk result (text.new ≡ text.old ++ texts.graph_text names.now graph.now) }
 {
     if names.is_empty() {
@@ -124,7 +124,7 @@ fn put_more(text: &mut Text, names: &[Text], graphs: &[FoldedGraph]) -> Result<(
 }
 
 // The graphs, with ` | ` between; `none` where there is none.
-#[tactic(auto, unfolding(listseg_meaning::specs::Text::text))]
+#[tactic(auto, unfolding(dom_listseg_meaning::specs::Text::text))]
 fn graphs_text(alloc: Global, layout: &Layout, graphs: &[FoldedGraph]) -> Result<Text, Memory>
     ensures value { IfOk result (λ v. v ≡ texts.text layout.now (Graphs graphs.now)) }
 {
@@ -140,7 +140,7 @@ fn graphs_text(alloc: Global, layout: &Layout, graphs: &[FoldedGraph]) -> Result
 }
 
 /// A state's text.
-#[tactic(auto, unfolding(listseg_meaning::specs::Text::text))]
+#[tactic(auto, unfolding(dom_listseg_meaning::specs::Text::text))]
 pub fn state_text(alloc: Global, layout: &Layout, s: &SegmentState) -> Result<Text, Memory>
     ensures value { IfOk result (λ v. v ≡ texts.text layout.now s.now) }
 {

@@ -3,16 +3,16 @@ ghost use Rattle.std.specs.Prelude.{◌≡◌, false, Some, IfOk, if◌then◌el
 ghost use Rattle.imp_slots.specs.ActionViews.{effect_of, act_of};
 ghost use Rattle.domain_laws.specs.Checks as checks;
 ghost use Rattle.domain_laws.specs.Guards.{verdict_on};
-ghost use Rattle.analysis_words.specs.declared.verdict.Verdict.TheVariants as verdicts;
-ghost use Rattle.listseg_meaning.specs.Operations as operations;
+ghost use Rattle.imp_words.specs.declared.verdict.Verdict.TheVariants as verdicts;
+ghost use Rattle.dom_listseg_meaning.specs.Operations as operations;
 
 use crate::SegmentState;
 use crate::assumptions::assumed;
 use crate::state::is_empty;
 use crate::statements::is_cell;
-use analysis_words::Verdict;
+use base_values::Memory;
 use imp_slots::{SlotAction, SlotCond, SlotStmt};
-use plain_values::Memory;
+use imp_words::Verdict;
 use std::alloc::Global;
 
 // Safe where nothing fails the check.
@@ -70,7 +70,7 @@ fn action_verdict(alloc: Global, action: &SlotAction, s: &SegmentState) -> Resul
 }
 
 /// What a state says of the check of the statement behind it.
-#[tactic(auto, unfolding(listseg_meaning::specs::Operations::check), using(crate::proofs::Findings::dead_verdict))]
+#[tactic(auto, unfolding(dom_listseg_meaning::specs::Operations::check), using(crate::proofs::Findings::dead_verdict))]
 pub fn verdict(alloc: Global, stmt: &SlotStmt, s: &SegmentState) -> Result<Verdict, Memory>
     ensures exact { IfOk result (λ v. v ≡ operations.check (act_of stmt.now) s.now) }
 {

@@ -21,9 +21,9 @@ use Rattle.dbm_incremental.specs.ClosedMatrices.{IsClosed}
 use Rattle.dbm_incremental.specs.Equations.{ClosesEquated, equated}
 use Rattle.dbm_incremental.specs.Steps.{ClosesAllLowered, lowered_all}
 use Rattle.dbm_incremental.specs.declared.bounds.Bound.{Bound}
-use Rattle.octagon_meaning.specs.declared.form.Form.TheVariants.{Node}
-use Rattle.octagon_meaning.specs.Forms.{slot_form}
-use Rattle.octagon_meaning.specs.Matrices.{with_bound, with_equation, without}
+use Rattle.dom_octagon_meaning.specs.declared.form.Form.TheVariants.{Node}
+use Rattle.dom_octagon_meaning.specs.Forms.{slot_form}
+use Rattle.dom_octagon_meaning.specs.Matrices.{with_bound, with_equation, without}
 use Rattle.dom_octagon.specs.Added.{with_bound_if, with_bounds}
 use Rattle.dbm_incremental.proofs.LawLemmas.{closed-zero}
 

@@ -7,41 +7,41 @@ use Rattle.dbm_core.specs.Half.{HalfMatrix, IsMatrix, entry, nodes}
 use Rattle.dbm_core.specs.Weights.{AtMost, add_weight}
 use Rattle.dbm_incremental.proofs.KeepLemmas.{closed-diagonal, add_zero, zero_add}
 use Rattle.dbm_incremental.specs.ClosedMatrices.{IsClosed, IsWhole}
-use Rattle.octagon_meaning.specs.declared.source.Source.{Source}
-use Rattle.octagon_meaning.specs.declared.source.Source.TheVariants.{FromSlot, InRange}
-use Rattle.octagon_meaning.specs.Operations.{copied, entered}
+use Rattle.dom_octagon_meaning.specs.declared.source.ArgumentSource.{ArgumentSource}
+use Rattle.dom_octagon_meaning.specs.declared.source.ArgumentSource.TheVariants.{FromSlot, InRange}
+use Rattle.dom_octagon_meaning.specs.Operations.{copied, entered}
 
 -- ---- the sources of slots
 
-abbrev pub source_block : ℕ → Option Source → ℕ
+abbrev pub source_block : ℕ → Option ArgumentSource → ℕ
 source_block k (Some (FromSlot x)) = 0
 source_block k None = 1
 source_block k (Some (InRange r)) = k + 2
 
-abbrev pub block : List Source → ℕ → ℕ
+abbrev pub block : List ArgumentSource → ℕ → ℕ
 block ss i = source_block (i / 2) (slice_get ss (i / 2))
 
-abbrev pub IsRanged : Option Source → Type 0
+abbrev pub IsRanged : Option ArgumentSource → Type 0
 IsRanged (Some (FromSlot x)) = ⊥
 IsRanged None = ⊥
 IsRanged (Some (InRange r)) = Unit {0}
 
-pub copy-block : (k : ℕ) (s : Option Source) → source_block k s ≡ 0 → (x : ℕ) × (s ≡ Some (FromSlot x))
+pub copy-block : (k : ℕ) (s : Option ArgumentSource) → source_block k s ≡ 0 → (x : ℕ) × (s ≡ Some (FromSlot x))
 copy-block k (Some (FromSlot x)) e = (x, refl)
 copy-block k None e = absurd (omega (arith, e))
 copy-block k (Some (InRange r)) e = absurd (omega (arith, e))
 
-pub zero-block : (k : ℕ) (s : Option Source) → source_block k s ≡ 1 → s ≡ None
+pub zero-block : (k : ℕ) (s : Option ArgumentSource) → source_block k s ≡ 1 → s ≡ None
 zero-block k (Some (FromSlot x)) e = absurd (omega (arith, e))
 zero-block k None e = refl
 zero-block k (Some (InRange r)) e = absurd (omega (arith, e))
 
-pub range-block : (k q : ℕ) (s : Option Source) → source_block k s ≡ q + 2 → k ≡ q
+pub range-block : (k q : ℕ) (s : Option ArgumentSource) → source_block k s ≡ q + 2 → k ≡ q
 range-block k q (Some (FromSlot x)) e = absurd (omega (arith, e))
 range-block k q None e = absurd (omega (arith, e))
 range-block k q (Some (InRange r)) e = omega (arith, e)
 
-pub copied-none : (m : HalfMatrix) (i j : ℕ) (s t : Option Source) → (source_block (i / 2) s ≡ source_block (j / 2) t → ⊥) → copied m i j s t ≡ None
+pub copied-none : (m : HalfMatrix) (i j : ℕ) (s t : Option ArgumentSource) → (source_block (i / 2) s ≡ source_block (j / 2) t → ⊥) → copied m i j s t ≡ None
 copied-none m i j (Some (FromSlot x)) (Some (FromSlot y)) n = absurd (n refl)
 copied-none m i j (Some (FromSlot x)) (Some (InRange r)) n = refl
 copied-none m i j (Some (FromSlot x)) None n = refl
@@ -49,10 +49,10 @@ copied-none m i j (Some (InRange r)) t n = refl
 copied-none m i j None (Some t) n = refl
 copied-none m i j None None n = absurd (n refl)
 
-pub entered-same : (m : HalfMatrix) (ss : List Source) (i : ℕ) → entered m ss i i ≡ Some (pos 0)
+pub entered-same : (m : HalfMatrix) (ss : List ArgumentSource) (i : ℕ) → entered m ss i i ≡ Some (pos 0)
 entered-same m ss i = rw (eq-eqb i i refl) refl
 
-pub entered-copied : (m : HalfMatrix) (ss : List Source) (i j : ℕ) → (i ≡ j → ⊥) → entered m ss i j ≡ copied m i j (slice_get ss (i / 2)) (slice_get ss (j / 2))
+pub entered-copied : (m : HalfMatrix) (ss : List ArgumentSource) (i j : ℕ) → (i ≡ j → ⊥) → entered m ss i j ≡ copied m i j (slice_get ss (i / 2)) (slice_get ss (j / 2))
 entered-copied m ss i j n = rw (ne_eqb i j n) refl
 
 -- ---- the entries of the caller's matrix, at any numbers
@@ -80,7 +80,7 @@ back-anywhere m h t a b = elim (cases_lt a (nodes m)) [
 ]
 
 -- among the slots that are copied
-pub copies-triangular : (m : HalfMatrix) (ss : List Source) (i k j x y z : ℕ) → IsClosed m → IsWhole m → slice_get ss (i / 2) ≡ Some (FromSlot x) → slice_get ss (k / 2) ≡ Some (FromSlot y) → slice_get ss (j / 2) ≡ Some (FromSlot z) →
+pub copies-triangular : (m : HalfMatrix) (ss : List ArgumentSource) (i k j x y z : ℕ) → IsClosed m → IsWhole m → slice_get ss (i / 2) ≡ Some (FromSlot x) → slice_get ss (k / 2) ≡ Some (FromSlot y) → slice_get ss (j / 2) ≡ Some (FromSlot z) →
     AtMost (entered m ss i j) (add_weight (entered m ss i k) (entered m ss k j))
 copies-triangular m ss i k j x y z h t p q r = elim (cases_eq i k) [
   | inl e ↦ subst (λ a. AtMost (entered m ss i j) (add_weight (entered m ss i a) (entered m ss a j))) e (subst (λ v. AtMost (entered m ss i j) (add_weight v (entered m ss i j))) (sym (entered-same m ss i)) (add_zero (entered m ss i j)))

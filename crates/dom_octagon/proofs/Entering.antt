@@ -16,16 +16,16 @@ use Rattle.dbm_incremental.proofs.BlockLemmas.{single-triangles}
 use Rattle.dbm_incremental.proofs.MoveLemmas.{blocks-triangular}
 use Rattle.dbm_incremental.specs.ClosedMatrices.{IsClosed, IsWhole}
 use Rattle.num_bounds.specs.Bounds.{Bounds}
-use Rattle.octagon_meaning.proofs.Calls.{entered-coherent}
-use Rattle.octagon_meaning.proofs.Exact.{range-outside}
-use Rattle.octagon_meaning.specs.declared.source.Source.{Source}
-use Rattle.octagon_meaning.specs.declared.source.Source.TheVariants.{FromSlot, InRange}
-use Rattle.octagon_meaning.specs.Matrices.{is_beyond, meets_end, meets_range, with_greatest}
-use Rattle.octagon_meaning.specs.Operations.{copied, entered, meet_sources}
+use Rattle.dom_octagon_meaning.proofs.Calls.{entered-coherent}
+use Rattle.dom_octagon_meaning.proofs.Exact.{range-outside}
+use Rattle.dom_octagon_meaning.specs.declared.source.ArgumentSource.{ArgumentSource}
+use Rattle.dom_octagon_meaning.specs.declared.source.ArgumentSource.TheVariants.{FromSlot, InRange}
+use Rattle.dom_octagon_meaning.specs.Matrices.{is_beyond, meets_end, meets_range, with_greatest}
+use Rattle.dom_octagon_meaning.specs.Operations.{copied, entered, meet_sources}
 use Rattle.dom_octagon.proofs.Bounds.{bound-entries}
 use Rattle.dom_octagon.proofs.Copies.{IsRanged, block, copied-none, copies-triangular, copy-block, entered-copied, entered-same, range-block, source_block, zero-block}
 use Rattle.dom_octagon.proofs.Triangles.{entries-obey, single-least, single-miss}
-use Rattle.octagon_states.specs.Limits.{ObeysTriangles}
+use Rattle.dom_octagon_states.specs.Limits.{ObeysTriangles}
 use Rattle.dom_octagon.specs.Lists.{AreOrdered}
 use Rattle.dbm_close.proofs.SlotLemmas.{even-flip, odd-flip}
 use Rattle.dbm_incremental.proofs.KeepLemmas.{add_zero}
@@ -33,28 +33,28 @@ use Rattle.dbm_incremental.proofs.KeepLemmas.{add_zero}
 -- ---- ranges that are met
 
 -- the own bounds of a slot leave the numbers of its range
-abbrev Leaves : Option Source → Option ℤ → Option ℤ → Type 0
+abbrev Leaves : Option ArgumentSource → Option ℤ → Option ℤ → Type 0
 Leaves (Some (FromSlot x)) a b = Unit {0}
 Leaves None a b = Unit {0}
 Leaves (Some (InRange r)) a b = AtMost (Some (r.hi +ℤ r.hi)) a × AtMost (Some (neg_ℤ r.lo +ℤ neg_ℤ r.lo)) b
 
-leaves-none : (s : Option Source) (a b : Option ℤ) → a ≡ None → b ≡ None → Leaves s a b
+leaves-none : (s : Option ArgumentSource) (a b : Option ℤ) → a ≡ None → b ≡ None → Leaves s a b
 leaves-none (Some (FromSlot x)) a b e f = tt
 leaves-none None a b e f = tt
 leaves-none (Some (InRange r)) a b e f = (subst (AtMost (Some (r.hi +ℤ r.hi))) (sym e) tt, subst (AtMost (Some (neg_ℤ r.lo +ℤ neg_ℤ r.lo))) (sym f) tt)
 
-record IsEntered (m : HalfMatrix) (kinds : List Bool) (ss : List Source) (w : HalfMatrix) : Type 0 where
+record IsEntered (m : HalfMatrix) (kinds : List Bool) (ss : List ArgumentSource) (w : HalfMatrix) : Type 0 where
   pub matrix : IsMatrix w
   pub same_kinds : w.kinds ≡ kinds
   pub rest : (i j : ℕ) → i < 2 * length kinds → j < 2 * length kinds → ((i ≡ j → ⊥) × ((i / 2 ≡ j / 2) × IsRanged (slice_get ss (i / 2))) → ⊥) → entry w i j ≡ entered m ss i j
   pub own : (k : ℕ) → k < length kinds → IsRanged (slice_get ss k) → Leaves (slice_get ss k) (entry w (2 * k + 1) (2 * k)) (entry w (2 * k) (2 * k + 1))
 
-ranged-none : (m : HalfMatrix) (i j : ℕ) (s : Option Source) → IsRanged s → copied m i j s s ≡ None
+ranged-none : (m : HalfMatrix) (i j : ℕ) (s : Option ArgumentSource) → IsRanged s → copied m i j s s ≡ None
 ranged-none m i j (Some (FromSlot x)) p = absurd p
 ranged-none m i j None p = absurd p
 ranged-none m i j (Some (InRange r)) p = refl
 
-first-entered : (m : HalfMatrix) (kinds : List Bool) (ss : List Source) → IsMatrix m → length kinds ≤ 16 → IsEntered m kinds ss (matrix_of kinds (entered m ss))
+first-entered : (m : HalfMatrix) (kinds : List Bool) (ss : List ArgumentSource) → IsMatrix m → length kinds ≤ 16 → IsEntered m kinds ss (matrix_of kinds (entered m ss))
 first-entered m kinds ss h few = record {
   matrix = e.matrix;
   same_kinds = e.same_kinds;
@@ -72,7 +72,7 @@ first-entered m kinds ss h few = record {
     none k i j l p n a b = e.entries i j (omega arith) (omega arith) ∙ entered-copied m ss i j n ∙ ap (λ u. copied m i j (slice_get ss u) (slice_get ss (j / 2))) a ∙ ap (λ u. copied m i j (slice_get ss k) (slice_get ss u)) b ∙ ranged-none m i j (slice_get ss k) p
 
 -- a node's own bound lowered, of a slot that has a range
-module _ (m : HalfMatrix) (kinds : List Bool) (ss : List Source) (k : ℕ) (r : Bounds) (l : k < length kinds) (s : slice_get ss k ≡ Some (InRange r)) where
+module _ (m : HalfMatrix) (kinds : List Bool) (ss : List ArgumentSource) (k : ℕ) (r : Bounds) (l : k < length kinds) (s : slice_get ss k ≡ Some (InRange r)) where
   is_ranged : IsRanged (slice_get ss k)
   is_ranged = subst IsRanged (sym s) tt
 
@@ -149,7 +149,7 @@ module _ (m : HalfMatrix) (kinds : List Bool) (ss : List Source) (k : ℕ) (r : 
       let g : IsEntered m kinds ss (meets_end w (2 * k) r.hi) = end-entered (is_beyond w.kinds (2 * k) r.hi) w (with_greatest w (2 * k) r.hi) h (entered-high w h) in
       end-entered (is_beyond (meets_end w (2 * k) r.hi).kinds (2 * k + 1) (neg_ℤ r.lo)) (meets_end w (2 * k) r.hi) (with_greatest (meets_end w (2 * k) r.hi) (2 * k + 1) (neg_ℤ r.lo)) g (entered-low (meets_end w (2 * k) r.hi) g)
 
-sources-entered : (m : HalfMatrix) (kinds : List Bool) (ss : List Source) (w : HalfMatrix) (k : ℕ) (ts : List Source) → ((j : ℕ) → slice_get ss (k + j) ≡ slice_get ts j) → IsEntered m kinds ss w → IsEntered m kinds ss (meet_sources w k ts)
+sources-entered : (m : HalfMatrix) (kinds : List Bool) (ss : List ArgumentSource) (w : HalfMatrix) (k : ℕ) (ts : List ArgumentSource) → ((j : ℕ) → slice_get ss (k + j) ≡ slice_get ts j) → IsEntered m kinds ss w → IsEntered m kinds ss (meet_sources w k ts)
 sources-entered m kinds ss w k [] e h = h
 sources-entered m kinds ss w k (FromSlot x ∷ ts) e h = sources-entered m kinds ss w (k + 1) ts (λ j. let next : k + 1 + j ≡ k + suc j = omega arith in ap (slice_get ss) next ∙ e (suc j)) h
 sources-entered m kinds ss w k (InRange r ∷ ts) e h = sources-entered m kinds ss (meets_range w k r) (k + 1) ts (λ j. let next : k + 1 + j ≡ k + suc j = omega arith in ap (slice_get ss) next ∙ e (suc j)) (elim (cases_lt k (length kinds)) [
@@ -162,19 +162,19 @@ sources-entered m kinds ss w k (InRange r ∷ ts) e h = sources-entered m kinds 
 
 -- ---- the blocks
 
-abbrev IsOrdered : Option Source → Type 0
+abbrev IsOrdered : Option ArgumentSource → Type 0
 IsOrdered (Some (FromSlot x)) = Unit {0}
 IsOrdered None = Unit {0}
 IsOrdered (Some (InRange r)) = r.lo ≤ℤ r.hi
 
-ordered-at : (ss : List Source) → AreOrdered ss → (k : ℕ) → IsOrdered (slice_get ss k)
+ordered-at : (ss : List ArgumentSource) → AreOrdered ss → (k : ℕ) → IsOrdered (slice_get ss k)
 ordered-at [] o k = tt
 ordered-at (FromSlot x ∷ ss) o zero = tt
 ordered-at (FromSlot x ∷ ss) o (suc k) = ordered-at ss o k
 ordered-at (InRange r ∷ ss) o zero = o.0
 ordered-at (InRange r ∷ ss) o (suc k) = ordered-at ss o.1 k
 
-ordered-own : (s : Option Source) (a b : Option ℤ) → IsRanged s → IsOrdered s → Leaves s a b → AtMost (Some (pos 0)) (add_weight b a)
+ordered-own : (s : Option ArgumentSource) (a b : Option ℤ) → IsRanged s → IsOrdered s → Leaves s a b → AtMost (Some (pos 0)) (add_weight b a)
 ordered-own (Some (FromSlot x)) a b p o v = absurd p
 ordered-own None a b p o v = absurd p
 ordered-own (Some (InRange r)) a b p o v = AtMost-trans (Some (pos 0)) (Some ((neg_ℤ r.lo +ℤ neg_ℤ r.lo) +ℤ (r.hi +ℤ r.hi))) (add_weight b a) (below r.lo r.hi o)
@@ -183,7 +183,7 @@ ordered-own (Some (InRange r)) a b p o v = AtMost-trans (Some (pos 0)) (Some ((n
     below : (x y : ℤ) → x ≤ℤ y → pos 0 ≤ℤ ((neg_ℤ x +ℤ neg_ℤ x) +ℤ (y +ℤ y))
     below x y q = omega (arith, ints)
 
-entered-obeys : (m : HalfMatrix) (kinds : List Bool) (ss : List Source) (w : HalfMatrix) → IsClosed m → IsWhole m → AreOrdered ss → IsEntered m kinds ss w → ObeysTriangles w
+entered-obeys : (m : HalfMatrix) (kinds : List Bool) (ss : List ArgumentSource) (w : HalfMatrix) → IsClosed m → IsWhole m → AreOrdered ss → IsEntered m kinds ss w → ObeysTriangles w
 entered-obeys m kinds ss w h t o d = entries-obey kinds (entry w) w (record { matrix = d.matrix; same_kinds = d.same_kinds; entries = λ i j hi hj. refl }) zero
     (blocks-triangular (entry w) (2 * length kinds) (block ss) apart (λ i k j hi hk hj e f. within i k j hi hk hj e f (slice_get ss (i / 2)) refl))
   where
@@ -205,7 +205,7 @@ entered-obeys m kinds ss w h t o d = entries-obey kinds (entry w) w (record { ma
       | inr g ↦ entered-copied m ss i j g ∙ ap (λ s. copied m i j s (slice_get ss (j / 2))) e ∙ ap (copied m i j None) f
     ]
 
-    within : (i k j : ℕ) → i < 2 * length kinds → k < 2 * length kinds → j < 2 * length kinds → block ss i ≡ block ss k → block ss k ≡ block ss j → (s : Option Source) → slice_get ss (i / 2) ≡ s → AtMost (entry w i j) (add_weight (entry w i k) (entry w k j))
+    within : (i k j : ℕ) → i < 2 * length kinds → k < 2 * length kinds → j < 2 * length kinds → block ss i ≡ block ss k → block ss k ≡ block ss j → (s : Option ArgumentSource) → slice_get ss (i / 2) ≡ s → AtMost (entry w i j) (add_weight (entry w i k) (entry w k j))
     within i k j hi hk hj e f (Some (FromSlot x)) p =
         let b : block ss i ≡ 0 = ap (source_block (i / 2)) p in
         let q : (y : ℕ) × (slice_get ss (k / 2) ≡ Some (FromSlot y)) = copy-block (k / 2) (slice_get ss (k / 2)) (sym e ∙ b) in
@@ -228,6 +228,6 @@ entered-obeys m kinds ss w h t o d = entries-obey kinds (entry w) w (record { ma
         let g : IsRanged (slice_get ss (i / 2)) = subst IsRanged (sym p) tt in
         single-triangles (entry w) (2 * length kinds) (i / 2) zero (ordered-own (slice_get ss (i / 2)) (entry w (2 * (i / 2) + 1) (2 * (i / 2))) (entry w (2 * (i / 2)) (2 * (i / 2) + 1)) g (ordered-at ss o (i / 2)) (d.own (i / 2) l g)) i k j hi hk hj refl ek ej
 
-pub enter_obeys : (m : HalfMatrix) (kinds : List Bool) (ss : List Source) → IsClosed m → IsWhole m → length kinds ≤ 16 → AreOrdered ss → ObeysTriangles (meet_sources (matrix_of kinds (entered m ss)) 0 ss)
+pub enter_obeys : (m : HalfMatrix) (kinds : List Bool) (ss : List ArgumentSource) → IsClosed m → IsWhole m → length kinds ≤ 16 → AreOrdered ss → ObeysTriangles (meet_sources (matrix_of kinds (entered m ss)) 0 ss)
 enter_obeys m kinds ss h t few o = entered-obeys m kinds ss (meet_sources (matrix_of kinds (entered m ss)) 0 ss) h t o
     (sources-entered m kinds ss (matrix_of kinds (entered m ss)) 0 ss (λ j. ap (slice_get ss) (zero-add j)) (first-entered m kinds ss h.1.matrix few))

@@ -2,7 +2,7 @@
 use Rattle.std.specs.Prelude.{◌≡◌, ℕ, List, [], ◌∷◌, map, take, refl}
 use Rattle.std.proofs.Common.{ap, suc, zero}
 use Rattle.imp_slots.specs.Plain.{Numeric}
-use Rattle.octagon_meaning.specs.Operations.{kinds_of}
+use Rattle.dom_octagon_meaning.specs.Operations.{kinds_of}
 
 taken : (n : ℕ) (ks : List Numeric) → map (λ (k : Numeric). k.is_array) (take n ks) ≡ take n (map (λ (k : Numeric). k.is_array) ks)
 taken zero ks = refl

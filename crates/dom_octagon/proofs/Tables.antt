@@ -12,13 +12,13 @@ use Rattle.dbm_core.specs.Limits.{AreWithin, IsLimited, IsWithin, IsZeroAtMost}
 use Rattle.dbm_core.specs.Nodes.{IsCoherent, flip}
 use Rattle.dbm_core.specs.Tables.{matrix_of}
 use Rattle.dbm_core.specs.Weights.{add_weight}
-use Rattle.octagon_meaning.specs.Matrices.{carried, shift, shifted, turned}
-use Rattle.octagon_meaning.proofs.Matrices.{shifted-coherent, shifted-diagonal, turned-below}
-use Rattle.octagon_meaning.specs.declared.source.Source.{Source}
-use Rattle.octagon_meaning.specs.declared.source.Source.TheVariants.{FromSlot, InRange}
-use Rattle.octagon_meaning.specs.Operations.{copied, entered}
-use Rattle.octagon_meaning.proofs.Calls.{entered-coherent, entered-diagonal, zeros-coherent, zeros-diagonal}
-use Rattle.octagon_states.specs.Limits.{IsReady}
+use Rattle.dom_octagon_meaning.specs.Matrices.{carried, shift, shifted, turned}
+use Rattle.dom_octagon_meaning.proofs.Matrices.{shifted-coherent, shifted-diagonal, turned-below}
+use Rattle.dom_octagon_meaning.specs.declared.source.ArgumentSource.{ArgumentSource}
+use Rattle.dom_octagon_meaning.specs.declared.source.ArgumentSource.TheVariants.{FromSlot, InRange}
+use Rattle.dom_octagon_meaning.specs.Operations.{copied, entered}
+use Rattle.dom_octagon_meaning.proofs.Calls.{entered-coherent, entered-diagonal, zeros-coherent, zeros-diagonal}
+use Rattle.dom_octagon_states.specs.Limits.{IsReady}
 
 -- a closure's matrix is that of its table
 pub table-if_ok : {E : Type 0} (r : Result HalfMatrix E) (kinds : List Bool) (f : ℕ → ℕ → Option ℤ) → length kinds ≤ 16 → IsCoherent f (2 * length kinds) →
@@ -93,7 +93,7 @@ bound_within m i j h l = elim (cases_lt i (nodes m)) [
   | inr p ↦ subst (IsWithin (2 ^ 64)) (sym (entry-outside m h i j (inl p))) tt
 ]
 
-copied-within : (m : HalfMatrix) → IsMatrix m → IsLimited (2 ^ 64) m → (i j : ℕ) (s t : Option Source) → IsWithin (2 ^ 70) (copied m i j s t)
+copied-within : (m : HalfMatrix) → IsMatrix m → IsLimited (2 ^ 64) m → (i j : ℕ) (s t : Option ArgumentSource) → IsWithin (2 ^ 70) (copied m i j s t)
 copied-within m h l i j (Some (FromSlot x)) (Some (FromSlot y)) = within_more (entry m (2 * x + i % 2) (2 * y + j % 2)) (bound_within m (2 * x + i % 2) (2 * y + j % 2) h l)
 copied-within m h l i j (Some (FromSlot x)) (Some (InRange r)) = tt
 copied-within m h l i j (Some (FromSlot x)) None = tt
@@ -101,12 +101,12 @@ copied-within m h l i j (Some (InRange r)) t = tt
 copied-within m h l i j None (Some t) = tt
 copied-within m h l i j None None = zero_within
 
-entered-within : (m : HalfMatrix) → IsMatrix m → IsLimited (2 ^ 64) m → (ss : List Source) (n : ℕ) → AreWithin n (2 ^ 70) (entered m ss)
+entered-within : (m : HalfMatrix) → IsMatrix m → IsLimited (2 ^ 64) m → (ss : List ArgumentSource) (n : ℕ) → AreWithin n (2 ^ 70) (entered m ss)
 entered-within m h l ss n i j hi hj = by (eqb i j)
   where
     by : (b : Bool) → IsWithin (2 ^ 70) (if b then Some (pos 0) else copied m i j (slice_get ss (i / 2)) (slice_get ss (j / 2)))
     by true = zero_within
     by false = copied-within m h l i j (slice_get ss (i / 2)) (slice_get ss (j / 2))
 
-pub entered-is_ready : (m : HalfMatrix) (kinds : List Bool) (ss : List Source) → IsMatrix m → IsLimited (2 ^ 64) m → length kinds ≤ 16 → IsReady (matrix_of kinds (entered m ss))
+pub entered-is_ready : (m : HalfMatrix) (kinds : List Bool) (ss : List ArgumentSource) → IsMatrix m → IsLimited (2 ^ 64) m → length kinds ≤ 16 → IsReady (matrix_of kinds (entered m ss))
 entered-is_ready m kinds ss h l few = table-is_ready kinds (entered m ss) few (entered-coherent m h ss (2 * length kinds)) (entered-diagonal m ss (2 * length kinds)) (entered-within m h l ss (2 * length kinds))

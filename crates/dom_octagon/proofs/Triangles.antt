@@ -21,13 +21,13 @@ use Rattle.dbm_incremental.proofs.TriangleLemmas.{triangles-from_weights, weight
 use Rattle.dbm_incremental.specs.ClosedMatrices.{IsClosed, IsStrong, IsWhole}
 use Rattle.dbm_incremental.specs.Triangles.{AreSoundWeights, IsTriangular}
 use Rattle.num_bounds.specs.Bounds.{Bounds}
-use Rattle.octagon_meaning.proofs.Exact.{bound-outside, range-outside}
-use Rattle.octagon_meaning.proofs.Matrices.{shift-flip, shifted-coherent, turned-below, turned-flip}
-use Rattle.octagon_meaning.specs.declared.form.Form.TheVariants.{Constant}
-use Rattle.octagon_meaning.specs.Forms.{slot_form}
-use Rattle.octagon_meaning.specs.Matrices.{carried, is_beyond, meets_end, meets_range, shift, shifted, turned, with_equation, with_greatest, without}
+use Rattle.dom_octagon_meaning.proofs.Exact.{bound-outside, range-outside}
+use Rattle.dom_octagon_meaning.proofs.Matrices.{shift-flip, shifted-coherent, turned-below, turned-flip}
+use Rattle.dom_octagon_meaning.specs.declared.form.Form.TheVariants.{Constant}
+use Rattle.dom_octagon_meaning.specs.Forms.{slot_form}
+use Rattle.dom_octagon_meaning.specs.Matrices.{carried, is_beyond, meets_end, meets_range, shift, shifted, turned, with_equation, with_greatest, without}
 use Rattle.dom_octagon.proofs.Bounds.{bound-entries, without-entries}
-use Rattle.octagon_states.specs.Limits.{ChangesOnly, ObeysTriangles}
+use Rattle.dom_octagon_states.specs.Limits.{ChangesOnly, ObeysTriangles}
 use Rattle.dbm_close.proofs.SlotLemmas.{even-flip, odd-flip}
 use Rattle.dbm_incremental.proofs.SlotLemmas.{nothing_added}
 

@@ -8,9 +8,9 @@ use Rattle.dbm_core.specs.Half.{HalfMatrix, IsMatrix, entry}
 use Rattle.dbm_close.specs.Close.{slot_high, slot_low}
 use Rattle.dbm_close.specs.Steps.{extreme_high, extreme_low, range_high, range_low}
 use Rattle.num_bounds.specs.Bounds.{IsRange, least, greatest}
-use Rattle.octagon_meaning.specs.Ranges.{range_at}
-use Rattle.octagon_meaning.proofs.Ranges.{range_at-outside}
-use Rattle.octagon_states.specs.Limits.{IsTight}
+use Rattle.dom_octagon_meaning.specs.Ranges.{range_at}
+use Rattle.dom_octagon_meaning.proofs.Ranges.{range_at-outside}
+use Rattle.dom_octagon_states.specs.Limits.{IsTight}
 
 pub word-same : (z : ℤ) → least ≤ℤ z → z ≤ℤ greatest → to_z w64 (of_z w64 (to_z w128 (of_z w128 z))) ≡ z
 word-same z p q =

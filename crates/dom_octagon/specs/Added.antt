@@ -3,7 +3,7 @@ use Rattle.std.specs.Prelude.{◌^◌, Option, Some, None, List, [], ◌∷◌}
 use Rattle.dbm_core.specs.Half.{HalfMatrix}
 use Rattle.dbm_core.specs.Limits.{IsWithin}
 use Rattle.dbm_incremental.specs.declared.bounds.Bound.{Bound}
-use Rattle.octagon_meaning.specs.Matrices.{with_bound}
+use Rattle.dom_octagon_meaning.specs.Matrices.{with_bound}
 
 -- a bound, if there is one, added
 abbrev pub with_bound_if : HalfMatrix → Option Bound → HalfMatrix

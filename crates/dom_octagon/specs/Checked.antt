@@ -1,7 +1,7 @@
 -- What a check leaves of a state.
 use Rattle.std.specs.Prelude.{Option, Some, None}
 use Rattle.dbm_close.specs.declared.closed.Closed.{Closed}
-use Rattle.octagon_meaning.specs.States.{closed}
+use Rattle.dom_octagon_meaning.specs.States.{closed}
 
 -- the closed state of the other, if there is one, else of this one
 abbrev pub closed_if : Option Closed → Closed → Closed

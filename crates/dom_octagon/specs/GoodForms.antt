@@ -1,8 +1,8 @@
 -- What code knows of the forms of expressions.
 use Rattle.std.specs.Prelude.{◌<◌, ◌^◌, Option, Some, None}
-use Rattle.octagon_meaning.specs.Claims.{IsSmallForm}
-use Rattle.octagon_meaning.specs.declared.form.Form.{Form}
-use Rattle.octagon_meaning.specs.declared.form.Form.TheVariants.{Constant, Node}
+use Rattle.dom_octagon_meaning.specs.Claims.{IsSmallForm}
+use Rattle.dom_octagon_meaning.specs.declared.form.Form.{Form}
+use Rattle.dom_octagon_meaning.specs.declared.form.Form.TheVariants.{Constant, Node}
 
 -- a form's node is a number of 40 bits
 abbrev pub HasShortNode : Form → Type 0

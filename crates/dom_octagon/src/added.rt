@@ -5,13 +5,13 @@ ghost use Rattle.dbm_core.specs.Limits.{IsLimited};
 ghost use Rattle.dbm_close.specs.CloseOf.{close_of};
 ghost use Rattle.dbm_incremental.specs.Steps.{AreBounds};
 ghost use Rattle.dom_octagon.specs.Added.{AreSmallBounds, IsSmallBound, with_bound_if, with_bounds};
-ghost use Rattle.octagon_states.specs.Limits.{IsReady, IsTight};
+ghost use Rattle.dom_octagon_states.specs.Limits.{IsReady, IsTight};
 
 use crate::matrices::bound;
+use base_values::Memory;
 use dbm_core::Matrix;
 use dbm_incremental::{Bound, close_after_bounds, is_whole};
-use octagon_states::{OctagonState, answered, closed_copy, closed_matrix};
-use plain_values::Memory;
+use dom_octagon_states::{OctagonState, answered, closed_copy, closed_matrix};
 use std::alloc::Global;
 
 /// A closed matrix with at most two bounds added, and closed.

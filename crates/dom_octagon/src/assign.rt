@@ -6,20 +6,20 @@ ghost use Rattle.dbm_core.specs.Weights.{add_weight};
 ghost use Rattle.dbm_close.specs.CloseOf.{close_of};
 ghost use Rattle.dbm_close.specs.declared.closed.Closed.TheVariants.{Matrix as Bounded};
 ghost use Rattle.dbm_incremental.specs.ClosedMatrices.{IsClosed};
-ghost use Rattle.octagon_meaning.specs.declared.form.Form.TheVariants.{Constant, Node};
-ghost use Rattle.octagon_meaning.specs.Forms.{slot_form as slot_form_of};
-ghost use Rattle.octagon_meaning.specs.Matrices as matrices;
+ghost use Rattle.dom_octagon_meaning.specs.declared.form.Form.TheVariants.{Constant, Node};
+ghost use Rattle.dom_octagon_meaning.specs.Forms.{slot_form as slot_form_of};
+ghost use Rattle.dom_octagon_meaning.specs.Matrices as matrices;
 ghost use Rattle.dom_octagon.specs.GoodForms.{IsGoodForm};
-ghost use Rattle.octagon_states.specs.Limits.{IsReady, IsTight};
+ghost use Rattle.dom_octagon_states.specs.Limits.{IsReady, IsTight};
 
 use crate::evaluate::slot_form;
 use crate::matrices::{equation, meet_range};
+use base_values::Memory;
 use dbm_core::{Matrix, other_sign};
 use dbm_incremental::{close_equation, is_whole};
+use dom_octagon_meaning::Form;
+use dom_octagon_states::{OctagonState, answered, close_changed, closed_matrix};
 use num_bounds::Range;
-use octagon_meaning::Form;
-use octagon_states::{OctagonState, answered, close_changed, closed_matrix};
-use plain_values::Memory;
 use std::alloc::Global;
 
 /// The bounds on a slot dropped.

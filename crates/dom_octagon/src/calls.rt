@@ -6,17 +6,17 @@ ghost use Rattle.dbm_core.specs.Limits.{IsLimited, IsWithin};
 ghost use Rattle.dbm_core.specs.Tables.{matrix_of};
 ghost use Rattle.dbm_close.specs.CloseOf.{close_of};
 ghost use Rattle.imp_slots.specs.CallViews.{argument_of};
-ghost use Rattle.octagon_meaning.specs.Operations as operations;
-ghost use Rattle.octagon_states.specs.Limits.{IsReady, IsTight};
+ghost use Rattle.dom_octagon_meaning.specs.Operations as operations;
+ghost use Rattle.dom_octagon_states.specs.Limits.{IsReady, IsTight};
 ghost use Rattle.dom_octagon.specs.Lists.{AreOrdered, behind_these};
 
 use crate::evaluate::evaluate;
 use crate::matrices::meet_range;
+use base_values::Memory;
 use dbm_core::Matrix;
+use dom_octagon_meaning::ArgumentSource;
+use dom_octagon_states::{OctagonState, close_kept, closed_matrix, closure, empty};
 use imp_slots::{Argument, Entering, Layout, NumericSlot, SlotExpr, SlotExprNode};
-use octagon_meaning::Source;
-use octagon_states::{OctagonState, close_kept, closed_matrix, closure, empty};
-use plain_values::Memory;
 use std::alloc::{AllocError, Global};
 
 fn first_kinds(alloc: Global, numbers: &[NumericSlot]) -> Result<Vec<bool>, AllocError>
@@ -30,7 +30,7 @@ fn first_kinds(alloc: Global, numbers: &[NumericSlot]) -> Result<Vec<bool>, Allo
 }
 
 /// The kinds of the first 16 slots.
-#[tactic(auto, using(crate::proofs::FirstKinds::kinds_taken, octagon_meaning::proofs::Fitting::kinds_few))]
+#[tactic(auto, using(crate::proofs::FirstKinds::kinds_taken, dom_octagon_meaning::proofs::Fitting::kinds_few))]
 pub fn kinds(alloc: Global, numbers: &[NumericSlot]) -> Result<Vec<bool>, Memory>
     ensures exact { IfOk result (λ v. v.items ≡ operations.kinds_of numbers.now) }
     ensures few { IfOk result (λ v. length v.items ≤ 16) }
@@ -54,7 +54,7 @@ fn zeros(alloc: Global, kinds: &[bool]) -> Result<Matrix, Memory>
 }
 
 /// The state in front of main's body.
-#[tactic(auto, unfolding(octagon_meaning::specs::Operations::init))]
+#[tactic(auto, unfolding(dom_octagon_meaning::specs::Operations::init))]
 pub fn initial(alloc: Global, main: &Layout) -> Result<OctagonState, Memory>
     ensures exact { IfOk result (λ s. s ≡ operations.init main.now) }
 {
@@ -64,13 +64,13 @@ pub fn initial(alloc: Global, main: &Layout) -> Result<OctagonState, Memory>
 }
 
 /// Where an int argument has its value from: a variable's or an array's slot, else its range.
-fn source(m: &Matrix, e: &SlotExpr) -> Option<Source>
+fn source(m: &Matrix, e: &SlotExpr) -> Option<ArgumentSource>
     requires tight { IsTight m.now }
     ensures exact { result ≡ operations.source_of m.now e.now }
 {
     match e.node() {
-        SlotExprNode::Slot(x) => Some(Source::FromSlot(*x)),
-        SlotExprNode::Length(a) => Some(Source::FromSlot(*a)),
+        SlotExprNode::Slot(x) => Some(ArgumentSource::FromSlot(*x)),
+        SlotExprNode::Length(a) => Some(ArgumentSource::FromSlot(*a)),
         SlotExprNode::Literal(_) => ranged_source(m, e),
         SlotExprNode::Negative(_) => ranged_source(m, e),
         SlotExprNode::Binary(_, _, _) => ranged_source(m, e),
@@ -78,13 +78,13 @@ fn source(m: &Matrix, e: &SlotExpr) -> Option<Source>
 }
 
 /// Any number of the range of an expression.
-fn ranged_source(m: &Matrix, e: &SlotExpr) -> Option<Source>
+fn ranged_source(m: &Matrix, e: &SlotExpr) -> Option<ArgumentSource>
     requires tight { IsTight m.now }
     ensures exact { result ≡ operations.ranged_source m.now e.now }
 {
     match evaluate(m, e) {
         None => None,
-        Some(value) => Some(Source::InRange(value.range)),
+        Some(value) => Some(ArgumentSource::InRange(value.range)),
     }
 }
 
@@ -93,8 +93,8 @@ fn ranged_source(m: &Matrix, e: &SlotExpr) -> Option<Source>
 fn sources(
     m: &Matrix,
     arguments: &[Argument],
-    sources: Vec<Source>,
-) -> Result<Option<Vec<Source>>, Memory>
+    sources: Vec<ArgumentSource>,
+) -> Result<Option<Vec<ArgumentSource>>, Memory>
     requires tight { IsTight m.now }
     ensures exact { IfOk result (λ o. option_map (λ r. r.items) o ≡ behind_these sources.items (operations.sources m.now (map argument_of arguments.now))) }
 {
@@ -103,7 +103,7 @@ fn sources(
         [Argument::Link(_), rest @ ..] => self::sources(m, rest, sources),
         [Argument::Array(a), rest @ ..] => {
             let mut sources = sources;
-            sources.push(Source::FromSlot(*a))?;
+            sources.push(ArgumentSource::FromSlot(*a))?;
             self::sources(m, rest, sources)
         }
         [Argument::Int(e), rest @ ..] => {
@@ -118,7 +118,7 @@ fn sources(
 }
 
 /// The slot of the caller that is a slot's source, if one is.
-fn source_at(sources: &[Source], k: usize) -> Option<Source>
+fn source_at(sources: &[ArgumentSource], k: usize) -> Option<ArgumentSource>
     ensures exact { result ≡ slice_get sources.now k }
 {
     if k < sources.len() {
@@ -145,25 +145,25 @@ fn copied(
     m: &Matrix,
     i: usize,
     j: usize,
-    first: Option<Source>,
-    second: Option<Source>,
+    first: Option<ArgumentSource>,
+    second: Option<ArgumentSource>,
 ) -> Option<i128>
     ensures exact { result ≡ operations.copied m.now i j first second }
 {
     match (first, second) {
-        (Some(Source::FromSlot(x)), Some(Source::FromSlot(y))) => {
+        (Some(ArgumentSource::FromSlot(x)), Some(ArgumentSource::FromSlot(y))) => {
             bound_at(m, 2 * (x as usize) + i % 2, 2 * (y as usize) + j % 2)
         }
-        (Some(Source::FromSlot(_)), Some(Source::InRange(_))) => None,
-        (Some(Source::FromSlot(_)), None) => None,
-        (Some(Source::InRange(_)), _) => None,
+        (Some(ArgumentSource::FromSlot(_)), Some(ArgumentSource::InRange(_))) => None,
+        (Some(ArgumentSource::FromSlot(_)), None) => None,
+        (Some(ArgumentSource::InRange(_)), _) => None,
         (None, Some(_)) => None,
         (None, None) => Some(0),
     }
 }
 
 /// The bound between two nodes of the callee before those that ranges give.
-fn entered_bound(m: &Matrix, sources: &[Source], i: usize, j: usize) -> Option<i128>
+fn entered_bound(m: &Matrix, sources: &[ArgumentSource], i: usize, j: usize) -> Option<i128>
     ensures exact { result ≡ operations.entered m.now sources.now i j }
 {
     if i == j {
@@ -183,7 +183,7 @@ fn entered_matrix(
     alloc: Global,
     m: &Matrix,
     kinds: &[bool],
-    sources: &[Source],
+    sources: &[ArgumentSource],
 ) -> Result<Matrix, Memory>
     requires few { length kinds.now ≤ 16 }
     requires limited { IsLimited (2 ^ 64) m.now }
@@ -201,7 +201,7 @@ fn entered_matrix(
 }
 
 /// Makes the slots from k on that have a range meet it.
-fn meet_sources(m: &mut Matrix, k: usize, sources: &[Source])
+fn meet_sources(m: &mut Matrix, k: usize, sources: &[ArgumentSource])
     requires slot { k ≤ 17 }
     ensures value { m.new ≡ operations.meet_sources m.old k sources.now }
     ensures ready { IsReady m.old → IsReady m.new }
@@ -211,8 +211,8 @@ fn meet_sources(m: &mut Matrix, k: usize, sources: &[Source])
     }
     match sources {
         [] => {}
-        [Source::FromSlot(_), rest @ ..] => meet_sources(m, k + 1, rest),
-        [Source::InRange(range), rest @ ..] => {
+        [ArgumentSource::FromSlot(_), rest @ ..] => meet_sources(m, k + 1, rest),
+        [ArgumentSource::InRange(range), rest @ ..] => {
             meet_range(m, k, *range);
             meet_sources(m, k + 1, rest);
         }
@@ -234,13 +234,13 @@ fn entered_by(alloc: Global, entering: &Entering, m: &Matrix) -> Result<OctagonS
 }
 
 /// The ends of each range are in order: there is nothing to do.
-fn ordered(sources: &[Source])
+fn ordered(sources: &[ArgumentSource])
     ensures ordered { AreOrdered sources.now }
 {
     match sources {
         [] => {}
-        [Source::FromSlot(_), rest @ ..] => ordered(rest),
-        [Source::InRange(range), rest @ ..] => {
+        [ArgumentSource::FromSlot(_), rest @ ..] => ordered(rest),
+        [ArgumentSource::InRange(range), rest @ ..] => {
             let _low = range.lo();
             ordered(rest);
         }
@@ -252,7 +252,7 @@ fn close_entered(
     alloc: Global,
     m: &Matrix,
     kinds: &[bool],
-    sources: &[Source],
+    sources: &[ArgumentSource],
 ) -> Result<OctagonState, Memory>
     requires few { length kinds.now ≤ 16 }
     requires tight { IsTight m.now }
@@ -265,7 +265,7 @@ fn close_entered(
 }
 
 /// The state in front of a callee's body.
-#[tactic(auto, unfolding(octagon_meaning::specs::Operations::enter))]
+#[tactic(auto, unfolding(dom_octagon_meaning::specs::Operations::enter))]
 pub fn entered(alloc: Global, entering: &Entering, s: &OctagonState) -> Result<OctagonState, Memory>
     ensures exact { IfOk result (λ t. t ≡ operations.enter entering.now s.now) }
 {

@@ -4,22 +4,22 @@ ghost use Rattle.domain_laws.specs.Checks.{opposite};
 ghost use Rattle.dbm_core.specs.Half.{HalfMatrix};
 ghost use Rattle.dbm_core.specs.Limits.{IsWithin};
 ghost use Rattle.dbm_close.specs.CloseOf.{close_of};
-ghost use Rattle.octagon_meaning.specs.Operations as operations;
+ghost use Rattle.dom_octagon_meaning.specs.Operations as operations;
 ghost use Rattle.dom_octagon.specs.Added.{IsSmallBound, with_bound_if};
 ghost use Rattle.dom_octagon.specs.GoodForms.{IsGoodForm};
-ghost use Rattle.octagon_states.specs.Limits.{IsTight};
+ghost use Rattle.dom_octagon_states.specs.Limits.{IsTight};
 
 use crate::added::close_with;
 use crate::evaluate::evaluate;
 use crate::matrices::{difference, side_at_least, side_at_most};
+use base_values::Memory;
 use dbm_core::Matrix;
 use dbm_incremental::Bound;
+use dom_octagon_meaning::Form;
+use dom_octagon_states::{OctagonState, closure, empty, joined};
 use imp_slots::SlotExpr;
 use imp_syntax::Relation;
 use num_bounds::Range;
-use octagon_meaning::Form;
-use octagon_states::{OctagonState, closure, empty, joined};
-use plain_values::Memory;
 use std::alloc::Global;
 
 /// What is less than the greatest number of a range.
@@ -230,7 +230,7 @@ fn compare_terms(
 }
 
 /// What a comparison of expressions leaves of a state.
-#[tactic(auto, unfolding(octagon_meaning::specs::Operations::compare))]
+#[tactic(auto, unfolding(dom_octagon_meaning::specs::Operations::compare))]
 pub fn compared(
     alloc: Global,
     relation: Relation,

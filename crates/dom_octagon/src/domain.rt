@@ -1,8 +1,8 @@
 //! The octagons as a domain.
 ghost use Rattle.std.specs.Prelude.{refl};
-ghost use Rattle.octagon_meaning.specs.Covers as meaning;
-ghost use Rattle.octagon_meaning.specs.Domain.{octagons};
-ghost use Rattle.octagon_meaning.proofs.Laws.{octagon_laws, octagon_keeps_dead};
+ghost use Rattle.dom_octagon_meaning.specs.Covers as meaning;
+ghost use Rattle.dom_octagon_meaning.specs.Domain.{octagons};
+ghost use Rattle.dom_octagon_meaning.proofs.Laws.{octagon_laws, octagon_keeps_dead};
 
 use crate::calls::{entered, initial};
 use crate::guards::assumed;
@@ -10,10 +10,10 @@ use crate::returns::left;
 use crate::statements::behind;
 use crate::text::state_text;
 use crate::verdicts::verdict;
+use base_values::{Memory, Text};
+use dom_octagon_states::{OctagonState, closed, copy_of, is_empty, joined, widened};
 use domain_laws::{Domain, Steps, Verdict};
 use imp_slots::{Layout, SlotCall, SlotCond, SlotStmt};
-use octagon_states::{OctagonState, closed, copy_of, is_empty, joined, widened};
-use plain_values::{Memory, Text};
 use std::alloc::Global;
 use std::sync::ledger::Ledger;
 
@@ -77,13 +77,13 @@ impl Domain for Octagon {
     fn widen<L: Ledger>(
         &self,
         alloc: Global,
-        marks: &[i64],
+        thresholds: &[i64],
         l: &OctagonState,
         r: &OctagonState,
         steps: &mut Steps<L>,
     ) -> Result<OctagonState, Memory> {
         steps.tick();
-        widened(alloc, marks, l, r)
+        widened(alloc, thresholds, l, r)
     }
 
     fn enter<L: Ledger>(

@@ -1,20 +1,20 @@
 //! The ranges and the linear forms of expressions.
 ghost use Rattle.std.specs.Prelude.{◌≡◌, ◌<◌, ◌^◌, pos, Some, IfSome, option_map};
 ghost use Rattle.dbm_core.specs.Limits.{IsWithin};
-ghost use Rattle.octagon_meaning.specs.Claims.{constant_of};
-ghost use Rattle.octagon_meaning.specs.Forms as forms;
-ghost use Rattle.octagon_meaning.specs.Ranges.{range_at, range_of};
-ghost use Rattle.octagon_meaning.specs.declared.form.Form.TheVariants.{Constant};
+ghost use Rattle.dom_octagon_meaning.specs.Claims.{constant_of};
+ghost use Rattle.dom_octagon_meaning.specs.Forms as forms;
+ghost use Rattle.dom_octagon_meaning.specs.Ranges.{range_at, range_of};
+ghost use Rattle.dom_octagon_meaning.specs.declared.form.Form.TheVariants.{Constant};
 ghost use Rattle.dom_octagon.specs.GoodForms.{HasShortNode, HasShortNodeIf, IsGoodForm};
-ghost use Rattle.octagon_states.specs.Limits.{IsTight};
+ghost use Rattle.dom_octagon_states.specs.Limits.{IsTight};
 
 use dbm_close::slot_range;
 use dbm_core::{Matrix, other_sign};
+use dom_numeric::operate;
+use dom_octagon_meaning::Form;
 use imp_slots::{SlotExpr, SlotExprNode};
 use imp_syntax::Operator;
 use num_bounds::Range;
-use numeric_slots::operate;
-use octagon_meaning::Form;
 
 /// What is known of an expression that has a range: it, and the linear form, if there is one.
 #[derive(Clone, Copy)]
@@ -153,7 +153,7 @@ fn known(m: &Matrix, e: &SlotExpr, range: Range, form: Option<Form>) -> Valued
 }
 
 /// What is known of an expression over a closed matrix, or `None` where it has no value.
-#[tactic(auto, unfolding(numeric_slots::specs::Ranges::range_by, octagon_meaning::specs::Forms::form_of))]
+#[tactic(auto, unfolding(dom_numeric::specs::Ranges::range_by, dom_octagon_meaning::specs::Forms::form_of))]
 pub fn evaluate(m: &Matrix, e: &SlotExpr) -> Option<Valued>
     requires tight { IsTight m.now }
     ensures range { option_map (λ v. v.range) result ≡ range_of m.now e.now }

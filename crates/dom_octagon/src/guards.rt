@@ -1,15 +1,15 @@
 //! What is assumed of guards.
 ghost use Rattle.std.specs.Prelude.{◌≡◌, IfOk};
-ghost use Rattle.octagon_meaning.specs.Operations as operations;
+ghost use Rattle.dom_octagon_meaning.specs.Operations as operations;
 
 use crate::compare::{compared, opposite_of};
+use base_values::Memory;
+use dom_octagon_states::{OctagonState, closed, joined};
 use imp_slots::{SlotCond, SlotCondNode};
-use octagon_states::{OctagonState, closed, joined};
-use plain_values::Memory;
 use std::alloc::Global;
 
 /// The state where the condition has this truth value.
-#[tactic(auto, unfolding(octagon_meaning::specs::Operations::assume))]
+#[tactic(auto, unfolding(dom_octagon_meaning::specs::Operations::assume))]
 pub fn assumed(
     alloc: Global,
     c: &SlotCond,

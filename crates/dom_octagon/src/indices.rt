@@ -1,20 +1,20 @@
 //! Comparisons of an index with the ends of its array.
 ghost use Rattle.std.specs.Prelude.{◌≡◌, IfOk};
 ghost use Rattle.imp_slots.specs.Plain.{Literal, Length};
-ghost use Rattle.octagon_meaning.specs.Operations as operations;
+ghost use Rattle.dom_octagon_meaning.specs.Operations as operations;
 
 use crate::compare::related;
 use crate::evaluate::{evaluate, slot};
+use base_values::Memory;
+use dom_octagon_meaning::Form;
+use dom_octagon_states::{OctagonState, closure, empty};
 use imp_slots::SlotExpr;
 use imp_syntax::Relation;
 use num_bounds::Range;
-use octagon_meaning::Form;
-use octagon_states::{OctagonState, closure, empty};
-use plain_values::Memory;
 use std::alloc::Global;
 
 /// What comparing 0 with an index leaves.
-#[tactic(auto, unfolding(octagon_meaning::specs::Operations::compare, numeric_slots::specs::Ranges::range_by, octagon_meaning::specs::Forms::form_of))]
+#[tactic(auto, unfolding(dom_octagon_meaning::specs::Operations::compare, dom_numeric::specs::Ranges::range_by, dom_octagon_meaning::specs::Forms::form_of))]
 pub fn zero_and(
     alloc: Global,
     relation: Relation,
@@ -41,7 +41,7 @@ pub fn zero_and(
 }
 
 /// What comparing an index with an array's length leaves.
-#[tactic(auto, unfolding(octagon_meaning::specs::Operations::compare, numeric_slots::specs::Ranges::range_by, octagon_meaning::specs::Forms::form_of))]
+#[tactic(auto, unfolding(dom_octagon_meaning::specs::Operations::compare, dom_numeric::specs::Ranges::range_by, dom_octagon_meaning::specs::Forms::form_of))]
 pub fn and_length(
     alloc: Global,
     relation: Relation,

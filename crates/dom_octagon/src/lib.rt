@@ -1,10 +1,10 @@
 //! Octagons: bounds on the values of ints and the lengths of arrays, on their sums and differences.
 //!
 //! A state is nothing, or a matrix of bounds on at most 16 slots. Its operations are exactly the
-//! definitions of `octagon_meaning`, whose laws are those of a domain. The domain is that of A. Miné,
+//! definitions of `dom_octagon_meaning`, whose laws are those of a domain. The domain is that of A. Miné,
 //! "The Octagon Abstract Domain", 2006.
 //!
-//! The states are those of `octagon_states`, which closes each once. What an operation makes of a closed matrix is closed in
+//! The states are those of `dom_octagon_states`, which closes each once. What an operation makes of a closed matrix is closed in
 //! quadratic time: after bounds, a call. After an assignment only the bounds on its slot are gone over. A matrix with bounds
 //! of 2^63 or more is closed whole.
 #![tactic(auto)]

@@ -3,15 +3,15 @@
 ghost use Rattle.std.specs.Prelude.{◌≡◌, ◌<◌, ◌^◌, ◌+ℤ◌, ◌-ℤ◌, Some};
 ghost use Rattle.dbm_core.specs.Half.{HalfMatrix};
 ghost use Rattle.dbm_core.specs.Limits.{IsWithin};
-ghost use Rattle.octagon_meaning.specs.Matrices as matrices;
+ghost use Rattle.dom_octagon_meaning.specs.Matrices as matrices;
 ghost use Rattle.dom_octagon.specs.Added.{IsSmallBound, with_bound_if};
 ghost use Rattle.dom_octagon.specs.GoodForms.{IsGoodForm};
-ghost use Rattle.octagon_states.specs.Limits.{IsReady};
+ghost use Rattle.dom_octagon_states.specs.Limits.{IsReady};
 
 use dbm_core::{Matrix, other_sign};
 use dbm_incremental::Bound;
+use dom_octagon_meaning::Form;
 use num_bounds::Range;
-use octagon_meaning::Form;
 
 /// Makes the bound on `v_j - v_i` at most this one, where these are nodes of the matrix.
 pub fn bound(m: &mut Matrix, i: usize, j: usize, c: i128)
@@ -119,7 +119,7 @@ fn is_beyond(m: &Matrix, i: usize, c: i128) -> bool
 
 /// The bound that makes `v_i` at most an end of a range: an int slot takes none at or beyond its
 /// extreme.
-#[tactic(auto, unfolding(octagon_meaning::specs::Matrices::meets_end))]
+#[tactic(auto, unfolding(dom_octagon_meaning::specs::Matrices::meets_end))]
 fn end(m: &Matrix, i: usize, c: i128) -> Option<Bound>
     requires node { i < 2 ^ 60 }
     requires small { IsWithin (2 ^ 69) (Some c) }

@@ -2,18 +2,18 @@
 ghost use Rattle.std.specs.Prelude.{◌≡◌, ◌^◌, IfOk, IfSome};
 ghost use Rattle.std.specs.Option.{option_copied};
 ghost use Rattle.dbm_core.specs.Limits.{IsLimited};
-ghost use Rattle.octagon_meaning.specs.States as states;
-ghost use Rattle.octagon_words.specs.Words as meant;
-ghost use Rattle.octagon_words.specs.Words.{octagon_port, state_in};
-ghost use Rattle.octagon_words.proofs.Portable.{octagon_portable};
+ghost use Rattle.dom_octagon_meaning.specs.States as states;
+ghost use Rattle.dom_octagon_words.specs.Words as meant;
+ghost use Rattle.dom_octagon_words.specs.Words.{octagon_port, state_in};
+ghost use Rattle.dom_octagon_words.proofs.Portable.{octagon_portable};
 
 use crate::calls::kinds;
 use crate::domain::Octagon;
+use base_values::{Memory, Text};
+use cert_meaning::Portable;
 use dbm_core::Matrix;
+use dom_octagon_states::{OctagonState, closure, empty, matrix_of_state, widened_to};
 use imp_slots::Layout;
-use octagon_states::{OctagonState, closure, empty, matrix_of_state, widened_to};
-use plain_values::{Memory, Text};
-use portable_states::Portable;
 use std::alloc::Global;
 
 /// The matrix of a state, none where it is Empty.
@@ -34,14 +34,14 @@ fn closed_matrix(s: &OctagonState) -> Option<&Matrix>
 
 /// The matrix of the state that has this text.
 fn taken(alloc: Global, layouts: &[Layout], text: &[u8]) -> Result<Option<Option<Matrix>>, Memory>
-    ensures exact { IfOk result (λ found. found ≡ meant.taken (meant.last_kinds layouts.now) text.now) }
+    ensures exact { IfOk result (λ found. found ≡ meant.state_of_text (meant.last_kinds layouts.now) text.now) }
     ensures limited { IfOk result (λ found. IfSome found (λ o. IfSome o (IsLimited (2 ^ 64)))) }
 {
     match layouts {
-        [] => octagon_words::take(alloc, None, text),
+        [] => dom_octagon_words::take(alloc, None, text),
         [layout, ..] => {
             let kinds = kinds(alloc, layout.numbers())?;
-            octagon_words::take(alloc, Some(kinds.as_slice()), text)
+            dom_octagon_words::take(alloc, Some(kinds.as_slice()), text)
         }
     }
 }
@@ -61,10 +61,10 @@ impl Portable for Octagon {
     ghost port = { λ d. octagon_port };
 
     fn put(&self, alloc: Global, s: &OctagonState) -> Result<Text, Memory> {
-        octagon_words::put(alloc, matrix(s))
+        dom_octagon_words::put(alloc, matrix(s))
     }
 
-    #[tactic(auto, using(octagon_words::proofs::Portable::taken_state))]
+    #[tactic(auto, using(dom_octagon_words::proofs::Portable::taken_state))]
     fn take(
         &self,
         alloc: Global,
@@ -78,7 +78,7 @@ impl Portable for Octagon {
     }
 
     fn leq(&self, alloc: Global, l: &OctagonState, r: &OctagonState) -> Result<bool, Memory> {
-        Ok(octagon_words::leq(closed_matrix(l), matrix(r)))
+        Ok(dom_octagon_words::leq(closed_matrix(l), matrix(r)))
     }
 
     ghost port_laws = { λ d. octagon_portable };

@@ -1,15 +1,15 @@
 //! What calls return.
 ghost use Rattle.std.specs.Prelude.{◌≡◌, IfOk};
 ghost use Rattle.imp_slots.specs.CallViews.{taken_of};
-ghost use Rattle.octagon_meaning.specs.Operations as operations;
-ghost use Rattle.octagon_states.specs.Limits.{IsTight};
+ghost use Rattle.dom_octagon_meaning.specs.Operations as operations;
+ghost use Rattle.dom_octagon_states.specs.Limits.{IsTight};
 
 use crate::assign::close_ranged;
 use crate::evaluate::range;
+use base_values::Memory;
 use dbm_core::Matrix;
+use dom_octagon_states::{OctagonState, closed_copy, closure, empty};
 use imp_slots::Returning;
-use octagon_states::{OctagonState, closed_copy, closure, empty};
-use plain_values::Memory;
 use std::alloc::Global;
 
 /// The caller's state with the result in its place.
@@ -33,7 +33,7 @@ fn taken(
 }
 
 /// The state behind a call.
-#[tactic(auto, unfolding(octagon_meaning::specs::Operations::leave))]
+#[tactic(auto, unfolding(dom_octagon_meaning::specs::Operations::leave))]
 pub fn left(
     alloc: Global,
     returning: Option<Returning>,

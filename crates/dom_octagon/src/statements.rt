@@ -4,27 +4,27 @@ ghost use Rattle.imp_slots.specs.ActionViews.{effect_of, act_of};
 ghost use Rattle.domain_laws.specs.Checks as checks;
 ghost use Rattle.domain_laws.specs.Guards.{past_check};
 ghost use Rattle.dbm_close.specs.CloseOf.{close_of};
-ghost use Rattle.octagon_meaning.specs.Matrices as matrices;
-ghost use Rattle.octagon_meaning.specs.Operations as operations;
-ghost use Rattle.octagon_meaning.specs.States as states;
+ghost use Rattle.dom_octagon_meaning.specs.Matrices as matrices;
+ghost use Rattle.dom_octagon_meaning.specs.Operations as operations;
+ghost use Rattle.dom_octagon_meaning.specs.States as states;
 ghost use Rattle.dom_octagon.specs.Checked.{closed_if};
-ghost use Rattle.octagon_states.specs.Limits.{IsTight};
+ghost use Rattle.dom_octagon_states.specs.Limits.{IsTight};
 
 use crate::assign::{assigned, close_assigned, without};
 use crate::evaluate::{evaluate, slot};
 use crate::guards::assumed;
 use crate::indices::{and_length, zero_and};
 use crate::matrices::meet_range;
+use base_values::Memory;
 use dbm_core::Matrix;
+use dom_numeric::LONGEST;
+use dom_octagon_states::{OctagonState, bounded, closed_copy, closed_matrix, closure, empty};
 use imp_slots::{SlotAction, SlotExpr, SlotStmt};
 use imp_syntax::Relation;
-use numeric_slots::LONGEST;
-use octagon_states::{OctagonState, bounded, closed_copy, closed_matrix, closure, empty};
-use plain_values::Memory;
 use std::alloc::Global;
 
 /// `0 <= e && e < len a`
-#[tactic(auto, unfolding(octagon_meaning::specs::Operations::assume))]
+#[tactic(auto, unfolding(dom_octagon_meaning::specs::Operations::assume))]
 fn in_bounds(alloc: Global, a: u32, e: &SlotExpr, s: &OctagonState) -> Result<OctagonState, Memory>
     ensures exact { IfOk result (λ t. t ≡ operations.assume (checks.checked_guard (checks.Within a e.now)) true s.now) }
 {
@@ -33,7 +33,7 @@ fn in_bounds(alloc: Global, a: u32, e: &SlotExpr, s: &OctagonState) -> Result<Oc
 }
 
 /// What a link's check leaves: the state itself, since closing it twice is closing it once.
-#[tactic(auto, using(octagon_states::proofs::Tight::closed_again))]
+#[tactic(auto, using(dom_octagon_states::proofs::Tight::closed_again))]
 fn linked(s: &OctagonState) -> Option<OctagonState>
     ensures exact { closed_if result s.now ≡ states.closed (states.closed s.now) }
 {
@@ -42,7 +42,7 @@ fn linked(s: &OctagonState) -> Option<OctagonState>
 }
 
 /// The state where the check of a statement holds, `None` where that is the state itself.
-#[tactic(auto, unfolding(octagon_meaning::specs::Operations::assume))]
+#[tactic(auto, unfolding(dom_octagon_meaning::specs::Operations::assume))]
 fn checked(
     alloc: Global,
     action: &SlotAction,
@@ -127,7 +127,7 @@ fn needs_value(alloc: Global, e: &SlotExpr, m: &Matrix) -> Result<OctagonState, 
 }
 
 /// What a statement does behind its check, of a closed matrix.
-#[tactic(auto, unfolding(octagon_meaning::specs::Operations::does))]
+#[tactic(auto, unfolding(dom_octagon_meaning::specs::Operations::does))]
 fn done(alloc: Global, action: &SlotAction, m: &Matrix) -> Result<OctagonState, Memory>
     requires tight { IsTight m.now }
     ensures exact { IfOk result (λ t. t ≡ operations.does (effect_of action.now) m.now) }
@@ -153,7 +153,7 @@ fn done(alloc: Global, action: &SlotAction, m: &Matrix) -> Result<OctagonState, 
 
 /// What a statement does to a state where its check holds.
 fn done_in(alloc: Global, action: &SlotAction, s: &OctagonState) -> Result<OctagonState, Memory>
-    ensures exact { IfOk result (λ t. t ≡ states.after (states.closed s.now) (operations.does (effect_of action.now))) }
+    ensures exact { IfOk result (λ t. t ≡ states.unless_empty (states.closed s.now) (operations.does (effect_of action.now))) }
 {
     match closure(s) {
         None => Ok(empty()),
@@ -162,7 +162,7 @@ fn done_in(alloc: Global, action: &SlotAction, s: &OctagonState) -> Result<Octag
 }
 
 /// The state behind a simple statement or a break.
-#[tactic(auto, unfolding(octagon_meaning::specs::Operations::post))]
+#[tactic(auto, unfolding(dom_octagon_meaning::specs::Operations::post))]
 pub fn behind(alloc: Global, stmt: &SlotStmt, s: &OctagonState) -> Result<OctagonState, Memory>
     ensures exact { IfOk result (λ t. t ≡ operations.post (act_of stmt.now) s.now) }
 {

@@ -3,21 +3,21 @@ ghost use Rattle.std.specs.Prelude.{◌≡◌, ◌++◌, ◌+◌, ◌<◌, ◌^�
 ghost use Rattle.dbm_close.specs.Steps.{half};
 ghost use Rattle.dbm_core.specs.Limits.{IsWithin};
 ghost use Rattle.dbm_core.specs.Weights.{add_weight};
-ghost use Rattle.octagon_states.specs.Limits.{IsTight};
-ghost use Rattle.octagon_meaning.specs.Text as texts;
+ghost use Rattle.dom_octagon_states.specs.Limits.{IsTight};
+ghost use Rattle.dom_octagon_meaning.specs.Text as texts;
 
 use crate::calls::bound_at;
 use crate::evaluate::range;
+use base_values::{Memory, Text};
 use dbm_core::{Matrix, other_sign};
+use dom_numeric::{put_name, put_range, put_space};
+use dom_octagon_states::{OctagonState, closure};
 use imp_slots::{Layout, NumericSlot};
 use itoa::Buffer;
-use numeric_slots::{put_name, put_range, put_space};
-use octagon_states::{OctagonState, closure};
-use plain_values::{Memory, Text};
 use std::alloc::Global;
 
 /// The ranges of the slots from this one on.
-#[tactic(auto, using(plain_values::proofs::Joined::joined_3))]
+#[tactic(auto, using(base_values::proofs::Joined::joined_3))]
 fn put_ranges(
     text: &mut Text,
     m: &Matrix,
@@ -82,7 +82,7 @@ fn sharp(m: &Matrix, i: usize, j: usize) -> Option<i128>
 }
 
 /// What a bound says of two slots.
-#[tactic(auto, unfolding(octagon_meaning::specs::Text::bound_text), using(plain_values::proofs::Joined::joined_6))]
+#[tactic(auto, unfolding(dom_octagon_meaning::specs::Text::bound_text), using(base_values::proofs::Joined::joined_6))]
 fn put_bound(
     text: &mut Text,
     sign: &[u8],
@@ -106,7 +106,7 @@ fn put_bound(
 }
 
 /// The sharp bounds on two slots.
-#[tactic(auto, unfolding(octagon_meaning::specs::Text::pair_text), using(plain_values::proofs::Joined::joined_4))]
+#[tactic(auto, unfolding(dom_octagon_meaning::specs::Text::pair_text), using(base_values::proofs::Joined::joined_4))]
 fn put_pair(
     text: &mut Text,
     m: &Matrix,
@@ -127,7 +127,7 @@ fn put_pair(
 }
 
 /// The pairs of slot a with those from b on.
-#[tactic(auto, using(plain_values::proofs::Joined::joined_2))]
+#[tactic(auto, using(base_values::proofs::Joined::joined_2))]
 fn put_pairs_with(
     text: &mut Text,
     m: &Matrix,
@@ -151,7 +151,7 @@ fn put_pairs_with(
 }
 
 /// The pairs of the slots from this one on.
-#[tactic(auto, using(plain_values::proofs::Joined::joined_2))]
+#[tactic(auto, using(base_values::proofs::Joined::joined_2))]
 fn put_pairs(
     text: &mut Text,
     m: &Matrix,
@@ -187,7 +187,7 @@ fn matrix_text(alloc: Global, numbers: &[NumericSlot], m: &Matrix) -> Result<Tex
 }
 
 /// A state's text: `none` where the closed state is empty.
-#[tactic(auto, unfolding(octagon_meaning::specs::Text::text))]
+#[tactic(auto, unfolding(dom_octagon_meaning::specs::Text::text))]
 pub fn state_text(alloc: Global, layout: &Layout, s: &OctagonState) -> Result<Text, Memory>
     ensures value { IfOk result (λ v. v ≡ texts.text layout.now s.now) }
 {

@@ -4,21 +4,21 @@ ghost use Rattle.imp_slots.specs.Plain.{Does};
 ghost use Rattle.imp_slots.specs.ActionViews.{effect_of, act_of};
 ghost use Rattle.domain_laws.specs.Checks as checks;
 ghost use Rattle.domain_laws.specs.Guards.{verdict_by};
-ghost use Rattle.analysis_words.specs.declared.verdict.Verdict.TheVariants as verdicts;
-ghost use Rattle.octagon_meaning.specs.Operations as operations;
-ghost use Rattle.octagon_meaning.specs.States as states;
+ghost use Rattle.imp_words.specs.declared.verdict.Verdict.TheVariants as verdicts;
+ghost use Rattle.dom_octagon_meaning.specs.Operations as operations;
+ghost use Rattle.dom_octagon_meaning.specs.States as states;
 
 use crate::guards::assumed;
 use crate::indices::{and_length, zero_and};
+use base_values::Memory;
+use dom_octagon_states::{OctagonState, closed, is_empty, joined};
 use domain_laws::Verdict;
 use imp_slots::{SlotAction, SlotExpr, SlotStmt};
 use imp_syntax::Relation;
-use octagon_states::{OctagonState, closed, is_empty, joined};
-use plain_values::Memory;
 use std::alloc::Global;
 
 /// The state where an index is outside its array.
-#[tactic(auto, unfolding(octagon_meaning::specs::Operations::assume))]
+#[tactic(auto, unfolding(dom_octagon_meaning::specs::Operations::assume))]
 fn out_of_bounds(
     alloc: Global,
     a: u32,
@@ -44,7 +44,7 @@ fn safe_if_empty(failing: &OctagonState) -> Verdict
 }
 
 /// The closed state where a link is null.
-#[tactic(auto, unfolding(octagon_meaning::specs::Operations::assume))]
+#[tactic(auto, unfolding(dom_octagon_meaning::specs::Operations::assume))]
 fn link_verdict(alloc: Global, q: u32, s: &OctagonState) -> Result<Verdict, Memory>
     ensures exact { IfOk result (λ v. v ≡ (if states.dead (operations.assume (checks.checked_guard (checks.IsCell q)) false s.now) then verdicts.Safe else verdicts.May)) }
 {
@@ -60,7 +60,7 @@ fn index_verdict(alloc: Global, a: u32, e: &SlotExpr, s: &OctagonState) -> Resul
 }
 
 /// The verdict on a statement in front of which a closed state is not empty.
-#[tactic(auto, unfolding(octagon_meaning::specs::States::dead))]
+#[tactic(auto, unfolding(dom_octagon_meaning::specs::States::dead))]
 fn action_verdict(alloc: Global, action: &SlotAction, s: &OctagonState) -> Result<Verdict, Memory>
     requires there { states.dead s.now ≡ false }
     ensures exact { IfOk result (λ v. v ≡ verdict_by operations.assume states.dead (Does (effect_of action.now)) s.now) }
@@ -88,7 +88,7 @@ fn action_verdict(alloc: Global, action: &SlotAction, s: &OctagonState) -> Resul
 }
 
 /// What a state says of the check of the statement behind it.
-#[tactic(auto, using(octagon_meaning::proofs::Laws::verdict_empty), unfolding(octagon_meaning::specs::Operations::check))]
+#[tactic(auto, using(dom_octagon_meaning::proofs::Laws::verdict_empty), unfolding(dom_octagon_meaning::specs::Operations::check))]
 pub fn verdict(alloc: Global, stmt: &SlotStmt, s: &OctagonState) -> Result<Verdict, Memory>
     ensures exact { IfOk result (λ v. v ≡ operations.check (act_of stmt.now) s.now) }
 {

@@ -1,11 +1,11 @@
 //! The product of two domains, each operation by its parts.
 ghost use Rattle.std.specs.Prelude.{◌≡◌, ◌+◌, ◌≤◌};
-ghost use Rattle.product_meaning.specs.Product.{product, covered_by_both, stronger};
-ghost use Rattle.product_meaning.proofs.Laws.{product_laws, product_keeps_dead, product_equality};
+ghost use Rattle.dom_product_meaning.specs.Product.{product, covered_by_both, stronger};
+ghost use Rattle.dom_product_meaning.proofs.Laws.{product_laws, product_keeps_dead, product_equality};
 
+use base_values::{Memory, Text};
 use domain_laws::{Domain, Steps, Verdict};
 use imp_slots::{Layout, SlotCall, SlotCond, SlotStmt};
-use plain_values::{Memory, Text};
 use std::alloc::Global;
 use std::marker::Model;
 use std::sync::ledger::Ledger;
@@ -98,13 +98,13 @@ impl<A: Domain, B: Domain> Domain for Pair<A, B> {
     fn widen<L: Ledger>(
         &self,
         alloc: Global,
-        marks: &[i64],
+        thresholds: &[i64],
         l: &(A::State, B::State),
         r: &(A::State, B::State),
         steps: &mut Steps<L>,
     ) -> Result<(A::State, B::State), Memory> {
-        let first = self.first.widen(alloc, marks, &l.0, &r.0, steps);
-        let second = self.second.widen(alloc, marks, &l.1, &r.1, steps);
+        let first = self.first.widen(alloc, thresholds, &l.0, &r.0, steps);
+        let second = self.second.widen(alloc, thresholds, &l.1, &r.1, steps);
         Ok((first?, second?))
     }
 

@@ -7,8 +7,8 @@ use Rattle.std.specs.Ordering.{int_eq}
 use Rattle.imp_syntax.specs.declared.words.Relation.{Relation}
 use Rattle.imp_syntax.specs.declared.words.Relation.TheVariants.{Equal, NotEqual, Less, AtMost, Greater, AtLeast}
 use Rattle.concrete_sem.specs.Values.{Int, Array, with_number, with_link, Variables, Heap, Cell, array_at, link_at, given_or, is_word, Attempt, Gives, Faults, LacksInput, andthen}
-use Rattle.analysis_words.specs.declared.fault.FaultKind.{FaultKind}
-use Rattle.analysis_words.specs.declared.fault.FaultKind.TheVariants.{Overflow, Zero, Length, Index, Null, Assert as Failed}
+use Rattle.imp_words.specs.declared.fault.FaultKind.{FaultKind}
+use Rattle.imp_words.specs.declared.fault.FaultKind.TheVariants.{Overflow, Zero, Length, Index, Null, Assert as Failed}
 use Rattle.imp_syntax.specs.declared.words.Operator.{Operator}
 use Rattle.imp_syntax.specs.declared.words.Operator.TheVariants.{Add, Subtract, Multiply, Divide, Remainder}
 use Rattle.imp_slots.specs.Plain.{Layout, Term, Literal, Slot, Negative, Binary, Guard, Compare, CompareLinks, Not, And, Or, Effect, Skip, Assert, SetInt, Input, ReadElement, ReadItem, MakeArray, CopyArray, WriteElement, SetNull, MakeCell, CopyLink, ReadNext, WriteNext, WriteItem}
@@ -20,7 +20,7 @@ use Rattle.concrete_sem.specs.Evaluation.{relates, word, quotient, combine, valu
 use Rattle.domain_laws.specs.Checks.{Check, Within, IsCell, check_of, checked_guard, opposite}
 use Rattle.domain_laws.specs.Claims.{ChecksTo, FailsCheck}
 use Rattle.std.proofs.lemmas.Option.{slice_get_within}
-use Rattle.plain_values.proofs.Lists.{none_past}
+use Rattle.base_values.proofs.Lists.{none_past}
 use Rattle.concrete_sem.proofs.Keeps.{link_is, given_some}
 use Rattle.std.proofs.Math.Bool.{not-not}
 

@@ -7,7 +7,7 @@ use Rattle.imp_slots.specs.Fits.{fits_term, fits_guard, is_side}
 use Rattle.concrete_sem.specs.Values.{Variables, Attempt, Gives, Faults, LacksInput, andthen}
 use Rattle.concrete_sem.specs.Evaluation.{value_of, truth_of, relates, same_link, side_at}
 use Rattle.imp_slots.specs.Plain.{Effect, Does}
-use Rattle.analysis_words.specs.declared.verdict.Verdict.TheVariants.{Dead, Safe, May}
+use Rattle.imp_words.specs.declared.verdict.Verdict.TheVariants.{Dead, Safe, May}
 use Rattle.domain_laws.specs.Checks.{Check, check_of, checked_guard, opposite, positive}
 use Rattle.domain_laws.specs.Guards.{assumed, verdict_on, verdict_by, Compares, Tells}
 use Rattle.domain_laws.specs.Claims.{same_truth}

@@ -3,10 +3,10 @@ use Rattle.std.specs.Prelude.{ℕ, Option, Some, None, Bool, true, false, not}
 use Rattle.imp_syntax.specs.declared.words.Relation.{Relation}
 use Rattle.imp_syntax.specs.declared.words.Relation.TheVariants.{Equal, NotEqual, Less, AtMost, Greater, AtLeast}
 use Rattle.imp_slots.specs.Plain.{Term, Literal, Length, Guard, Compare, CompareLinks, Not, And, Or, Act, DoBreak, Does, Effect, Skip, Assert, SetInt, Input, ReadElement, ReadItem, MakeArray, CopyArray, WriteElement, SetNull, MakeCell, CopyLink, ReadNext, WriteNext, WriteItem}
-use Rattle.analysis_words.specs.declared.fault.FaultKind.{FaultKind}
-use Rattle.analysis_words.specs.declared.fault.FaultKind.TheVariants.{Index, Null, Assert as Failed}
-use Rattle.analysis_words.specs.declared.findings.Check as asked
-use Rattle.analysis_words.specs.declared.findings.Check.TheVariants as asks
+use Rattle.imp_words.specs.declared.fault.FaultKind.{FaultKind}
+use Rattle.imp_words.specs.declared.fault.FaultKind.TheVariants.{Index, Null, Assert as Failed}
+use Rattle.imp_words.specs.declared.findings.Check as asked
+use Rattle.imp_words.specs.declared.findings.Check.TheVariants as asks
 
 -- What must hold in front of a statement that it does not fail, and how it fails where it does not hold.
 pub data Check : Type 0 where

@@ -6,8 +6,8 @@ use Rattle.imp_slots.specs.Plain.{Layout, Term, Guard, Compare, CompareLinks, No
 use Rattle.imp_slots.specs.Fits.{fits_term, is_side}
 use Rattle.concrete_sem.specs.Values.{Variables, Gives}
 use Rattle.concrete_sem.specs.Evaluation.{value_of, relates, same_link, side_at}
-use Rattle.analysis_words.specs.declared.verdict.Verdict.{Verdict}
-use Rattle.analysis_words.specs.declared.verdict.Verdict.TheVariants.{Dead, Safe, May}
+use Rattle.imp_words.specs.declared.verdict.Verdict.{Verdict}
+use Rattle.imp_words.specs.declared.verdict.Verdict.TheVariants.{Dead, Safe, May}
 use Rattle.domain_laws.specs.Checks.{Check, check_of, checked_guard, opposite}
 
 module _ {S : Type 0} (compare : Relation → Term → Term → S → S) (links : (equal : Bool) → (left right : Option ℕ) → S → S) (join : S → S → S) where

@@ -3,13 +3,13 @@
 use Rattle.std.specs.Prelude.{◌≡◌, ◌↔◌, List, [], ◌∷◌, Some, Bool, true, ℤ, All}
 use Rattle.imp_slots.specs.Plain.{Layout, Guard, Effect, Act, DoBreak, Does, Invoke}
 use Rattle.imp_slots.specs.Fits.{fits_guard, fits_effect, fits_invoke}
-pub use Rattle.program_chains.specs.Marks.{IsRising}
+pub use Rattle.imp_chains.specs.Thresholds.{IsRising}
 use Rattle.concrete_sem.specs.Values.{Variables, Heap, Gives, Faults, IsWord}
 use Rattle.concrete_sem.specs.Evaluation.{truth_of}
 use Rattle.concrete_sem.specs.Effects.{effect_of}
 use Rattle.concrete_sem.specs.Passing.{first_variables, pass, back}
 use Rattle.concrete_sem.specs.Proper.{IsProper}
-use Rattle.analysis_words.specs.declared.verdict.Verdict.TheVariants.{Dead, Safe}
+use Rattle.imp_words.specs.declared.verdict.Verdict.TheVariants.{Dead, Safe}
 use Rattle.domain_laws.specs.Operations.{Operations}
 use Rattle.domain_laws.specs.Checks.{Check, check_of, fault_of}
 
@@ -24,7 +24,7 @@ pub record Fitting {S : Type 0} (dom : Operations S) : Type 0 where
   pub post : (act : Act) (l : Layout) (ls : List Layout) (s : S) → fits_act l act ≡ true → dom.fits s (l ∷ ls) ≡ true → dom.fits (dom.post act s) (l ∷ ls) ≡ true
   pub assume : (g : Guard) (b : Bool) (l : Layout) (ls : List Layout) (s : S) → fits_guard l g ≡ true → dom.fits s (l ∷ ls) ≡ true → dom.fits (dom.assume g b s) (l ∷ ls) ≡ true
   pub join : (ls : List Layout) (s t : S) → dom.fits s ls ≡ true → dom.fits t ls ≡ true → dom.fits (dom.join s t) ls ≡ true
-  pub widen : (marks : List ℤ) (ls : List Layout) (s t : S) → IsRising marks → dom.fits s ls ≡ true → dom.fits t ls ≡ true → dom.fits (dom.widen marks s t) ls ≡ true
+  pub widen : (thresholds : List ℤ) (ls : List Layout) (s t : S) → IsRising thresholds → dom.fits s ls ≡ true → dom.fits t ls ≡ true → dom.fits (dom.widen thresholds s t) ls ≡ true
   pub enter : (i : Invoke) (l : Layout) (ls : List Layout) (s : S) → fits_invoke l i ≡ true → dom.fits s (l ∷ ls) ≡ true → dom.fits (dom.enter i.entering s) (i.entering.layout ∷ l ∷ ls) ≡ true
   pub leave : (i : Invoke) (l : Layout) (ls : List Layout) (s d : S) → fits_invoke l i ≡ true → dom.fits s (l ∷ ls) ≡ true → dom.fits d (i.entering.layout ∷ l ∷ ls) ≡ true → dom.fits (dom.leave i.returning s d) (l ∷ ls) ≡ true
   pub shed : (l : Layout) (ls : List Layout) (s : S) → dom.fits s (l ∷ ls) ≡ true → dom.fits (dom.shed s) (l ∷ []) ≡ true
@@ -37,8 +37,8 @@ pub record Laws {S : Type 0} (dom : Operations S) (covers : S → Heap → List 
   pub assume : (g : Guard) (b : Bool) (l : Layout) (ls : List Layout) (s : S) (h : Heap) (v : Variables) (vs : List Variables) → fits_guard l g ≡ true → dom.fits s (l ∷ ls) ≡ true → IsProper h (v ∷ vs) (l ∷ ls) → truth_of v g ≡ Gives b → covers s h (v ∷ vs) → covers (dom.assume g b s) h (v ∷ vs)
   pub join_left : (ls : List Layout) (s t : S) (h : Heap) (vs : List Variables) → dom.fits s ls ≡ true → dom.fits t ls ≡ true → IsProper h vs ls → covers s h vs → covers (dom.join s t) h vs
   pub join_right : (ls : List Layout) (s t : S) (h : Heap) (vs : List Variables) → dom.fits s ls ≡ true → dom.fits t ls ≡ true → IsProper h vs ls → covers t h vs → covers (dom.join s t) h vs
-  pub widen_left : (marks : List ℤ) (ls : List Layout) (s t : S) (h : Heap) (vs : List Variables) → IsRising marks → dom.fits s ls ≡ true → dom.fits t ls ≡ true → IsProper h vs ls → covers s h vs → covers (dom.widen marks s t) h vs
-  pub widen_right : (marks : List ℤ) (ls : List Layout) (s t : S) (h : Heap) (vs : List Variables) → IsRising marks → dom.fits s ls ≡ true → dom.fits t ls ≡ true → IsProper h vs ls → covers t h vs → covers (dom.widen marks s t) h vs
+  pub widen_left : (thresholds : List ℤ) (ls : List Layout) (s t : S) (h : Heap) (vs : List Variables) → IsRising thresholds → dom.fits s ls ≡ true → dom.fits t ls ≡ true → IsProper h vs ls → covers s h vs → covers (dom.widen thresholds s t) h vs
+  pub widen_right : (thresholds : List ℤ) (ls : List Layout) (s t : S) (h : Heap) (vs : List Variables) → IsRising thresholds → dom.fits s ls ≡ true → dom.fits t ls ≡ true → IsProper h vs ls → covers t h vs → covers (dom.widen thresholds s t) h vs
   pub enter : (i : Invoke) (l : Layout) (ls : List Layout) (s : S) (h : Heap) (v u : Variables) (vs : List Variables) → fits_invoke l i ≡ true → dom.fits s (l ∷ ls) ≡ true → IsProper h (v ∷ vs) (l ∷ ls) → pass i.entering v ≡ Gives u → covers s h (v ∷ vs) → covers (dom.enter i.entering s) h (u ∷ v ∷ vs)
   -- h and v at the call, which passed u; k and d at the callee's end
   pub leave : (i : Invoke) (l : Layout) (ls : List Layout) (s t : S) (h k : Heap) (v u d : Variables) (vs : List Variables) → fits_invoke l i ≡ true → dom.fits s (l ∷ ls) ≡ true → dom.fits t (i.entering.layout ∷ l ∷ ls) ≡ true → IsProper h (v ∷ vs) (l ∷ ls) → IsProper k (d ∷ v ∷ vs) (i.entering.layout ∷ l ∷ ls) → pass i.entering v ≡ Gives u → covers s h (v ∷ vs) → covers t k (d ∷ v ∷ vs) → covers (dom.leave i.returning s t) k (back i.returning v d ∷ vs)

@@ -1,7 +1,7 @@
 -- The operations of a domain of states.
 use Rattle.std.specs.Prelude.{ℕ, ℤ, List, Option, Bool}
 use Rattle.imp_slots.specs.Plain.{Layout, Guard, Act, Entering, Returning}
-use Rattle.analysis_words.specs.declared.verdict.Verdict.{Verdict}
+use Rattle.imp_words.specs.declared.verdict.Verdict.{Verdict}
 
 pub record Operations (S : Type 0) : Type 0 where
   -- in front of main's body, from main's layout
@@ -11,7 +11,7 @@ pub record Operations (S : Type 0) : Type 0 where
   -- where the guard has this truth value
   pub assume : Guard → Bool → S → S
   pub join : S → S → S
-  -- the next iterate of a loop, from the one before and what the body makes of it, with the loop's marks
+  -- the next iterate of a loop, from the one before and what the body makes of it, with the loop's thresholds
   pub widen : List ℤ → S → S → S
   -- in front of a callee's body
   pub enter : Entering → S → S

@@ -3,8 +3,8 @@ ghost use Rattle.std.specs.Prelude.{◌≡◌};
 ghost use Rattle.imp_slots.specs.ActionViews.{effect_of, act_of};
 ghost use Rattle.domain_laws.specs.Checks.{check_of, kind_if, kind_in};
 
-use analysis_words::Check;
 use imp_slots::{SlotAction, SlotStmt};
+use imp_words::Check;
 
 /// What the check of a simple statement asks, if it has one.
 pub fn check_of_action(action: &SlotAction) -> Option<Check>

@@ -6,12 +6,12 @@ ghost use Rattle.domain_laws.specs.Operations.{Operations};
 ghost use Rattle.domain_laws.specs.Laws.{Laws, KeepsDead};
 
 use crate::Verdict;
+use base_counter::Steps;
+use base_values::{Memory, Text};
 use imp_slots::{Layout, SlotCall, SlotCond, SlotStmt};
-use plain_values::{Memory, Text};
 use std::alloc::Global;
 use std::hash::Hash;
 use std::sync::ledger::Ledger;
-use step_counter::Steps;
 
 /// A domain: its states, and the operations on them.
 ///
@@ -74,17 +74,17 @@ pub trait Domain {
         ensures value { IfOk result (λ t. t ≡ (operations self.now).join l.now r.now) }
         ensures ticked { steps.new ≡ steps.old + counted self.now };
 
-    /// The next iterate of a loop, from the one before and what the body makes of it. The marks
+    /// The next iterate of a loop, from the one before and what the body makes of it. The thresholds
     /// are those of the loop's procedure, rising.
     fn widen<L: Ledger>(
         &self,
         alloc: Global,
-        marks: &[i64],
+        thresholds: &[i64],
         l: &Self::State,
         r: &Self::State,
         steps: &mut Steps<L>,
     ) -> Result<Self::State, Memory>
-        ensures value { IfOk result (λ t. t ≡ (operations self.now).widen marks.now l.now r.now) }
+        ensures value { IfOk result (λ t. t ≡ (operations self.now).widen thresholds.now l.now r.now) }
         ensures ticked { steps.new ≡ steps.old + counted self.now };
 
     /// The state in front of a callee's body, from the one in front of the call.

@@ -19,10 +19,10 @@ ghost use Rattle.domain_laws.specs.Claims.{PassesFindChecksTrue, FailuresFindChe
 mod checks;
 mod domain;
 
-pub use analysis_words::{Check, Finding, Findings, Verdict};
+pub use base_counter::Steps;
 pub use checks::{check_of, check_of_action};
 pub use domain::Domain;
-pub use step_counter::Steps;
+pub use imp_words::{Check, Finding, Findings, Verdict};
 
 /// A theorem, and no work: the check of a statement holds where the statement goes on, and not
 /// where the statement fails with the fault of its check.

@@ -5,7 +5,7 @@ use Rattle.imp_check.specs.Faults.{first, at}
 use Rattle.imp_check.specs.Statements.{Scope, condition_fault, statement_fault, block_fault}
 use Rattle.imp_check.specs.Parts.{leaving_in, leaving}
 use Rattle.edit_entries.specs.Gaps.{is_quiet, are_quiet, is_closed, are_closed, closed_at}
-use Rattle.edit_entries.proofs.Quiet.{none}
+use Rattle.edit_entries.proofs.CallFree.{none}
 use Rattle.std.proofs.lemmas.Bool.{and_from, and_parts}
 
 -- They do not call ..

@@ -8,7 +8,7 @@ use Rattle.imp_check.specs.Statements.{block_fault}
 use Rattle.imp_check.specs.Chains.{calls}
 use Rattle.imp_check.specs.Programs.{block_count, program_count, nesting, deepest, size_fault, variables_fault, procedure_fault, procedures_fault, last_of, name_of, ending_fault, check_fault}
 use Rattle.imp_check.specs.declared.fault.Fault.TheVariants.{Procedures, Statements as TooManyStatements, Nesting, Redeclared}
-use Rattle.imp_check.specs.declared.fault.Found.{Found}
+use Rattle.imp_check.specs.declared.fault.LocatedFault.{LocatedFault}
 use Rattle.imp_check.proofs.FewLemmas.{unless_lt, at_none, in_none, first_alone, first_none}
 use Rattle.imp_check.specs.Entries.{context_at}
 use Rattle.imp_check.specs.declared.entry.Context.{Context}
@@ -37,7 +37,7 @@ module _ (p : Procedure) (hs : List Hole) (before olds news behind : Statements)
   O = old_program p hs before olds news behind ps qs
 
   module _ (z : check_fault O ≡ None) where
-    abbrev rest : Option Found
+    abbrev rest : Option LocatedFault
     rest = first (procedures_fault [] O) (in_procedure (name_of (last_of O)) (at 0 (ending_fault O)))
 
     sizes : size_fault O ≡ None

@@ -17,5 +17,5 @@ pub mod Standing
 pub mod Breaks
 pub mod Exchange
 pub mod Closed
-pub mod Quiet
+pub mod CallFree
 pub mod Parts

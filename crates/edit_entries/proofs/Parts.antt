@@ -15,7 +15,7 @@ use Rattle.imp_check.specs.declared.entry.Around.{Around}
 use Rattle.imp_check.specs.declared.entry.BlockEnds.{BlockEnds}
 use Rattle.imp_check.specs.declared.entry.Context.{Context}
 use Rattle.imp_check.specs.declared.entry.Entry.{Entry}
-use Rattle.imp_check.specs.declared.entry.Head.{Head}
+use Rattle.imp_check.specs.declared.entry.ProcHeader.{ProcHeader}
 use Rattle.imp_check.specs.declared.entry.Which.{Which}
 use Rattle.imp_check.specs.declared.entry.Which.TheVariants as of
 use Rattle.imp_check.specs.declared.fault.Fault.TheVariants.{Statements as TooManyStatements, Nesting}
@@ -31,7 +31,7 @@ use Rattle.edit_entries.proofs.Holders.{ends_between, held, holds, shown, some_i
 use Rattle.edit_entries.proofs.Located.{Has}
 use Rattle.edit_entries.proofs.Numbers.{Apart, around_edit}
 use Rattle.edit_entries.proofs.Programs.{old_program, new_program, scope_at, news_fault, program_fault}
-use Rattle.edit_entries.proofs.Quiet.{quiet_calls, quiet_sites, quiet_fault, quiet_fits}
+use Rattle.edit_entries.proofs.CallFree.{quiet_calls, quiet_sites, quiet_fault, quiet_fits}
 use Rattle.edit_entries.proofs.Sites.{sites_stay, heads_stay}
 use Rattle.edit_entries.proofs.Standing.{has_left, has_right, known_has}
 use Rattle.edit_entries.proofs.Stay.{last_holder}
@@ -189,7 +189,7 @@ module _ (ps qs : List Procedure) (p : Procedure) (before olds news behind : Sta
 
   body_headed : (x y : Statements) (os : List Procedure) → ends_of y ≡ E (ends_of x) → heads_of (os ++ with_body p y ∷ qs) ≡ head_with (heads_of (os ++ with_body p x ∷ qs)) (length os) E
   body_headed x y [] e = ap (λ o. record (head_of (with_body p x)) { body = o } ∷ heads_of qs) e
-  body_headed x y (q ∷ os) e = ap (λ (hs : List Head). head_of q ∷ hs) (body_headed x y os e)
+  body_headed x y (q ∷ os) e = ap (λ (hs : List ProcHeader). head_of q ∷ hs) (body_headed x y os e)
 
   plug_filled : (gs : List Hole) (h : Hole) (x y : Statements) → ends_of (plug (gs ++ h ∷ []) x) ≡ ends_of (plug (gs ++ h ∷ []) y)
   plug_filled [] h x y = ends_filled h x y

@@ -2,7 +2,7 @@
 use Rattle.std.proofs.lemmas.Bool.Decides.{nat_tests}
 use Rattle.std.proofs.Common.{◌≡◌, ℕ, zero, suc, ◌+◌, ◌-◌, ◌<◌, nat_lt, List, [], ◌∷◌, ◌++◌, length, slice_get, Option, Some, None, Bool, true, false, not, refl, sym, ap, ◌∙◌, arith, append-nil, append_assoc}
 use Rattle.std.specs.Str.{bytes_eq}
-use Rattle.plain_values.proofs.Cases.{less_of}
+use Rattle.base_values.proofs.Cases.{less_of}
 use Rattle.std.specs.Prelude.{codes}
 use Rattle.imp_syntax.specs.Plain.{Statements, Ends, Procedure}
 use Rattle.imp_check.specs.Faults.{first, unless, at, in_procedure}
@@ -12,7 +12,7 @@ use Rattle.imp_check.specs.Chains.{calls, all_chains}
 use Rattle.imp_check.specs.Programs.{block_count, program_count, nesting, deepest, size_fault, variables_fault, procedure_fault, procedures_fault, last_of, name_of, takes_nothing, chains_fault, ending_fault, check_fault, longest}
 use Rattle.imp_check.specs.declared.fault.Fault.{Fault}
 use Rattle.imp_check.specs.declared.fault.Fault.TheVariants.{Procedures, Statements as TooManyStatements, Nesting, Redeclared, NoMain, MainHasParameters, Depth, Chains}
-use Rattle.imp_check.specs.declared.fault.Found.{Found}
+use Rattle.imp_check.specs.declared.fault.LocatedFault.{LocatedFault}
 use Rattle.edit_entries.specs.Holes.{Hole, plug, in_loop, between, with_body}
 use Rattle.edit_entries.proofs.Faults.{edit_fault}
 use Rattle.edit_entries.proofs.Heads.{bare, bares, as_many, named_bare, block_fault_bare, one_more}
@@ -110,7 +110,7 @@ module _ (p : Procedure) (hs : List Hole) (before olds news behind : Statements)
   scope_at es qs = record { earlier = es; others = old_one ∷ qs; variables = variables p }
 
   -- the first fault of the statements that come
-  abbrev pub news_fault : (es qs : List Procedure) → Option Found
+  abbrev pub news_fault : (es qs : List Procedure) → Option LocatedFault
   news_fault es qs = in_procedure p.name (block_fault (scope_at es qs) (in_loop false hs) news)
 
   own_fault : (es ds qs : List Procedure) → bares es ≡ bares ds → procedure_fault es (old_one ∷ qs) old_one ≡ None →

@@ -7,7 +7,7 @@ use Rattle.imp_check.specs.Parts.{first_or, last_or, ends_of}
 use Rattle.imp_check.specs.Entries.{inside, inside_loop, statement_entries, block_entries, procedure_entries, entries_from, entries_of, resolver_at, context_at, calls_here, sites_in, sites_below, sites_of, head_of, heads_of}
 use Rattle.imp_check.specs.declared.entry.Context.{Context}
 use Rattle.imp_check.specs.declared.entry.Entry.{Entry}
-use Rattle.imp_check.specs.declared.entry.Head.{Head}
+use Rattle.imp_check.specs.declared.entry.ProcHeader.{ProcHeader}
 use Rattle.imp_check.specs.declared.entry.Which.TheVariants as which
 use Rattle.edit_entries.specs.Holes.{append, Hole, Then, Else, Body, fill, plug, between, with_body}
 use Rattle.edit_entries.proofs.Heads.{as_many, entries_alike}
@@ -138,4 +138,4 @@ module _ (p : Procedure) (hs : List Hole) (before olds news behind : Statements)
 -- Where the ends of a body stay, so does all that is known of the procedures.
 pub heads_stay : (p : Procedure) (x y : Statements) (ps qs : List Procedure) → ends_of x ≡ ends_of y → heads_of (ps ++ with_body p y ∷ qs) ≡ heads_of (ps ++ with_body p x ∷ qs)
 heads_stay p x y [] qs e = ap (λ o. record (head_of (with_body p x)) { body = o } ∷ heads_of qs) (sym e)
-heads_stay p x y (q ∷ ps) qs e = ap (λ (hs : List Head). head_of q ∷ hs) (heads_stay p x y ps qs e)
+heads_stay p x y (q ∷ ps) qs e = ap (λ (hs : List ProcHeader). head_of q ∷ hs) (heads_stay p x y ps qs e)

@@ -9,7 +9,7 @@ use Rattle.imp_check.specs.Parts.{first_or, last_or}
 use Rattle.imp_check.specs.Entries.{entry_at, statement_entries, entries_of, entry_of, resolver_at, context_at, head_of, heads_of}
 use Rattle.imp_check.specs.declared.entry.Context.{Context}
 use Rattle.imp_check.specs.declared.entry.Entry.{Entry}
-use Rattle.imp_check.specs.declared.entry.Head.{Head}
+use Rattle.imp_check.specs.declared.entry.ProcHeader.{ProcHeader}
 use Rattle.imp_check.proofs.RebuildLemmas.{in_left, entry_numbers, all_numbers}
 use Rattle.edit_entries.specs.Holes.{append, Hole, Then, Else, Body, fill, plug, with_body}
 use Rattle.edit_entries.proofs.Filled.{context_in}
@@ -121,12 +121,12 @@ own_head [] p qs = refl
 own_head (x ∷ ps) p qs = own_head ps p qs
 
 -- Where a statement stands of which this is known, in a procedure of which that is known.
-pub record Site (n : ℕ) (ps : List Procedure) (e : Entry) (h : Head) : Type 0 where
+pub record Site (n : ℕ) (ps : List Procedure) (e : Entry) (h : ProcHeader) : Type 0 where
   pub place : Stands n ps
   pub entry : e ≡ entry_at (resolver_at place.front place.own) (context_of (context_at (length place.front)) place.place.holes) (last_or place.place.before None) (first_or place.place.behind None) place.place.stmt
   pub head : h ≡ head_of place.own
 
-pub site : (n : ℕ) (ps : List Procedure) (e : Entry) (h : Head) → Distinct (program_numbers ps) → entry_of (entries_of ps) n ≡ Some e → slice_get (heads_of ps) e.context.proc ≡ Some h → Site n ps e h
+pub site : (n : ℕ) (ps : List Procedure) (e : Entry) (h : ProcHeader) → Distinct (program_numbers ps) → entry_of (entries_of ps) n ≡ Some e → slice_get (heads_of ps) e.context.proc ≡ Some h → Site n ps e h
 site n ps e h once k l =
     let s = stands n ps (subst (Has n) (all_numbers ps) (has_known n (entries_of ps) e k)) in
     let f = resolver_at s.front s.own in

@@ -10,7 +10,7 @@ use Rattle.imp_check.specs.declared.entry.Around.{Around}
 use Rattle.imp_check.specs.declared.entry.BlockEnds.{BlockEnds}
 use Rattle.imp_check.specs.declared.entry.Context.{Context}
 use Rattle.imp_check.specs.declared.entry.Entry.{Entry}
-use Rattle.imp_check.specs.declared.entry.Head.{Head}
+use Rattle.imp_check.specs.declared.entry.ProcHeader.{ProcHeader}
 use Rattle.imp_check.specs.declared.entry.Which.{Which}
 use Rattle.imp_check.specs.declared.entry.Which.TheVariants as which
 use Rattle.edit_entries.specs.Spliced.{Splice}
@@ -80,12 +80,12 @@ held_in None ends x = x
 held_in (Some w) ends x = with_ends w.which (ends (ends_in w.which x)) x
 
 -- the procedures, where a block is the body of the one at a place
-abbrev pub head_with : List Head → (place : ℕ) → (ends : BlockEnds → BlockEnds) → List Head
+abbrev pub head_with : List ProcHeader → (place : ℕ) → (ends : BlockEnds → BlockEnds) → List ProcHeader
 head_with [] place ends = []
 head_with (h ∷ hs) zero ends = record h { body = ends h.body } ∷ hs
 head_with (h ∷ hs) (suc place) ends = h ∷ head_with hs place ends
 
-abbrev pub heads_in : Option Around → List Head → (place : ℕ) → (ends : BlockEnds → BlockEnds) → List Head
+abbrev pub heads_in : Option Around → List ProcHeader → (place : ℕ) → (ends : BlockEnds → BlockEnds) → List ProcHeader
 heads_in None hs place ends = head_with hs place ends
 heads_in (Some w) hs place ends = hs
 

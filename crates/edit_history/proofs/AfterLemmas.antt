@@ -3,15 +3,15 @@ use Rattle.std.proofs.Common.{ℕ, zero, suc, ◌≡◌, ◌<◌, ◌≤◌, Lis
 use Rattle.imp_syntax.specs.Plain.{Procedure}
 use Rattle.imp_check.specs.Entries.{entries_of, entry_of, heads_of, sites_of}
 use Rattle.imp_check.specs.Fine.{IsFine}
-use Rattle.program_table.specs.Changes.{AreWithin, Makes, overlay}
-use Rattle.program_table.specs.declared.change.Change.{Change}
+use Rattle.imp_table.specs.Changes.{AreWithin, Makes, overlay}
+use Rattle.imp_table.specs.declared.change.Change.{Change}
 use Rattle.imp_check.proofs.TableLemmas.{table_is}
-use Rattle.edit_history.specs.After.{after, programs_by, AllLead}
-use Rattle.edit_history.specs.Times.{AreKept}
+use Rattle.edit_history.specs.After.{changed_program, programs_by, AllLead}
+use Rattle.edit_history.specs.History.{AreKept}
 
 -- a change makes one program alone
-pub after_is : (ps : List Procedure) (c : Change) (qs : List Procedure) → Makes ps c qs → IsFine qs → after ps c ≡ qs
-unfolding after
+pub after_is : (ps : List Procedure) (c : Change) (qs : List Procedure) → Makes ps c qs → IsFine qs → changed_program ps c ≡ qs
+unfolding changed_program
 after_is ps c qs m f =
     table_is qs (overlay c.entries.items (entry_of (entries_of ps))) c.count (unwrap_or c.heads (heads_of ps)) (unwrap_or c.sites (sites_of ps)) (record {
       fine = f;
@@ -23,7 +23,7 @@ after_is ps c qs m f =
 
 -- A change of `ps` to `qs` was exchanged for the change back.
 module _ (room : ℕ) (ps qs : List Procedure) (back : Change) (fine : IsFine ps) (makes : Makes qs back ps) (within : AreWithin room back.entries.items) where
-  again : after qs back ≡ ps
+  again : changed_program qs back ≡ ps
   again = after_is qs back ps makes fine
 
   pub programs_back : (cs : List Change) → programs_by qs (back ∷ cs) ≡ ps ∷ programs_by ps cs
@@ -40,20 +40,20 @@ pub programs_take : (n : ℕ) (ps : List Procedure) (cs : List Change) → progr
 programs_take zero ps [] = refl
 programs_take zero ps (c ∷ cs) = refl
 programs_take (suc n) ps [] = refl
-programs_take (suc n) ps (c ∷ cs) = ap (λ qss. after ps c ∷ qss) (programs_take n (after ps c) cs)
+programs_take (suc n) ps (c ∷ cs) = ap (λ qss. changed_program ps c ∷ qss) (programs_take n (changed_program ps c) cs)
 
 pub lead_take : (n room : ℕ) (ps : List Procedure) (cs : List Change) → AllLead room ps cs → AllLead room ps (take n cs)
 lead_take zero room ps [] a = tt
 lead_take zero room ps (c ∷ cs) a = tt
 lead_take (suc n) room ps [] a = tt
-lead_take (suc n) room ps (c ∷ cs) a = (a.0, lead_take n room (after ps c) cs a.1)
+lead_take (suc n) room ps (c ∷ cs) a = (a.0, lead_take n room (changed_program ps c) cs a.1)
 
 -- more places
 pub lead_wider : (room more : ℕ) (ps : List Procedure) (cs : List Change) → room ≤ more → AllLead room ps cs → AllLead more ps cs
 lead_wider room more ps [] h a = tt
 lead_wider room more ps (c ∷ cs) h a = (
   record { makes = a.0.makes; fine = a.0.fine; within = record { falling = a.0.within.falling; below = λ i d l. omega (arith, h, a.0.within.below i d l) } },
-  lead_wider room more (after ps c) cs h a.1,
+  lead_wider room more (changed_program ps c) cs h a.1,
 )
 
 pub take_few : (n : ℕ) (cs : List Change) → length cs ≤ n → cs ≡ take n cs
@@ -105,7 +105,7 @@ module _ (room : ℕ) (ps qs : List Procedure) (back : Change) (makes : Makes qs
       ∙ ap (λ qss. ps ∷ qss) (programs_take 63 ps past)
 
   -- .. or the nearest one of the other side.
-  pub gone : (c : Change) (from onto from_too onto_too : List Change) (m n m_too n_too : ℕ) → qs ≡ after ps c → AreKept ps room from onto m n → from ≡ c ∷ from_too → onto_too ≡ back ∷ onto → m_too ≡ m → n_too ≡ n → AreKept now there from_too onto_too m_too n_too
+  pub gone : (c : Change) (from onto from_too onto_too : List Change) (m n m_too n_too : ℕ) → qs ≡ changed_program ps c → AreKept ps room from onto m n → from ≡ c ∷ from_too → onto_too ≡ back ∷ onto → m_too ≡ m → n_too ≡ n → AreKept now there from_too onto_too m_too n_too
   gone c from onto from_too onto_too m n m_too n_too made k f o e d =
       let lead : AllLead room ps (c ∷ from_too) = subst (AllLead room ps) f k.behind in
       subst (λ zs. AreKept zs there from_too onto_too m_too n_too) (sym is) (subst (λ r. AreKept qs r from_too onto_too m_too n_too) (sym places) (record {

@@ -1,2 +1,2 @@
 pub mod After
-pub mod Times
+pub mod History

@@ -3,12 +3,12 @@ ghost use Rattle.std.specs.Prelude.{◌≡◌, ◌+◌, ◌<◌, ◌≤◌, [], 
 ghost use Rattle.std.specs.VecDeque.{deque_capacity};
 ghost use Rattle.imp_syntax.specs.Plain.{Procedure};
 ghost use Rattle.imp_check.specs.Fine.{IsFine};
-ghost use Rattle.program_table.specs.Changes.{AreWithin, Makes};
+ghost use Rattle.imp_table.specs.Changes.{AreWithin, Makes};
 ghost use Rattle.edit_history.specs.After.{LeadsOn, programs_by};
-ghost use Rattle.edit_history.specs.Times.{AreKept};
+ghost use Rattle.edit_history.specs.History.{AreKept};
 
-use plain_values::Memory;
-use program_table::{Change, Table};
+use base_values::Memory;
+use imp_table::{Change, Table};
 use std::alloc::Global;
 use std::collections::VecDeque;
 use std::marker::Model;
@@ -28,7 +28,7 @@ pub struct History {
 impl Model for History {
     ghost use Rattle.std.specs.VecDeque.{deque_capacity};
     ghost use Rattle.edit_history.specs.After.{programs_by};
-    ghost use Rattle.edit_history.specs.Times.{AreKept, Times, times_code};
+    ghost use Rattle.edit_history.specs.History.{AreKept, Times, times_code};
 
     ghost Value = { Times };
 

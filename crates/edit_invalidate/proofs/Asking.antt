@@ -2,25 +2,25 @@
 use Rattle.std.proofs.Common.{reverse, ◌≡◌, ℕ, ◌==◌, Bool, List, [], ◌∷◌, length, Some, refl, sym, subst, inl, inr}
 use Rattle.std.specs.Bool.{Decides}
 use Rattle.domain_laws.specs.Operations.{Operations}
-use Rattle.cell_names.specs.declared.frame.Frame.{Frame}
+use Rattle.cell_names.specs.declared.frame.NameFrame.{NameFrame}
 use Rattle.cell_names.specs.declared.frame.Point.{Point}
 use Rattle.cell_names.specs.Paths.{CellName}
-use Rattle.demand_order.specs.Asking.{inputs_of}
+use Rattle.daig_order.specs.Asking.{inputs_of}
 use Rattle.cell_rows.specs.Rows.{Row, Joins}
 use Rattle.cell_rows.specs.Flat.{flat_row}
-use Rattle.kept_set.specs.Touched.{Edit, old_rows, KeepsRow}
-use Rattle.kept_set.specs.RowTest.{SameAsked}
-use Rattle.kept_set.proofs.RowTests.{row_test, left_input}
+use Rattle.cell_kept_set.specs.Touched.{Edit, old_rows, KeepsRow}
+use Rattle.cell_kept_set.specs.RowTest.{SameAsked}
+use Rattle.cell_kept_set.proofs.RowTests.{row_test, left_input}
 use Rattle.imp_flow.specs.Plans.{Plan}
 use Rattle.edit_invalidate.specs.Rows.{AskLeft, AskSame}
 use Rattle.edit_invalidate.specs.Touched.{KeepsCell}
-use Rattle.named_cells.specs.Same.{same_name}
-use Rattle.named_cells.specs.Asked.{inputs}
+use Rattle.cell_graph.specs.Same.{same_name}
+use Rattle.cell_graph.specs.Asked.{inputs}
 use Rattle.edit_invalidate.specs.Claims.{edit_of}
 
 -- the left input of a join is the only one
 abbrev IsAlone : Row → Bool → List CellName → Type 0
-IsAlone r alone xs = (s : Bool) (l : CellName) (n : ℕ) (w : List Frame) (p : Point) → r ≡ Joins s l n w p → Decides alone (xs ≡ l ∷ [])
+IsAlone r alone xs = (s : Bool) (l : CellName) (n : ℕ) (w : List NameFrame) (p : Point) → r ≡ Joins s l n w p → Decides alone (xs ≡ l ∷ [])
 
 left_there : (alone : Bool) (xs : List CellName) (r q : Row) → IsAlone r alone xs → AskLeft alone r q → SameAsked r q xs
 left_there alone xs (Joins s l n w p) (Joins t k m v q) d a = inr (a.0, (d s l n w p refl).0 a.1)

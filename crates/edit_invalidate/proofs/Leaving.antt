@@ -5,33 +5,33 @@ use Rattle.std.specs.List.{Contains}
 use Rattle.std.specs.FinMap.{get}
 use Rattle.imp_slots.specs.Fits.{IsChecked}
 use Rattle.domain_laws.specs.Operations.{Operations}
-use Rattle.batch_meaning.specs.Batch.{Engine}
-use Rattle.demand_order.specs.Asking.{inputs_of, value_of}
-use Rattle.demand_order.specs.Leading as lead
+use Rattle.batch_meaning.specs.Batch.{LoopOptions}
+use Rattle.daig_order.specs.Asking.{inputs_of, value_of}
+use Rattle.daig_order.specs.Leading as lead
 use Rattle.cell_names.specs.Owners.{owner}
 use Rattle.cell_names.specs.Paths.{CellName}
 use Rattle.cell_rows.specs.Flat.{flat_row}
 use Rattle.cell_rows.specs.Claims.{rows_of}
 use Rattle.cell_rows.proofs.Rowed.{has_row}
-use Rattle.kept_set.specs.Places.{KeepPlaces}
-use Rattle.kept_set.specs.Touched.{Edit, AreCells, old_system, IsChanged, IsKept, IsKeptByRows}
-use Rattle.kept_set.proofs.Local.{same_kept}
-use Rattle.kept_set.proofs.ByNew.{is_right}
-use Rattle.kept_set.proofs.Plans.{same_rows_stay}
+use Rattle.cell_kept_set.specs.Places.{KeepPlaces}
+use Rattle.cell_kept_set.specs.Touched.{Edit, AreCells, old_system, IsChanged, IsKept, IsKeptByRows}
+use Rattle.cell_kept_set.proofs.Local.{same_kept}
+use Rattle.cell_kept_set.proofs.ByNew.{is_right}
+use Rattle.cell_kept_set.proofs.Plans.{same_rows_stay}
 use Rattle.daig_graph.specs.Cells.{Filled}
 use Rattle.daig_graph.specs.Held.{IsIn}
 use Rattle.imp_flow.specs.Plans.{Plan}
 use Rattle.imp_flow.specs.Changed.{AreChanged}
 use Rattle.cell_removal.specs.Removal.{Cells, LeadsTo, itself, through, Removes, without}
 use Rattle.cell_removal.proofs.Rest.{rest_other, rest_cell}
-use Rattle.named_cells.specs.Same.{same_name}
-use Rattle.named_cells.specs.Named.{filled_at, kept, AreNumbers}
+use Rattle.cell_graph.specs.Same.{same_name}
+use Rattle.cell_graph.specs.Named.{filled_at, kept, AreNumbers}
 use Rattle.edit_invalidate.specs.Touched.{KeepsCell, or_start, input_count, inputs_at, IsTouched}
-use Rattle.named_cells.specs.Asked.{inputs}
-use Rattle.named_cells.specs.Holds.{IsCellOf, HoldsCells}
+use Rattle.cell_graph.specs.Asked.{inputs}
+use Rattle.cell_graph.specs.Holds.{IsCellOf, HoldsCells}
 use Rattle.edit_invalidate.specs.Claims.{edit_of, LeavesKept, PlansLeaveKept}
-use Rattle.named_cells.proofs.Same.{same_is}
-use Rattle.named_cells.proofs.Numbers.{filled_number, filled_named, numbers_get, numbers_of, numbers_length, member_at, at_member}
+use Rattle.cell_graph.proofs.Same.{same_is}
+use Rattle.cell_graph.proofs.Numbers.{filled_number, filled_named, numbers_get, numbers_of, numbers_length, member_at, at_member}
 use Rattle.edit_invalidate.proofs.Asking.{keeps, keeps_cell}
 
 filled_some : {A : Type 0} (o : Option A) → is_some o ≡ true → (a : A) × (o ≡ Some a)
@@ -86,7 +86,7 @@ module _ {S V : Type 0} (dom : Operations S) (old new : Plan) (names : List Cell
           row = r.0;
           owned = refl;
           had = r.1;
-          lost = λ k. lost (same_rows_stay dom e same_name x r.0 r.1 (subst (λ (g : Engine). flat_row g (reverse new.program) x.path x.point ≡ Some r.0) (sym one) k));
+          lost = λ k. lost (same_rows_stay dom e same_name x r.0 r.1 (subst (λ (g : LoopOptions). flat_row g (reverse new.program) x.path x.point ≡ Some r.0) (sym one) k));
         })));
         touched = record {
           owned = (f, c.cell, refl);
@@ -164,16 +164,16 @@ module _ {S V : Type 0} (dom : Operations S) (old new : Plan) (names : List Cell
         let k : kept rest names x ≡ true = ap is_some (filled_number rest names h.once x n c.name ∙ g) in
         let i = (is_right dom e h.checked cn same_name same_is (kept cells names) h.kept x ((kept_is x).0 k)).inputs in
         let j = subst (AreNumbers names f.inputs) (sym i) c.is.inputs in
-        subst (λ (engine : Engine). AreNumbers names f.inputs (inputs_of (rows_of dom engine new.program same_name) x)) one j
+        subst (λ (engine : LoopOptions). AreNumbers names f.inputs (inputs_of (rows_of dom engine new.program same_name) x)) one j
 
     pub leaves : LeavesKept dom old new names cells rest
     leaves = record {
-      found = λ x k. subst (λ (engine : Engine). value_of (rows_of dom engine new.program same_name) x ≡ value_of (rows_of dom old.engine old.program same_name) x) one (is_right dom e h.checked cn same_name same_is (kept cells names) h.kept x ((kept_is x).0 k)).found;
+      found = λ x k. subst (λ (engine : LoopOptions). value_of (rows_of dom engine new.program same_name) x ≡ value_of (rows_of dom old.engine old.program same_name) x) one (is_right dom e h.checked cn same_name same_is (kept cells names) h.kept x ((kept_is x).0 k)).found;
       kept = kept_is;
       holds = record {
         checked = cn;
         once = h.once;
-        kept = subst (λ (engine : Engine). AreCells dom engine new.program same_name (kept rest names)) one still;
+        kept = subst (λ (engine : LoopOptions). AreCells dom engine new.program same_name (kept rest names)) one still;
         each = λ n f g. (let c = rest_cell cells plan n f g in let d = named n f c.0 in (d.0, d.1.name, record { inputs = inputs_stay n d.0 f d.1 g; owned = d.1.is.owned }));
       };
     }

@@ -3,8 +3,8 @@ use Rattle.std.proofs.Common.{reverse, ◌≡◌, ℕ, ◌<◌, List, Option, So
 use Rattle.std.proofs.lemmas.Option.{slice_get_within}
 use Rattle.std.specs.FinMap.{get}
 use Rattle.domain_laws.specs.Operations.{Operations}
-use Rattle.demand_order.specs.Asking.{Rows, AreRows}
-use Rattle.demand_order.proofs.AskingProofs.{system-acyclic}
+use Rattle.daig_order.specs.Asking.{Rows, AreRows}
+use Rattle.daig_order.proofs.AskingProofs.{system-acyclic}
 use Rattle.cell_names.specs.Paths.{CellName}
 use Rattle.cell_rows.specs.Cells.{Cell}
 use Rattle.cell_rows.specs.Claims.{rows_of}
@@ -12,13 +12,13 @@ use Rattle.cell_rows.proofs.FlatOnce.{flat_once, all_fine}
 use Rattle.cell_rows.proofs.TotalRows.{is_total}
 use Rattle.imp_flow.specs.Plans.{Plan}
 use Rattle.cell_removal.specs.Removal.{Cells, Uses}
-use Rattle.named_cells.specs.Same.{same_name}
+use Rattle.cell_graph.specs.Same.{same_name}
 use Rattle.edit_invalidate.specs.Touched.{or_start, name_at}
-use Rattle.named_cells.specs.Asked.{inputs}
-use Rattle.named_cells.specs.Holds.{HoldsCells}
+use Rattle.cell_graph.specs.Asked.{inputs}
+use Rattle.cell_graph.specs.Holds.{HoldsCells}
 use Rattle.edit_invalidate.specs.Claims.{CellsAreNamed, CellsRise}
-use Rattle.named_cells.proofs.Same.{same_is}
-use Rattle.named_cells.proofs.Numbers.{numbers_get, at_member}
+use Rattle.cell_graph.proofs.Same.{same_is}
+use Rattle.cell_graph.proofs.Numbers.{numbers_get, at_member}
 
 some_of : {A : Type 0} (o : Option A) → IsSome o → (a : A) × (o ≡ Some a)
 some_of None h = absurd cc

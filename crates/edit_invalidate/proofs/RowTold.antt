@@ -5,39 +5,39 @@ use Rattle.std.specs.Ordering.{int_eq}
 use Rattle.std.proofs.lemmas.Bool.Decides.{Decides-int_eq, Decides-eqb, Decides-and, Decides-or, Decides-like}
 use Rattle.std.proofs.lemmas.Slice.Eq.{slice_eq-Decides}
 use Rattle.std.proofs.Common.{◌≡◌, suc, ◌≤◌, ◌⊎◌, inl, inr, Bool, true, List, [], ◌∷◌, length, refl, sym, ap, ◌∙◌, subst, arith}
-use Rattle.plain_values.specs.Equal.{same_Decides}
+use Rattle.base_values.specs.Equal.{same_Decides}
 use Rattle.imp_slots.specs.Codes.{guard_code}
 use Rattle.imp_slots.specs.PartCodes.{layout_code, entering_code}
 use Rattle.imp_slots.specs.EnumCodes.{stmt_coded}
 use Rattle.imp_slots.specs.ActionViews.{act_of, stmt_of, stmt_of-act_of}
-use Rattle.cell_names.specs.declared.frame.Frame.{Frame}
+use Rattle.cell_names.specs.declared.frame.NameFrame.{NameFrame}
 use Rattle.cell_names.specs.Paths.{CellName}
 use Rattle.cell_names.proofs.Telling.{frame_decides, point_decides}
 use Rattle.cell_rows.specs.Names.{name}
 use Rattle.cell_rows.specs.Rows as plain
-use Rattle.flow_rows.specs.declared.input.Input.{Input}
-use Rattle.flow_rows.specs.declared.input.Way.{Way}
-use Rattle.flow_rows.specs.declared.input.Way.TheVariants.{Here, Out, Into}
-use Rattle.flow_rows.specs.declared.row.Unary.{Unary}
-use Rattle.flow_rows.specs.declared.row.Unary.TheVariants as one
-use Rattle.flow_rows.specs.declared.row.Binary.{Binary}
-use Rattle.flow_rows.specs.declared.row.Binary.TheVariants as two
-use Rattle.flow_rows.specs.declared.row.Row.{Row}
-use Rattle.flow_rows.specs.declared.row.Row.TheVariants.{Init, One, Two, Fixed, Joins}
-use Rattle.flow_rows.specs.Near.{outside, near, input_name, unary_of, binary_of, row_in}
-use Rattle.kept_set.proofs.Decided.{returning_code, truth_decides, never}
+use Rattle.imp_flow_rows.specs.declared.input.Input.{Input}
+use Rattle.imp_flow_rows.specs.declared.input.Way.{Way}
+use Rattle.imp_flow_rows.specs.declared.input.Way.TheVariants.{Here, Out, Into}
+use Rattle.imp_flow_rows.specs.declared.row.Unary.{Unary}
+use Rattle.imp_flow_rows.specs.declared.row.Unary.TheVariants as one
+use Rattle.imp_flow_rows.specs.declared.row.Binary.{Binary}
+use Rattle.imp_flow_rows.specs.declared.row.Binary.TheVariants as two
+use Rattle.imp_flow_rows.specs.declared.row.Row.{Row}
+use Rattle.imp_flow_rows.specs.declared.row.Row.TheVariants.{Init, One, Two, Fixed, Joins}
+use Rattle.imp_flow_rows.specs.Near.{outside, near, input_name, unary_of, binary_of, row_in}
+use Rattle.cell_kept_set.proofs.Decided.{returning_code, truth_decides, never}
 use Rattle.edit_invalidate.specs.RowCode.{same_ways, same_inputs, same_unary, same_binary, same_row, is_nil}
 use Rattle.edit_invalidate.specs.Rows.{AskSame}
 
 -- Paths of other lengths are others.
-shorter : (w : List Frame) → length (outside w) ≤ length w
+shorter : (w : List NameFrame) → length (outside w) ≤ length w
 shorter [] = omega arith
 shorter (f ∷ w) = omega arith
 
-longer : (f : Frame) (v w : List Frame) → length v ≤ length w → f ∷ w ≡ v → ⊥
+longer : (f : NameFrame) (v w : List NameFrame) → length v ≤ length w → f ∷ w ≡ v → ⊥
 longer f v w h e = let l : suc (length w) ≡ length v = ap length e in omega arith
 
-ways : (w : List Frame) (a b : Way) → Decides (same_ways (is_nil w) a b) (near w a ≡ near w b)
+ways : (w : List NameFrame) (a b : Way) → Decides (same_ways (is_nil w) a b) (near w a ≡ near w b)
 ways w Here Here = (λ e. refl, λ e. refl)
 ways [] Here Out = (λ e. refl, λ e. refl)
 ways (f ∷ w) Here Out = never (λ e. longer f w w (omega arith) e)
@@ -50,7 +50,7 @@ ways w (Into f) Here = never (λ e. longer f w w (omega arith) e)
 ways w (Into f) Out = never (λ e. longer f (outside w) w (shorter w) e)
 ways w (Into f) (Into g) = Decides-like _ (λ e. ap (λ f. f ∷ w) e) (λ e. cc) (frame_decides f g)
 
-inputs : (w : List Frame) (a b : Input) → Decides (same_inputs (is_nil w) a b) (input_name w a ≡ input_name w b)
+inputs : (w : List NameFrame) (a b : Input) → Decides (same_inputs (is_nil w) a b) (input_name w a ≡ input_name w b)
 inputs w a b =
     Decides-like (same_inputs (is_nil w) a b) (λ p. ap (name (near w a.way)) p.0 ∙ ap (λ v. name v b.point) p.1) (λ e. (ap (λ (c : CellName). c.point) e, ap (λ (c : CellName). c.path) e)) (Decides-and _ _ (point_decides a.point b.point) (ways w a.way b.way))
 
@@ -76,7 +76,7 @@ only f (inr b) = absurd b
 is_true : (b : Bool) → Decides b (b ≡ true)
 is_true b = (λ e. e, λ e. e)
 
-rows : (w : List Frame) (r q : Row) (alone : Bool) → Decides (same_row (is_nil w) alone r q) (AskSame alone (row_in w r) (row_in w q))
+rows : (w : List NameFrame) (r q : Row) (alone : Bool) → Decides (same_row (is_nil w) alone r q) (AskSame alone (row_in w r) (row_in w q))
 rows w (Init l) (Init m) alone = Decides-like _ (λ e. inl (ap plain.Init e)) (λ s. only (λ e. cc) s) (same_Decides layout_code l.now m.now)
 rows w (One o a) (One q b) alone =
     Decides-like _ (λ p. inl (ap (λ o. plain.One o (input_name w a)) p.0 ∙ ap (plain.One (unary_of q)) p.1)) (λ s. only (λ e. (cc, cc)) s) (Decides-and _ _ (unaries o q) (inputs w a b))
@@ -96,6 +96,6 @@ rows w (Joins s l n p) (Joins t k m q) alone =
 rows w r q alone = (λ e. absurd cc, λ s. only (λ e. absurd cc) s)
 
 -- the code's comparison decides
-pub rows_told : (in_main alone answer : Bool) (r q : Row) → answer ≡ same_row in_main alone r q → (w : List Frame) → is_nil w ≡ in_main → Decides answer (AskSame alone (row_in w r) (row_in w q))
+pub rows_told : (in_main alone answer : Bool) (r q : Row) → answer ≡ same_row in_main alone r q → (w : List NameFrame) → is_nil w ≡ in_main → Decides answer (AskSame alone (row_in w r) (row_in w q))
 rows_told in_main alone answer r q e w h =
     subst (λ b. Decides b (AskSame alone (row_in w r) (row_in w q))) (ap (λ m. same_row m alone r q) h ∙ sym e) (rows w r q alone)

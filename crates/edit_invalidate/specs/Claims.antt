@@ -2,18 +2,18 @@
 use Rattle.std.specs.Prelude.{◌≡◌, ◌↔◌, ℕ, List, true}
 use Rattle.imp_slots.specs.Fits.{IsChecked}
 use Rattle.domain_laws.specs.Operations.{Operations}
-use Rattle.demand_order.specs.Asking.{value_of}
+use Rattle.daig_order.specs.Asking.{value_of}
 use Rattle.cell_names.specs.Paths.{CellName}
 use Rattle.cell_rows.specs.Claims.{rows_of}
-use Rattle.kept_set.specs.Places.{KeepPlaces}
-use Rattle.kept_set.specs.Touched.{Edit, IsKept}
+use Rattle.cell_kept_set.specs.Places.{KeepPlaces}
+use Rattle.cell_kept_set.specs.Touched.{Edit, IsKept}
 use Rattle.imp_flow.specs.Plans.{Plan}
 use Rattle.imp_flow.specs.Changed.{AreChanged}
-use Rattle.named_cells.specs.Same.{same_name}
+use Rattle.cell_graph.specs.Same.{same_name}
 use Rattle.cell_removal.specs.Removal.{Cells, IsRising, Removes, without}
-use Rattle.named_cells.specs.Named.{kept}
+use Rattle.cell_graph.specs.Named.{kept}
 use Rattle.edit_invalidate.specs.Touched.{AreNamed, IsTouched}
-use Rattle.named_cells.specs.Holds.{HoldsCells}
+use Rattle.cell_graph.specs.Holds.{HoldsCells}
 
 -- the change from one program to another
 abbrev pub edit_of : Plan → Plan → Edit

@@ -2,23 +2,23 @@
 use Rattle.std.specs.Prelude.{Bool, true, false, ◌&&◌, ◌||◌, List, [], ◌∷◌, ◌==◌}
 use Rattle.std.specs.Cmp.Lexicographic.{pointwise}
 use Rattle.std.specs.Ordering.{int_eq}
-use Rattle.plain_values.specs.Equal.{same, code_same}
+use Rattle.base_values.specs.Equal.{same, code_same}
 use Rattle.imp_slots.specs.Codes.{guard_code}
 use Rattle.imp_slots.specs.PartCodes.{layout_code, entering_code, returning_to}
 use Rattle.imp_slots.specs.EnumCodes.{stmt_coded}
 use Rattle.domain_laws.specs.Claims.{same_truth}
-use Rattle.cell_names.specs.contracts.frame.FramePartialEq.TheImpl as frames
+use Rattle.cell_names.specs.contracts.frame.NameFramePartialEq.TheImpl as frames
 use Rattle.cell_names.specs.contracts.frame.PointPartialEq.TheImpl as points
-use Rattle.flow_rows.specs.declared.input.Input.{Input}
-use Rattle.flow_rows.specs.declared.input.Way.{Way}
-use Rattle.flow_rows.specs.declared.input.Way.TheVariants.{Here, Out, Into}
-use Rattle.flow_rows.specs.declared.row.Unary.{Unary}
-use Rattle.flow_rows.specs.declared.row.Unary.TheVariants as one
-use Rattle.flow_rows.specs.declared.row.Binary.{Binary}
-use Rattle.flow_rows.specs.declared.row.Binary.TheVariants as two
-use Rattle.flow_rows.specs.declared.row.Row.{Row}
-use Rattle.flow_rows.specs.declared.row.Row.TheVariants.{Init, One, Two, Fixed, Joins}
-use Rattle.flow_rows.specs.Near.{PathFrame}
+use Rattle.imp_flow_rows.specs.declared.input.Input.{Input}
+use Rattle.imp_flow_rows.specs.declared.input.Way.{Way}
+use Rattle.imp_flow_rows.specs.declared.input.Way.TheVariants.{Here, Out, Into}
+use Rattle.imp_flow_rows.specs.declared.row.Unary.{Unary}
+use Rattle.imp_flow_rows.specs.declared.row.Unary.TheVariants as one
+use Rattle.imp_flow_rows.specs.declared.row.Binary.{Binary}
+use Rattle.imp_flow_rows.specs.declared.row.Binary.TheVariants as two
+use Rattle.imp_flow_rows.specs.declared.row.Row.{Row}
+use Rattle.imp_flow_rows.specs.declared.row.Row.TheVariants.{Init, One, Two, Fixed, Joins}
+use Rattle.imp_flow_rows.specs.Near.{PathFrame}
 
 -- Outside main's block is main's block.
 abbrev pub same_ways : (in_main : Bool) → Way → Way → Bool

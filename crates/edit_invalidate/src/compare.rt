@@ -1,15 +1,15 @@
 //! Whether a cell's row asks for the same in another program.
 ghost use Rattle.std.specs.Prelude.{◌≡◌, List};
 ghost use Rattle.std.specs.Bool.{Decides};
-ghost use Rattle.plain_values.specs.Equal.{code_same};
+ghost use Rattle.base_values.specs.Equal.{code_same};
 ghost use Rattle.imp_slots.specs.PartCodes.{returning_to};
 ghost use Rattle.imp_slots.specs.CallViews.{taken_of};
-ghost use Rattle.flow_rows.specs.Near.{PathFrame, row_in};
+ghost use Rattle.imp_flow_rows.specs.Near.{PathFrame, row_in};
 ghost use Rattle.domain_laws.specs.Claims.{same_truth};
 ghost use Rattle.edit_invalidate.specs.RowCode.{is_nil, same_binary, same_inputs, same_row, same_unary, same_ways};
 ghost use Rattle.edit_invalidate.specs.Rows.{AskSame};
 
-use flow_rows::{Binary, Input, Row, Unary, Way};
+use imp_flow_rows::{Binary, Input, Row, Unary, Way};
 use imp_slots::Returning;
 
 fn same_ways(in_main: bool, a: Way, b: Way) -> bool
@@ -95,7 +95,7 @@ fn same_row(in_main: bool, left_alone: bool, row: &Row<'_>, other: &Row<'_>) -> 
 /// cell has one input. They do where they are the same row; or where both are joins behind a loop with breaks, with the
 /// same left input, which is the only one of the cell.
 ///
-/// It takes time linear in what the rows use, as conditions, layouts and marks.
+/// It takes time linear in what the rows use, as conditions, layouts and thresholds.
 pub fn same_rows(in_main: bool, left_alone: bool, row: &Row<'_>, other: &Row<'_>) -> bool
     ensures told { (w : List PathFrame) → is_nil w ≡ in_main → Decides result (AskSame left_alone (row_in w row.now) (row_in w other.now)) }
 {

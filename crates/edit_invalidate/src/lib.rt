@@ -5,7 +5,7 @@
 //! the graph's dependents, all that are computed from them. It takes all memory, and changes nothing. `commit` of crate
 //! `cell_removal` takes the planned cells away, each behind those that use it; it takes no memory and cannot fail.
 //!
-//! What is left are exactly the kept cells of the edit (`IsKept` of crate `kept_set`), and they are cells of the new
+//! What is left are exactly the kept cells of the edit (`IsKept` of crate `cell_kept_set`), and they are cells of the new
 //! program ([`plans_leave_kept`]).
 //!
 //! All takes time in proportion to the cells that are taken away, their inputs, and the cells of the changed statements.

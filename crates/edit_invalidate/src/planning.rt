@@ -4,11 +4,11 @@ ghost use Rattle.cell_removal.specs.Removal.{IsRising, Removes};
 ghost use Rattle.edit_invalidate.specs.Touched.{AreNamed, IsTouched};
 
 use crate::touching::touched;
+use base_values::Memory;
 use cell_names::Names;
 use cell_removal::{RemovalOrder, removal};
 use daig_graph::Graph;
 use imp_flow::Flow;
-use plain_values::Memory;
 use std::alloc::Global;
 
 /// The cells that a change of the program empties: those of the changed statements whose own row is changed, and all that

@@ -2,19 +2,19 @@
 ghost use Rattle.std.specs.Prelude.{◌≡◌, ◌<◌, length, IfOk, OnOk};
 ghost use Rattle.std.specs.Bool.{Decides};
 ghost use Rattle.cell_names.specs.Paths.{path_at, name_in};
-ghost use Rattle.flow_rows.specs.Near.{last_frame};
+ghost use Rattle.imp_flow_rows.specs.Near.{last_frame};
 ghost use Rattle.edit_invalidate.specs.Touched.{AddsTouched, AreNamed, AreTouched, KeepsCell, inputs_at, name_at};
 
 use crate::compare::same_rows;
-use cell_names::{Frame, Name, Names, PathId};
+use base_values::Memory;
+use cell_names::{Name, NameFrame, Names, PathId};
 use daig_graph::Graph;
 use imp_flow::Flow;
-use plain_values::Memory;
 use std::alloc::Global;
 
 /// The last frame of a path, if it has one.
 #[tactic(auto, using(crate::proofs::Keeping::last_none, crate::proofs::Keeping::last_some))]
-fn last_of(names: &Names, path: PathId) -> Option<Frame>
+fn last_of(names: &Names, path: PathId) -> Option<NameFrame>
     requires there { path < length names.now.paths }
     ensures is { result ≡ last_frame (path_at names.now.paths path) }
 {

@@ -1,12 +1,12 @@
 //! A run of the server.
 ghost use Rattle.std.specs.Prelude.{◌≡◌, ◌<◌};
 
+use base_counter::Steps;
 use daig_server::serve;
 use io_edge::{Files, MemSink, MemSource};
 use std::alloc::Global;
 use std::marker::Brand;
 use std::sync::ledger::{Blank, Ledger};
-use step_counter::Steps;
 
 /// The most bytes of a file.
 pub(crate) const MOST: usize = 1_048_576;

@@ -5,12 +5,12 @@ use Rattle.request_json.specs.declared.reply.Reply.{Reply}
 use Rattle.request_json.specs.declared.reply.Reply.TheVariants as r
 use Rattle.request_json.specs.declared.reply.Refusal.{Refusal}
 use Rattle.request_json.specs.declared.reply.Refusal.TheVariants as refusal
-use Rattle.analysis_words.specs.declared.run_end.RunEnd.{RunEnd}
-use Rattle.analysis_words.specs.declared.run_end.RunEnd.TheVariants as end
+use Rattle.imp_words.specs.declared.run_end.RunEnd.{RunEnd}
+use Rattle.imp_words.specs.declared.run_end.RunEnd.TheVariants as end
 use Rattle.request_json.specs.Replies.{reply_fields, reply_text}
 use Rattle.std.specs.Prelude.{Some, None, Option}
 use Rattle.gen_summary.specs.Summary.{kind_in, kind_of}
-use Rattle.gen_summary.specs.declared.kind.Kind.TheVariants.{Other, Refused}
+use Rattle.gen_summary.specs.declared.kind.ReplyKind.TheVariants.{Other, Refused}
 
 refusal_told : (why : Refusal) → kind_in (reply_text (r.Refused why)) ≡ Refused
 unfolding kind_in reply_text reply_fields escape_byte

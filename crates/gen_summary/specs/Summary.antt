@@ -4,12 +4,12 @@ use Rattle.std.specs.List.{starts_with}
 use Rattle.std.specs.Fmt.{decimal}
 use Rattle.request_json.specs.declared.reply.Reply.{Reply}
 use Rattle.request_json.specs.declared.reply.Reply.TheVariants as r
-use Rattle.gen_summary.specs.declared.kind.Kind.{Kind}
-use Rattle.gen_summary.specs.declared.kind.Kind.TheVariants.{Next, State, Over, Cost, Refused, Other}
-use Rattle.gen_summary.specs.declared.tally.Tally.{Tally}
+use Rattle.gen_summary.specs.declared.kind.ReplyKind.{ReplyKind}
+use Rattle.gen_summary.specs.declared.kind.ReplyKind.TheVariants.{Next, State, Over, Cost, Refused, Other}
+use Rattle.gen_summary.specs.declared.tally.ReplyTally.{ReplyTally}
 
 -- the kind of a reply: which of these members it has
-abbrev pub kind_of : Reply → Kind
+abbrev pub kind_of : Reply → ReplyKind
 kind_of (r.State text) = State
 kind_of (r.Over head chain) = Over
 kind_of (r.Report items) = Other
@@ -28,7 +28,7 @@ kind_of (r.Refused why) = Refused
 abbrev pub begins : List ℕ → (line : List ℕ) → Bool
 begins front line = starts_with nat_eq line front
 
-unfoldable pub kind_in : (line : List ℕ) → Kind
+unfoldable pub kind_in : (line : List ℕ) → ReplyKind
 kind_in line =
     if begins (codes "{\"state\":") line then State
     else (if begins (codes "{\"chain\":") line then Over
@@ -39,11 +39,11 @@ kind_in line =
     else Other)))))
 
 -- nothing was replied yet
-abbrev pub nothing : Tally
+abbrev pub nothing : ReplyTally
 nothing = record { edits = 0; filled = 0; over = 0; refused = 0; states = 0; is_answered = false }
 
 -- one more reply; a cost counts where it comes straight behind a state or an over
-abbrev pub counted : Kind → (cost : ℕ) → Tally → Tally
+abbrev pub counted : ReplyKind → (cost : ℕ) → ReplyTally → ReplyTally
 counted Next cost t = record { edits = t.edits + 1; filled = t.filled; over = t.over; refused = t.refused; states = t.states; is_answered = false }
 counted State cost t = record { edits = t.edits; filled = t.filled; over = t.over; refused = t.refused; states = t.states + 1; is_answered = true }
 counted Over cost t = record { edits = t.edits; filled = t.filled; over = t.over + 1; refused = t.refused; states = t.states; is_answered = true }
@@ -67,11 +67,11 @@ cost_in (r.Pending filled) = 0
 cost_in (r.Cancelled ticket) = 0
 cost_in (r.Refused why) = 0
 
-abbrev pub added : Reply → Tally → Tally
-added reply t = counted (kind_of reply) (cost_in reply) t
+abbrev pub tally_with : Reply → ReplyTally → ReplyTally
+tally_with reply t = counted (kind_of reply) (cost_in reply) t
 
 -- so many replies at most were added
-pub record IsWithin (n : ℕ) (t : Tally) : Type 0 where
+pub record IsWithin (n : ℕ) (t : ReplyTally) : Type 0 where
   pub edits : t.edits ≤ n
   pub filled : t.filled ≤ n * 2 ^ 64
   pub over : t.over ≤ n
@@ -79,7 +79,7 @@ pub record IsWithin (n : ℕ) (t : Tally) : Type 0 where
   pub states : t.states ≤ n
 
 -- the line of the summary
-unfoldable pub summary_text : Tally → List ℕ
+unfoldable pub summary_text : ReplyTally → List ℕ
 summary_text t =
     codes "{\"edits\":" ++ (decimal t.edits ++ (codes ",\"filled\":" ++ (decimal t.filled ++ (codes ",\"over\":" ++ (decimal t.over
     ++ (codes ",\"refused\":" ++ (decimal t.refused ++ (codes ",\"states\":" ++ (decimal t.states ++ codes "}\n")))))))))

@@ -6,7 +6,7 @@ ghost use Rattle.gen_summary.specs.Summary.{kind_in, kind_of};
 
 /// The kind of a reply.
 #[derive(Clone, Copy, Debug, PartialEq, Eq)]
-pub enum Kind {
+pub enum ReplyKind {
     /// It tells the next number: an edit is made.
     Next,
     /// It tells a state.
@@ -23,26 +23,26 @@ pub enum Kind {
 
 /// The kind of a line.
 #[tactic(auto, unfolding(crate::specs::Summary::kind_in))]
-fn kind_in(line: &[u8]) -> Kind
+fn kind_in(line: &[u8]) -> ReplyKind
     ensures is { result ≡ kind_in line.now }
 {
     if line.starts_with(b"{\"state\":") {
-        Kind::State
+        ReplyKind::State
     } else if line.starts_with(b"{\"chain\":") {
-        Kind::Over
+        ReplyKind::Over
     } else if line.starts_with(b"{\"cost\":") {
-        Kind::Cost
+        ReplyKind::Cost
     } else if line.starts_with(b"{\"next\":") {
-        Kind::Next
+        ReplyKind::Next
     } else if line.starts_with(b"{\"refused\":") || line.starts_with(b"{\"at\":") {
-        Kind::Refused
+        ReplyKind::Refused
     } else {
-        Kind::Other
+        ReplyKind::Other
     }
 }
 
 /// The kind of the reply whose line this is.
-pub(crate) fn kind_of(line: &[u8]) -> Kind
+pub(crate) fn kind_of(line: &[u8]) -> ReplyKind
     ensures is { (reply : Reply) → line.now ≡ reply_text reply → result ≡ kind_of reply }
 {
     kind_in(line)

@@ -3,15 +3,15 @@ ghost use Rattle.std.specs.Prelude.{◌≡◌, ◌+◌, ◌<◌, ◌^◌, ℕ, s
 ghost use Rattle.std.specs.String.{string_bytes};
 ghost use Rattle.request_json.specs.declared.reply.Reply.{Reply};
 ghost use Rattle.request_json.specs.Replies.{reply_text};
-ghost use Rattle.gen_summary.specs.Summary.{added, cost_in, counted, kind_of, nothing, summary_text, IsWithin};
+ghost use Rattle.gen_summary.specs.Summary.{tally_with, cost_in, counted, kind_of, nothing, summary_text, IsWithin};
 
-use crate::kind::{Kind, kind_of};
-use plain_values::Memory;
+use crate::kind::{ReplyKind, kind_of};
+use base_values::Memory;
 use std::alloc::Global;
 
 /// How many replies there are of each kind, and how many cells the states cost whose cost was asked for straight behind.
 #[derive(Clone, Copy, Debug, PartialEq, Eq)]
-pub struct Tally {
+pub struct ReplyTally {
     /// Edits that were made.
     pub edits: u64,
     /// Cells that states cost.
@@ -26,13 +26,13 @@ pub struct Tally {
     pub is_answered: bool,
 }
 
-impl Tally {
+impl ReplyTally {
     /// Nothing was replied yet.
-    pub fn new() -> Tally
+    pub fn new() -> ReplyTally
         ensures is { result ≡ nothing }
         ensures within { IsWithin 0 result }
     {
-        Tally {
+        ReplyTally {
             edits: 0,
             filled: 0,
             over: 0,
@@ -43,28 +43,28 @@ impl Tally {
     }
 
     /// Counts one more.
-    fn count(&mut self, kind: Kind, cost: u64)
+    fn count(&mut self, kind: ReplyKind, cost: u64)
         requires room { (n : ℕ) × (n < 2 ^ 62) × IsWithin n self.old }
         ensures is { self.new ≡ counted kind cost self.old }
         ensures within { (n : ℕ) → IsWithin n self.old → IsWithin (n + 1) self.new }
     {
-        if kind == Kind::Cost && self.is_answered {
+        if kind == ReplyKind::Cost && self.is_answered {
             self.filled += cost as u128;
         }
         match kind {
-            Kind::Next => self.edits += 1,
-            Kind::State => self.states += 1,
-            Kind::Over => self.over += 1,
-            Kind::Refused => self.refused += 1,
-            Kind::Cost | Kind::Other => {}
+            ReplyKind::Next => self.edits += 1,
+            ReplyKind::State => self.states += 1,
+            ReplyKind::Over => self.over += 1,
+            ReplyKind::Refused => self.refused += 1,
+            ReplyKind::Cost | ReplyKind::Other => {}
         }
-        self.is_answered = matches!(kind, Kind::State | Kind::Over);
+        self.is_answered = matches!(kind, ReplyKind::State | ReplyKind::Over);
     }
 
     /// Adds the reply of this line; `cost` is what it tells where it tells a cost.
     pub fn add(&mut self, line: &[u8], cost: u64)
         requires room { (n : ℕ) × (n < 2 ^ 62) × IsWithin n self.old }
-        ensures is { (reply : Reply) → line.now ≡ reply_text reply → (kind_of reply ≡ Kind.Cost → cost_in reply ≡ cost) → self.new ≡ added reply self.old }
+        ensures is { (reply : Reply) → line.now ≡ reply_text reply → (kind_of reply ≡ ReplyKind.Cost → cost_in reply ≡ cost) → self.new ≡ tally_with reply self.old }
         ensures within { (n : ℕ) → IsWithin n self.old → IsWithin (n + 1) self.new }
     {
         self.count(kind_of(line), cost);
@@ -79,7 +79,7 @@ impl Tally {
     pub fn line(&self, alloc: Global) -> Result<String, Memory>
         ensures line { IfOk result (λ s. string_bytes s ≡ summary_text self.now) }
     {
-        let Tally {
+        let ReplyTally {
             edits,
             filled,
             over,

@@ -6,8 +6,8 @@ use Rattle.std.proofs.lemmas.List.{drop_all}
 use Rattle.imp_syntax.specs.Plain.{Statement, Statements, Starts, Procedure}
 use Rattle.imp_check.specs.Chains.{calls_in, calls, extended, chains_through, chains_to, all_chains}
 use Rattle.imp_check.specs.Programs.{longest}
-use Rattle.imp_check.specs.Tallies.{capped, tally_of, added, called, none, tallies_of}
-use Rattle.imp_check.specs.declared.chains.Tally.{Tally}
+use Rattle.imp_check.specs.Tallies.{capped, tally_of, tally_sum, called, none, tallies_of}
+use Rattle.imp_check.specs.declared.chains.ChainTally.{ChainTally}
 
 pub length_both : (f : List ℕ) (t e : Statements) → length (calls f t ++ calls f e) ≡ length (calls f t) + length (calls f e)
 length_both f t e = length-append (calls f t) (calls f e)
@@ -39,15 +39,15 @@ longest_extended : (w : List ℕ) (ws : List (List ℕ)) (s : ℕ) (ss : List �
 longest_extended w ws s [] = omega (arith, longest_append (map (λ v. v ++ s ∷ []) (w ∷ ws)) [], longest_behind s w ws)
 longest_extended w ws s (t ∷ ss) = omega (arith, longest_append (map (λ v. v ++ s ∷ []) (w ∷ ws)) (extended (w ∷ ws) (t ∷ ss)), longest_behind s w ws, longest_extended w ws t ss)
 
-pub tally_append : (xs ys : List (List ℕ)) → tally_of (xs ++ ys) ≡ added (tally_of xs) (tally_of ys)
-unfolding tally_of added
+pub tally_append : (xs ys : List (List ℕ)) → tally_of (xs ++ ys) ≡ tally_sum (tally_of xs) (tally_of ys)
+unfolding tally_of tally_sum
 tally_append xs ys =
     let e : capped (length (xs ++ ys)) ≡ capped (capped (length xs) + capped (length ys)) = omega (arith, length-append xs ys) in
     let l : capped (longest (xs ++ ys)) ≡ max (capped (longest xs)) (capped (longest ys)) = omega (arith, longest_append xs ys) in
     λ i. record { count = e i; longest = l i }
 
-pub added_assoc : (a b c : Tally) → added (added a b) c ≡ added a (added b c)
-unfolding added
+pub added_assoc : (a b c : ChainTally) → tally_sum (tally_sum a b) c ≡ tally_sum a (tally_sum b c)
+unfolding tally_sum
 added_assoc a b c =
     let e : capped (capped (a.count + b.count) + c.count) ≡ capped (a.count + capped (b.count + c.count)) = omega arith in
     let l : max (max a.longest b.longest) c.longest ≡ max a.longest (max b.longest c.longest) = omega arith in
@@ -92,7 +92,7 @@ drop-nil : {A : Type 0} (n : ℕ) → drop {A = A} n [] ≡ []
 drop-nil zero = refl
 drop-nil (suc n) = refl
 
-cond_same : (b : Bool) (t : Tally) → cond b t t ≡ t
+cond_same : (b : Bool) (t : ChainTally) → cond b t t ≡ t
 cond_same true t = refl
 cond_same false t = refl
 
@@ -109,22 +109,22 @@ called_is (w ∷ ws) (s ∷ ss) =
     let l : capped (capped (longest (w ∷ ws)) + 1) ≡ capped (longest (extended (w ∷ ws) (s ∷ ss))) = omega (arith, longest_extended w ws s ss) in
     rw (a, b) (λ i. record { count = e i; longest = l i })
 
-pub none_added : (ws : List (List ℕ)) → added none (tally_of ws) ≡ tally_of ws
-unfolding tally_of added
+pub none_added : (ws : List (List ℕ)) → tally_sum none (tally_of ws) ≡ tally_of ws
+unfolding tally_of tally_sum
 none_added ws =
     let e : capped (0 + capped (length ws)) ≡ capped (length ws) = omega arith in
     let l : max 0 (capped (longest ws)) ≡ capped (longest ws) = omega arith in
     λ i. record { count = e i; longest = l i }
 
-pub added_none : (t : Tally) → t.count ≤ 2 ^ 32 - 1 → added t (tally_of []) ≡ t
-unfolding tally_of added
+pub added_none : (t : ChainTally) → t.count ≤ 2 ^ 32 - 1 → tally_sum t (tally_of []) ≡ t
+unfolding tally_of tally_sum
 added_none t h =
     let e : capped (t.count + capped 0) ≡ t.count = omega arith in
     let l : max t.longest (capped 0) ≡ t.longest = omega arith in
     λ i. record { count = e i; longest = l i }
 
-pub added_few : (a b : Tally) → (added a b).count ≤ 2 ^ 32 - 1
-unfolding added
+pub added_few : (a b : ChainTally) → (tally_sum a b).count ≤ 2 ^ 32 - 1
+unfolding tally_sum
 added_few a b = omega arith
 
 pub tally_main : tally_of ([] ∷ []) ≡ record { count = 1; longest = 0 }
@@ -132,29 +132,29 @@ unfolding tally_of
 tally_main = refl
 
 -- the tally of the chains through the procedures from a place on
-through_step : (f : List ℕ) (ps : List Procedure) (i : ℕ) (p : Procedure) (d : Tally) → i < length ps → p ≡ get_or ps i p → tally_of (chains_through f (drop i ps)) ≡ added (called (get_or (tallies_of ps) i d) (capped (length (calls f p.body)))) (tally_of (chains_through f (drop (i + 1) ps)))
+through_step : (f : List ℕ) (ps : List Procedure) (i : ℕ) (p : Procedure) (d : ChainTally) → i < length ps → p ≡ get_or ps i p → tally_of (chains_through f (drop i ps)) ≡ tally_sum (called (get_or (tallies_of ps) i d) (capped (length (calls f p.body)))) (tally_of (chains_through f (drop (i + 1) ps)))
 through_step f [] i p d h e = absurd (omega arith)
 through_step f (q ∷ ps) zero p d h e =
     rw (e, called_is (chains_to q.name ps) (calls f q.body)) (tally_append (extended (chains_to q.name ps) (calls f q.body)) (chains_through f ps))
 through_step f (q ∷ ps) (suc i) p d h e = let r = through_step f ps i p d (omega arith) e in rw add-one (rw add-one at r)
 
-pub through_next : (f : List ℕ) (ps : List Procedure) (ts : List Tally) (i : ℕ) (p : Procedure) (d total c new w : Tally) (n : ℕ) → ts ≡ tallies_of ps → i < length ps → p ≡ get_or ps i p → n ≡ capped (length (calls f p.body)) → c ≡ called (get_or ts i d) n → new ≡ added total c → added total (tally_of (chains_through f (drop i ps))) ≡ w → added new (tally_of (chains_through f (drop (i + 1) ps))) ≡ w
+pub through_next : (f : List ℕ) (ps : List Procedure) (ts : List ChainTally) (i : ℕ) (p : Procedure) (d total c new w : ChainTally) (n : ℕ) → ts ≡ tallies_of ps → i < length ps → p ≡ get_or ps i p → n ≡ capped (length (calls f p.body)) → c ≡ called (get_or ts i d) n → new ≡ tally_sum total c → tally_sum total (tally_of (chains_through f (drop i ps))) ≡ w → tally_sum new (tally_of (chains_through f (drop (i + 1) ps))) ≡ w
 through_next f ps ts i p d total c new w n known h e en ec enew told =
     let y = tally_of (chains_through f (drop (i + 1) ps)) in
     let t = get_or (tallies_of ps) i d in
-    let same : c ≡ called t (capped (length (calls f p.body))) = ec ∙ ap (λ (z : List Tally). called (get_or z i d) n) known ∙ ap (λ (m : ℕ). called t m) en in
-    ap (λ (z : Tally). added z y) enew ∙ added_assoc total c y ∙ ap (λ (z : Tally). added total z) (ap (λ (z : Tally). added z y) same ∙ sym (through_step f ps i p d h e)) ∙ told
+    let same : c ≡ called t (capped (length (calls f p.body))) = ec ∙ ap (λ (z : List ChainTally). called (get_or z i d) n) known ∙ ap (λ (m : ℕ). called t m) en in
+    ap (λ (z : ChainTally). tally_sum z y) enew ∙ added_assoc total c y ∙ ap (λ (z : ChainTally). tally_sum total z) (ap (λ (z : ChainTally). tally_sum z y) same ∙ sym (through_step f ps i p d h e)) ∙ told
 
-pub through_end : (f : List ℕ) (ps : List Procedure) (i : ℕ) (total w : Tally) → length ps ≤ i → total.count ≤ 2 ^ 32 - 1 → added total (tally_of (chains_through f (drop i ps))) ≡ w → total ≡ w
+pub through_end : (f : List ℕ) (ps : List Procedure) (i : ℕ) (total w : ChainTally) → length ps ≤ i → total.count ≤ 2 ^ 32 - 1 → tally_sum total (tally_of (chains_through f (drop i ps))) ≡ w → total ≡ w
 through_end f ps i total w h few told =
     let e : drop i ps ≡ [] = drop_all i ps h in
-    sym (added_none total few) ∙ ap (λ (z : List Procedure). added total (tally_of (chains_through f z))) (sym e) ∙ told
+    sym (added_none total few) ∙ ap (λ (z : List Procedure). tally_sum total (tally_of (chains_through f z))) (sym e) ∙ told
 
 pub only_main : (f : List ℕ) (ps : List Procedure) → true ≡ (length ps == 0) → record { count = 1; longest = 0 } ≡ tally_of (chains_to f ps)
 only_main f [] h = sym tally_main
 only_main f (p ∷ ps) h = absurd (false≢true (sym (h ∙ eqb-suc-zero (length ps))))
 
-pub not_main : (f : List ℕ) (ps : List Procedure) (t : Tally) → false ≡ (length ps == 0) → t ≡ tally_of (chains_through f ps) → t ≡ tally_of (chains_to f ps)
+pub not_main : (f : List ℕ) (ps : List Procedure) (t : ChainTally) → false ≡ (length ps == 0) → t ≡ tally_of (chains_through f ps) → t ≡ tally_of (chains_to f ps)
 not_main f [] t h e = absurd (false≢true h)
 not_main f (p ∷ ps) t h e = e
 
@@ -167,18 +167,18 @@ pub tallies_before : (ps : List Procedure) (i : ℕ) (p : Procedure) → i < len
 tallies_before ps i p h e = rw (drop-cons ps i p, add-one, ← e) refl
 
 -- the tally of all chains to the procedures from a place on
-all_step : (ps : List Procedure) (i : ℕ) (d : Tally) → i < length (tallies_of ps) → tally_of (all_chains (drop i ps)) ≡ added (get_or (tallies_of ps) i d) (tally_of (all_chains (drop (i + 1) ps)))
+all_step : (ps : List Procedure) (i : ℕ) (d : ChainTally) → i < length (tallies_of ps) → tally_of (all_chains (drop i ps)) ≡ tally_sum (get_or (tallies_of ps) i d) (tally_of (all_chains (drop (i + 1) ps)))
 all_step [] i d h = absurd (omega arith)
 all_step (p ∷ ps) zero d h = tally_append (chains_to p.name ps) (all_chains ps)
 all_step (p ∷ ps) (suc i) d h = let r = all_step ps i d (omega arith) in rw add-one (rw add-one at r)
 
-pub all_next : (ps : List Procedure) (ts : List Tally) (i : ℕ) (d total new w : Tally) → ts ≡ tallies_of ps → i < length ts → new ≡ added total (get_or ts i d) → added total (tally_of (all_chains (drop i ps))) ≡ w → added new (tally_of (all_chains (drop (i + 1) ps))) ≡ w
+pub all_next : (ps : List Procedure) (ts : List ChainTally) (i : ℕ) (d total new w : ChainTally) → ts ≡ tallies_of ps → i < length ts → new ≡ tally_sum total (get_or ts i d) → tally_sum total (tally_of (all_chains (drop i ps))) ≡ w → tally_sum new (tally_of (all_chains (drop (i + 1) ps))) ≡ w
 all_next ps ts i d total new w known h enew told =
     let y = tally_of (all_chains (drop (i + 1) ps)) in
     let t = get_or (tallies_of ps) i d in
     let k : i < length (tallies_of ps) = omega (arith, ap length known) in
-    let same : new ≡ added total t = enew ∙ ap (λ (z : List Tally). added total (get_or z i d)) known in
-    ap (λ (z : Tally). added z y) same ∙ added_assoc total t y ∙ ap (λ (z : Tally). added total z) (sym (all_step ps i d k)) ∙ told
+    let same : new ≡ tally_sum total t = enew ∙ ap (λ (z : List ChainTally). tally_sum total (get_or z i d)) known in
+    ap (λ (z : ChainTally). tally_sum z y) same ∙ added_assoc total t y ∙ ap (λ (z : ChainTally). tally_sum total z) (sym (all_step ps i d k)) ∙ told
 
 pub all_end : (ps : List Procedure) (i : ℕ) → length (tallies_of ps) ≤ i → drop i ps ≡ []
 all_end [] i h = drop-nil i

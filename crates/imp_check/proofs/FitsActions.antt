@@ -5,8 +5,8 @@ use Rattle.std.specs.Cmp.Lexicographic.{bytes_decides}
 use Rattle.std.proofs.lemmas.Bool.{and_parts, and_from, false≢true, lt-ltb, or_cases, or_right}
 use Rattle.imp_syntax.specs.Plain.{Expression, Literal, Variable, Length, Negative, Binary, Operand, Null, Value, Action, Skip, Assert, Assign, Input, MakeArray, SetNull, MakeCell, ReadElement, ReadNext, ReadItem, WriteElement, WriteNext, WriteItem, Procedure}
 use Rattle.imp_syntax.specs.declared.words.Declaration.{Declaration}
-use Rattle.imp_syntax.specs.declared.words.Kind.{Kind}
-use Rattle.imp_syntax.specs.declared.words.Kind.TheVariants.{Int, Array, List as OfLinks}
+use Rattle.imp_syntax.specs.declared.words.VariableKind.{VariableKind}
+use Rattle.imp_syntax.specs.declared.words.VariableKind.TheVariants.{Int, Array, List as OfLinks}
 use Rattle.imp_slots.specs.Fits as fits
 use Rattle.imp_slots.specs.Fits.{fits_term, fits_effect, fits_arguments, fits_returning, fits_invoke}
 use Rattle.imp_slots.specs.Plain as slot
@@ -143,7 +143,7 @@ link_parameter vs y (Value (Length x)) more ns ls h k = absurd (false≢true h)
 link_parameter vs y (Value (Negative e)) more ns ls h k = absurd (false≢true h)
 link_parameter vs y (Value (Binary o a b)) more ns ls h k = absurd (false≢true h)
 
-parameter_step : (vs : List Declaration) → Apart vs → (kind : Kind) (y : List ℕ) (a : Operand) (more : List slot.Argument) (ns : List Numeric) (ls : List (List ℕ)) → small_operand a ≡ true → fits_parameter vs a kind ≡ true → fits_arguments (layout_of vs) more ns ls ≡ true → fits_arguments (layout_of vs) (argument_in (layout_of vs) a ∷ more) (with_numeric kind y ns) (with_link kind y ls) ≡ true
+parameter_step : (vs : List Declaration) → Apart vs → (kind : VariableKind) (y : List ℕ) (a : Operand) (more : List slot.Argument) (ns : List Numeric) (ls : List (List ℕ)) → small_operand a ≡ true → fits_parameter vs a kind ≡ true → fits_arguments (layout_of vs) more ns ls ≡ true → fits_arguments (layout_of vs) (argument_in (layout_of vs) a ∷ more) (with_numeric kind y ns) (with_link kind y ls) ≡ true
 parameter_step vs p Int y a more ns ls s h k = int_parameter vs p y a more ns ls s h k
 parameter_step vs p Array y a more ns ls s h k = array_parameter vs p y a more ns ls h k
 parameter_step vs p OfLinks y a more ns ls s h k = link_parameter vs y a more ns ls h k
@@ -158,7 +158,7 @@ parameters_fit vs p (a ∷ es) (d ∷ ds) rest s n h =
     parameter_step vs p d.kind d.name a (arguments_in (layout_of vs) es) (numerics (ds ++ rest)) (links (ds ++ rest)) t.0 q.0 (parameters_fit vs p es ds rest t.1 n q.1)
 
 -- a variable's name has its kind, where no name stands again
-own_by : (b : Bool) (y x : List ℕ) (ds : List Declaration) (k k' : Kind) → bytes_eq y x ≡ b → kind_of ds y ≡ None → kind_of ds x ≡ Some k → cond b (Some k') (kind_of ds x) ≡ Some k
+own_by : (b : Bool) (y x : List ℕ) (ds : List Declaration) (k k' : VariableKind) → bytes_eq y x ≡ b → kind_of ds y ≡ None → kind_of ds x ≡ Some k → cond b (Some k') (kind_of ds x) ≡ Some k
 own_by true y x ds k k' e n h = let q = sym n ∙ ap (kind_of ds) ((bytes_decides y x).0 e) ∙ h in absurd cc
 own_by false y x ds k k' e n h = h
 
@@ -166,7 +166,7 @@ pub own_kind : (ds : List Declaration) (d : Declaration) (rest : List Declaratio
 own_kind [] d rest a = let e = (bytes_decides d.name d.name).1 refl in rw e refl
 own_kind (c ∷ ds) d rest a = own_by (bytes_eq c.name d.name) c.name d.name (ds ++ d ∷ rest) d.kind c.kind refl a.0 (own_kind ds d rest a.1)
 
-result_rest : (vs ms : List Declaration) → Apart vs → (x y : List ℕ) (k : Option Kind) → kind_of ms y ≡ k → ((is_array (kind_of vs x) && is_array k) ≡ true) ⊎ ((is_link (kind_of vs x) && is_link k) ≡ true) → fits_returning (layout_of ms) (layout_of vs) (Some (result_in (layout_of vs) (layout_of ms) x y)) ≡ true
+result_rest : (vs ms : List Declaration) → Apart vs → (x y : List ℕ) (k : Option VariableKind) → kind_of ms y ≡ k → ((is_array (kind_of vs x) && is_array k) ≡ true) ⊎ ((is_link (kind_of vs x) && is_link k) ≡ true) → fits_returning (layout_of ms) (layout_of vs) (Some (result_in (layout_of vs) (layout_of ms) x y)) ≡ true
 result_rest vs ms p x y k e (inl h) =
     let q = and_parts (is_array (kind_of vs x)) (is_array k) h in
     let f = array_is_no_link vs p x q.0 in
@@ -177,7 +177,7 @@ result_rest vs ms p x y k e (inr h) =
     let f = named_link vs x q.0 in
     rw f (and_from (fits.is_link (layout_of ms) (link_in (layout_of ms) y)) (fits.is_link (layout_of vs) (link_in (layout_of vs) x)) (link_there ms y (ap is_link e ∙ q.1)) (link_there vs x q.0))
 
-result_fits : (vs ms : List Declaration) → Apart vs → (x y : List ℕ) (k : Option Kind) → kind_of ms y ≡ k → ((is_int (kind_of vs x) && is_int k) ≡ true) ⊎ (((is_array (kind_of vs x) && is_array k) || (is_link (kind_of vs x) && is_link k)) ≡ true) → fits_returning (layout_of ms) (layout_of vs) (Some (result_in (layout_of vs) (layout_of ms) x y)) ≡ true
+result_fits : (vs ms : List Declaration) → Apart vs → (x y : List ℕ) (k : Option VariableKind) → kind_of ms y ≡ k → ((is_int (kind_of vs x) && is_int k) ≡ true) ⊎ (((is_array (kind_of vs x) && is_array k) || (is_link (kind_of vs x) && is_link k)) ≡ true) → fits_returning (layout_of ms) (layout_of vs) (Some (result_in (layout_of vs) (layout_of ms) x y)) ≡ true
 result_fits vs ms p x y k e (inl h) =
     let q = and_parts (is_int (kind_of vs x)) (is_int k) h in
     let f = int_is_no_link vs p x q.0 in

@@ -2,8 +2,8 @@
 use Rattle.std.proofs.Common.{ℕ, zero, suc, sym, ◌∙◌, take, ◌≡◌, ◌+◌, ◌<◌, List, [], ◌∷◌, ◌++◌, length, map, drop, refl, ap, arith, add-one, drop-cons, get_or, reverse, append_assoc, append-nil}
 use Rattle.std.proofs.lemmas.List.{take-map, reverse-append}
 use Rattle.imp_syntax.specs.declared.words.Declaration.{Declaration}
-use Rattle.imp_syntax.specs.declared.words.Kind.{Kind}
-use Rattle.imp_syntax.specs.declared.words.Kind.TheVariants.{Int, Array, List as OfLinks}
+use Rattle.imp_syntax.specs.declared.words.VariableKind.{VariableKind}
+use Rattle.imp_syntax.specs.declared.words.VariableKind.TheVariants.{Int, Array, List as OfLinks}
 use Rattle.imp_syntax.specs.Plain.{Procedure}
 use Rattle.imp_syntax.specs.Views.{operand_of}
 use Rattle.imp_syntax.specs.ActionViews.{operands_of}
@@ -14,7 +14,7 @@ use Rattle.imp_slots.specs.declared.calls.Argument as declared
 use Rattle.imp_check.specs.Programs.{count_numeric, count_links, one_numeric, one_link}
 use Rattle.imp_check.specs.Slots.{with_numeric, with_link, numerics, links, argument_in, arguments_in, layout_in, routine_of, routines_from, routines_of}
 
-length_with : (k : Kind) (x : List ℕ) (ns : List Numeric) → length (with_numeric k x ns) ≡ one_numeric k + length ns
+length_with : (k : VariableKind) (x : List ℕ) (ns : List Numeric) → length (with_numeric k x ns) ≡ one_numeric k + length ns
 length_with Int x ns = omega arith
 length_with Array x ns = omega arith
 length_with OfLinks x ns = omega arith
@@ -23,7 +23,7 @@ pub length_numerics : (ds : List Declaration) → length (numerics ds) ≡ count
 length_numerics [] = refl
 length_numerics (d ∷ ds) = omega (arith, length_with d.kind d.name (numerics ds), length_numerics ds)
 
-length_with_link : (k : Kind) (x : List ℕ) (ls : List (List ℕ)) → length (with_link k x ls) ≡ one_link k + length ls
+length_with_link : (k : VariableKind) (x : List ℕ) (ls : List (List ℕ)) → length (with_link k x ls) ≡ one_link k + length ls
 length_with_link Int x ls = omega arith
 length_with_link Array x ls = omega arith
 length_with_link OfLinks x ls = omega arith

@@ -14,16 +14,16 @@ use Rattle.imp_check.specs.Fine.{IsFine}
 use Rattle.imp_check.specs.Tables.{entry_in, AreOf}
 use Rattle.imp_check.specs.Puts.{put_all, with_sites, no_sites}
 use Rattle.imp_check.specs.declared.entry.Entry.{Entry}
-use Rattle.imp_check.specs.declared.entry.Head.{Head}
+use Rattle.imp_check.specs.declared.entry.ProcHeader.{ProcHeader}
 use Rattle.imp_check.proofs.FewLemmas.{first_alone}
 use Rattle.imp_check.proofs.RebuildLemmas.{program_is, all_numbers}
 use Rattle.imp_check.proofs.PutLemmas.{all_at}
 use Rattle.imp_check.proofs.SitesMade.{sites_made}
 
-pub table_is : (program : List Procedure) (at : ℕ → Option Entry) (count : ℕ) (heads : List Head) (sites : List (List ℕ)) → AreOf program at count heads sites → program_by at count heads ≡ program
+pub table_is : (program : List Procedure) (at : ℕ → Option Entry) (count : ℕ) (heads : List ProcHeader) (sites : List (List ℕ)) → AreOf program at count heads sites → program_by at count heads ≡ program
 table_is program at count heads sites r = ap (program_from at (suc count)) r.procedures ∙ program_is at (suc count) program r.entries r.fine.numbered.once (omega (arith, r.counted))
 
-pub table_right : (program : List Procedure) (at : ℕ → Option Entry) (count : ℕ) (heads : List Head) (sites : List (List ℕ)) → AreOf program at count heads sites → AreOf (program_by at count heads) at count heads sites
+pub table_right : (program : List Procedure) (at : ℕ → Option Entry) (count : ℕ) (heads : List ProcHeader) (sites : List (List ℕ)) → AreOf program at count heads sites → AreOf (program_by at count heads) at count heads sites
 table_right program at count heads sites r = subst (λ (ps : List Procedure). AreOf ps at count heads sites) (sym (table_is program at count heads sites r)) r
 
 pub headed : (ps : List Procedure) (x : List ℕ) → is_headed (heads_of ps) x ≡ is_named ps x
@@ -43,18 +43,18 @@ head_at [] k = refl
 head_at (p ∷ ps) zero = refl
 head_at (p ∷ ps) (suc k) = head_at ps k
 
-pub body_at : (ps : List Procedure) (k : ℕ) → option_map (λ (h : Head). h.body) (slice_get (heads_of ps) k) ≡ option_map (λ (p : Procedure). ends_of p.body) (slice_get ps k)
+pub body_at : (ps : List Procedure) (k : ℕ) → option_map (λ (h : ProcHeader). h.body) (slice_get (heads_of ps) k) ≡ option_map (λ (p : Procedure). ends_of p.body) (slice_get ps k)
 body_at [] k = refl
 body_at (p ∷ ps) zero = refl
 body_at (p ∷ ps) (suc k) = body_at ps k
 
-pub layout_at : (ps : List Procedure) (k : ℕ) → option_map (λ (h : Head). h.layout) (slice_get (heads_of ps) k) ≡ option_map layout_in (slice_get ps k)
+pub layout_at : (ps : List Procedure) (k : ℕ) → option_map (λ (h : ProcHeader). h.layout) (slice_get (heads_of ps) k) ≡ option_map layout_in (slice_get ps k)
 layout_at [] k = refl
 layout_at (p ∷ ps) zero = refl
 layout_at (p ∷ ps) (suc k) = layout_at ps k
 
 -- the same entries in another table
-pub same_right : (at after : ℕ → Option Entry) (count : ℕ) (heads : List Head) (sites : List (List ℕ)) → ((n : ℕ) → after n ≡ at n) → AreOf (program_by at count heads) at count heads sites → AreOf (program_by after count heads) after count heads sites
+pub same_right : (at after : ℕ → Option Entry) (count : ℕ) (heads : List ProcHeader) (sites : List (List ℕ)) → ((n : ℕ) → after n ≡ at n) → AreOf (program_by at count heads) at count heads sites → AreOf (program_by after count heads) after count heads sites
 same_right at after count heads sites h r = table_right (program_by at count heads) after count heads sites (record {
   fine = r.fine;
   entries = λ n. h n ∙ r.entries n;
@@ -64,7 +64,7 @@ same_right at after count heads sites h r = table_right (program_by at count hea
 })
 
 -- the table made of a program
-pub made : (ps : List Procedure) (fine : IsFine ps) (places : List (Option Entry)) (count : ℕ) (heads : List Head) (sites : List (List ℕ)) → places ≡ put_all (entries_of ps) [] → count ≡ program_count ps → heads ≡ heads_of ps → sites ≡ with_sites (entries_of ps) (no_sites (length ps)) → AreOf ps (entry_in places) count heads sites
+pub made : (ps : List Procedure) (fine : IsFine ps) (places : List (Option Entry)) (count : ℕ) (heads : List ProcHeader) (sites : List (List ℕ)) → places ≡ put_all (entries_of ps) [] → count ≡ program_count ps → heads ≡ heads_of ps → sites ≡ with_sites (entries_of ps) (no_sites (length ps)) → AreOf ps (entry_in places) count heads sites
 made ps fine places count heads sites e n h s = record {
   fine = fine;
   entries = λ m. ap (λ xs. entry_in xs m) e ∙ all_at (entries_of ps) [] m (subst Distinct (sym (all_numbers ps)) fine.numbered.once) ∙ first_alone (entry_of (entries_of ps) m);

@@ -8,7 +8,7 @@ use Rattle.imp_slots.specs.declared.actions.SlotStmt.TheVariants as act
 use Rattle.imp_check.specs.Slots.{Resolver, layout_in, effect_in, guard_in, invoke_in, callee_in}
 use Rattle.imp_check.specs.Parts.{part_of, first_or, first_ends, second_ends, breaks_of, ends_of}
 use Rattle.imp_check.specs.declared.entry.Entry.{Entry}
-use Rattle.imp_check.specs.declared.entry.Head.{Head}
+use Rattle.imp_check.specs.declared.entry.ProcHeader.{ProcHeader}
 use Rattle.imp_check.specs.declared.entry.SlotForm.{SlotForm}
 use Rattle.imp_check.specs.declared.entry.SlotForm.TheVariants as form
 use Rattle.imp_check.specs.declared.entry.Which.{Which}
@@ -84,19 +84,19 @@ entry_of (e ∷ es) n = cond (e.number == n) (Some e) (entry_of es n)
 abbrev pub bare_of : Procedure → Procedure
 bare_of p = record { name = p.name; parameters = p.parameters; outcome = p.outcome; locals = p.locals; body = tree.Ends }
 
-abbrev pub head_of : Procedure → Head
+abbrev pub head_of : Procedure → ProcHeader
 head_of p = record { bare = bare_of p; layout = layout_in p; body = ends_of p.body }
 
-abbrev pub heads_of : List Procedure → List Head
+abbrev pub heads_of : List Procedure → List ProcHeader
 heads_of [] = []
 heads_of (p ∷ ps) = head_of p ∷ heads_of ps
 
 -- whether one of these has a name, and the place of the first one
-abbrev pub is_headed : List Head → List ℕ → Bool
+abbrev pub is_headed : List ProcHeader → List ℕ → Bool
 is_headed [] x = false
 is_headed (h ∷ hs) x = bytes_eq h.bare.name x || is_headed hs x
 
-abbrev pub place_headed : List Head → List ℕ → ℕ
+abbrev pub place_headed : List ProcHeader → List ℕ → ℕ
 place_headed [] x = 0
 place_headed (h ∷ hs) x = cond (bytes_eq h.bare.name x) 0 (suc (place_headed hs x))
 

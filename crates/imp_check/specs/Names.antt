@@ -3,31 +3,31 @@ use Rattle.std.specs.Prelude.{ℕ, List, [], ◌∷◌, ◌++◌, Option, Some, 
 use Rattle.std.specs.Str.{bytes_eq}
 use Rattle.imp_syntax.specs.Plain.{Procedure}
 use Rattle.imp_syntax.specs.declared.words.Declaration.{Declaration}
-use Rattle.imp_syntax.specs.declared.words.Kind.{Kind}
-use Rattle.imp_syntax.specs.declared.words.Kind.TheVariants.{Int, Array, List as OfLinks}
+use Rattle.imp_syntax.specs.declared.words.VariableKind.{VariableKind}
+use Rattle.imp_syntax.specs.declared.words.VariableKind.TheVariants.{Int, Array, List as OfLinks}
 
 -- the kind of the first variable of this name
-abbrev pub kind_of : List Declaration → List ℕ → Option Kind
+abbrev pub kind_of : List Declaration → List ℕ → Option VariableKind
 kind_of [] x = None
 kind_of (d ∷ ds) x = cond (bytes_eq d.name x) (Some d.kind) (kind_of ds x)
 
-abbrev pub is_known : Option Kind → Bool
+abbrev pub is_known : Option VariableKind → Bool
 is_known None = false
 is_known (Some k) = true
 
-abbrev pub is_int : Option Kind → Bool
+abbrev pub is_int : Option VariableKind → Bool
 is_int None = false
 is_int (Some Int) = true
 is_int (Some Array) = false
 is_int (Some OfLinks) = false
 
-abbrev pub is_array : Option Kind → Bool
+abbrev pub is_array : Option VariableKind → Bool
 is_array None = false
 is_array (Some Int) = false
 is_array (Some Array) = true
 is_array (Some OfLinks) = false
 
-abbrev pub is_link : Option Kind → Bool
+abbrev pub is_link : Option VariableKind → Bool
 is_link None = false
 is_link (Some Int) = false
 is_link (Some Array) = false

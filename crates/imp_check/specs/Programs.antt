@@ -3,12 +3,12 @@ use Rattle.std.specs.Prelude.{ℕ, ◌+◌, List, [], ◌∷◌, ◌++◌, Optio
 use Rattle.std.specs.Str.{bytes_eq}
 use Rattle.imp_syntax.specs.Plain.{Statement, Simple, Break, Call, If, While, Statements, Ends, Starts, Procedure, program_numbers}
 use Rattle.imp_syntax.specs.declared.words.Declaration.{Declaration}
-use Rattle.imp_syntax.specs.declared.words.Kind.{Kind}
-use Rattle.imp_syntax.specs.declared.words.Kind.TheVariants.{Int, Array, List as OfLinks}
+use Rattle.imp_syntax.specs.declared.words.VariableKind.{VariableKind}
+use Rattle.imp_syntax.specs.declared.words.VariableKind.TheVariants.{Int, Array, List as OfLinks}
 use Rattle.imp_check.specs.declared.fault.Fault.{Fault}
 use Rattle.imp_check.specs.declared.fault.Fault.TheVariants.{Procedures, Statements as TooManyStatements, Nesting, Redeclared, Ints, Lists, NoMain, MainHasParameters, Depth, Chains}
 use Rattle.imp_check.specs.declared.fault.Spot.{Spot}
-use Rattle.imp_check.specs.declared.fault.Found.{Found}
+use Rattle.imp_check.specs.declared.fault.LocatedFault.{LocatedFault}
 use Rattle.imp_slots.specs.Fits.{Absent, Distinct}
 use Rattle.imp_check.specs.Faults.{unless, first, at, in_procedure}
 use Rattle.imp_check.specs.Names.{kind_of, is_known, is_named, variables}
@@ -56,12 +56,12 @@ size_fault ps =
     (first (unless (nat_lt (program_count ps) 10001) TooManyStatements)
     (unless (nat_lt (deepest ps) 33) Nesting))
 
-abbrev pub one_numeric : Kind → ℕ
+abbrev pub one_numeric : VariableKind → ℕ
 one_numeric Int = 1
 one_numeric Array = 1
 one_numeric OfLinks = 0
 
-abbrev pub one_link : Kind → ℕ
+abbrev pub one_link : VariableKind → ℕ
 one_link Int = 0
 one_link Array = 0
 one_link OfLinks = 1
@@ -93,7 +93,7 @@ procedure_fault earlier others p =
     (first (at 0 (variables_fault [] (variables p)))
     (block_fault (record { earlier = earlier; others = others; variables = variables p }) false p.body))
 
-abbrev pub procedures_fault : (earlier : List Procedure) → List Procedure → Option Found
+abbrev pub procedures_fault : (earlier : List Procedure) → List Procedure → Option LocatedFault
 procedures_fault earlier [] = None
 procedures_fault earlier (p ∷ later) = first (in_procedure p.name (procedure_fault earlier (p ∷ later) p)) (procedures_fault (earlier ++ p ∷ []) later)
 
@@ -137,7 +137,7 @@ ending_fault ps =
     (chains_fault ps))
 
 -- The first fault of a program.
-abbrev pub check_fault : List Procedure → Option Found
+abbrev pub check_fault : List Procedure → Option LocatedFault
 check_fault ps =
     first (in_procedure (name_of (last_of ps)) (at 0 (size_fault ps)))
     (first (procedures_fault [] ps)

@@ -2,7 +2,7 @@
 use Rattle.std.specs.Prelude.{ℕ, zero, suc, List, [], ◌∷◌, Option, Some, None}
 use Rattle.imp_syntax.specs.Plain.{Statement, Simple, Break, Call, If, While, Statements, Ends, Starts, Procedure}
 use Rattle.imp_check.specs.declared.entry.Entry.{Entry}
-use Rattle.imp_check.specs.declared.entry.Head.{Head}
+use Rattle.imp_check.specs.declared.entry.ProcHeader.{ProcHeader}
 
 -- a statement with these blocks
 abbrev pub statement_with : (part : Statement) → (inner other : Statements) → Statement
@@ -28,13 +28,13 @@ block_from at zero o = Ends
 block_from at (suc most) None = Ends
 block_from at (suc most) (Some n) = from_entry (block_from at most) (at n)
 
-abbrev pub procedure_from : (at : ℕ → Option Entry) → (most : ℕ) → Head → Procedure
+abbrev pub procedure_from : (at : ℕ → Option Entry) → (most : ℕ) → ProcHeader → Procedure
 procedure_from at most h = record { name = h.bare.name; parameters = h.bare.parameters; outcome = h.bare.outcome; locals = h.bare.locals; body = block_from at most h.body.first }
 
-abbrev pub program_from : (at : ℕ → Option Entry) → (most : ℕ) → List Head → List Procedure
+abbrev pub program_from : (at : ℕ → Option Entry) → (most : ℕ) → List ProcHeader → List Procedure
 program_from at most [] = []
 program_from at most (h ∷ hs) = procedure_from at most h ∷ program_from at most hs
 
 -- the program of a table of so many statements
-abbrev pub program_by : (at : ℕ → Option Entry) → (count : ℕ) → List Head → List Procedure
+abbrev pub program_by : (at : ℕ → Option Entry) → (count : ℕ) → List ProcHeader → List Procedure
 program_by at count heads = program_from at (suc count) heads

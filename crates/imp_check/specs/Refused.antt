@@ -1,10 +1,10 @@
 -- When a program is refused.
 use Rattle.std.specs.Prelude.{◌≡◌, Option, Some}
-use Rattle.imp_check.specs.declared.fault.Found.{Found}
+use Rattle.imp_check.specs.declared.fault.LocatedFault.{LocatedFault}
 use Rattle.imp_check.specs.declared.fault.CheckError.{CheckError}
 use Rattle.imp_check.specs.declared.fault.CheckError.TheVariants.{Fault, Memory}
 
 -- the error is the first fault, or want of memory
-abbrev pub IsRefused : Option Found → CheckError → Type 0
+abbrev pub IsRefused : Option LocatedFault → CheckError → Type 0
 IsRefused o (Fault f) = o ≡ Some f
 IsRefused o Memory = Unit {0}

@@ -5,8 +5,8 @@ use Rattle.std.specs.Str.{bytes_eq}
 use Rattle.imp_syntax.specs.Plain.{Expression, Operand, Condition, Action, Statement, Statements, Procedure}
 use Rattle.imp_syntax.specs.Plain as tree
 use Rattle.imp_syntax.specs.declared.words.Declaration.{Declaration}
-use Rattle.imp_syntax.specs.declared.words.Kind.{Kind}
-use Rattle.imp_syntax.specs.declared.words.Kind.TheVariants.{Int, Array, List as OfLinks}
+use Rattle.imp_syntax.specs.declared.words.VariableKind.{VariableKind}
+use Rattle.imp_syntax.specs.declared.words.VariableKind.TheVariants.{Int, Array, List as OfLinks}
 use Rattle.imp_syntax.specs.declared.words.Relation.{Relation}
 use Rattle.imp_syntax.specs.declared.words.Relation.TheVariants.{Equal, NotEqual, Less, AtMost, Greater, AtLeast}
 use Rattle.imp_slots.specs.Plain.{Numeric, Layout, Term, Guard, Effect, Argument, Returning, Invoke, Code, Routine}
@@ -14,12 +14,12 @@ use Rattle.imp_slots.specs.Plain as slot
 use Rattle.imp_check.specs.Names.{place_named, variables}
 
 -- the ints and arrays of a procedure, and its lists, each in order
-abbrev pub with_numeric : Kind → List ℕ → List Numeric → List Numeric
+abbrev pub with_numeric : VariableKind → List ℕ → List Numeric → List Numeric
 with_numeric Int x ns = record { name = x; is_array = false } ∷ ns
 with_numeric Array x ns = record { name = x; is_array = true } ∷ ns
 with_numeric OfLinks x ns = ns
 
-abbrev pub with_link : Kind → List ℕ → List (List ℕ) → List (List ℕ)
+abbrev pub with_link : VariableKind → List ℕ → List (List ℕ) → List (List ℕ)
 with_link Int x ls = ls
 with_link Array x ls = ls
 with_link OfLinks x ls = x ∷ ls

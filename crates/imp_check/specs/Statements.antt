@@ -2,8 +2,8 @@
 use Rattle.std.specs.Prelude.{ℕ, List, [], ◌∷◌, Option, Some, None, Bool, true, false, ◌||◌, ◌&&◌}
 use Rattle.imp_syntax.specs.Plain.{Operand, Condition, Action, Statement, Simple, Break, Call, If, While, Statements, Ends, Starts, Procedure}
 use Rattle.imp_syntax.specs.declared.words.Declaration.{Declaration}
-use Rattle.imp_syntax.specs.declared.words.Kind.{Kind}
-use Rattle.imp_syntax.specs.declared.words.Kind.TheVariants.{Int, Array, List as OfLinks}
+use Rattle.imp_syntax.specs.declared.words.VariableKind.{VariableKind}
+use Rattle.imp_syntax.specs.declared.words.VariableKind.TheVariants.{Int, Array, List as OfLinks}
 use Rattle.imp_check.specs.declared.fault.Fault.{Fault}
 use Rattle.imp_check.specs.declared.fault.Fault.TheVariants.{UnknownName, CallsLater, WrongArguments, WrongKind, BreakOutside}
 use Rattle.imp_check.specs.declared.fault.Spot.{Spot}
@@ -45,7 +45,7 @@ gives_result (Some x) None = false
 gives_result (Some x) (Some d) = true
 
 -- an int parameter takes an expression, an array parameter an array, a list parameter a list or null
-abbrev pub fits_parameter : List Declaration → Operand → Kind → Bool
+abbrev pub fits_parameter : List Declaration → Operand → VariableKind → Bool
 fits_parameter vs a Int = int_operand vs a
 fits_parameter vs a Array = array_operand vs a
 fits_parameter vs a OfLinks = link_operand vs a
@@ -56,7 +56,7 @@ fit_parameters vs (a ∷ rest) [] = true
 fit_parameters vs (a ∷ rest) (d ∷ ds) = fits_parameter vs a d.kind && fit_parameters vs rest ds
 
 -- two variables of one kind
-abbrev pub alike : Option Kind → Option Kind → Bool
+abbrev pub alike : Option VariableKind → Option VariableKind → Bool
 alike a b = (is_int a && is_int b) || ((is_array a && is_array b) || (is_link a && is_link b))
 
 abbrev pub fits_result : List Declaration → Option (List ℕ) → Option Declaration → Bool

@@ -9,14 +9,14 @@ ghost use Rattle.imp_check.specs.Puts.{no_sites, put_all, with_sites};
 
 use crate::counts::program_count;
 use crate::entries::{Making, block_entries};
-use crate::entry::{Context, Head};
+use crate::entry::{Context, ProcHeader};
 use crate::heads::heads_of;
-use crate::place::Place;
+use crate::place::TableSlot;
 use crate::resolve::Resolver;
 use crate::routines::layouts_of;
 use crate::slots::Slots;
+use base_values::{Items, Memory};
 use imp_syntax::{Proc, ProcId, StmtId};
-use plain_values::{Items, Memory};
 use std::alloc::Global;
 
 /// No call statements, for each of so many procedures.
@@ -97,9 +97,9 @@ fn making_of(alloc: Global, procs: &[Proc], known: &[Slots]) -> Result<Making, M
 #[derive(Drop)]
 pub struct TableParts {
     /// The procedures without their statements.
-    pub heads: Items<Head>,
+    pub heads: Items<ProcHeader>,
     /// What stands at each number.
-    pub places: Vec<Place>,
+    pub places: Vec<TableSlot>,
     /// How many statements there are.
     pub count: u32,
     /// The call statements of each procedure.

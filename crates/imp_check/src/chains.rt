@@ -2,26 +2,26 @@
 ghost use Rattle.std.specs.Prelude.{◌≡◌, ◌<◌, ◌∷◌, length, map, IfOk};
 ghost use Rattle.std.specs.Str.{bytes_eq};
 ghost use Rattle.imp_check.specs.Chains.{calls_in, calls, chains_to, chains_through, all_chains};
-ghost use Rattle.imp_check.specs.Tallies.{capped, tally_of, added, called, tallies_of};
+ghost use Rattle.imp_check.specs.Tallies.{capped, tally_of, tally_sum, called, tallies_of};
 
 use crate::names::same_name;
+use base_values::{Memory, Text};
 use imp_syntax::{Block, Proc, Stmt, StmtNode};
-use plain_values::{Memory, Text};
 use std::alloc::Global;
 
 /// How many chains, and how many calls are in the longest, each up to 2^32 - 1.
 #[derive(Clone, Copy, Debug, PartialEq, Eq)]
-pub(crate) struct Tally {
+pub(crate) struct ChainTally {
     pub(crate) count: u32,
     pub(crate) longest: u32,
 }
 
-impl Tally {
-    #[tactic(auto, unfolding(crate::specs::Tallies::added))]
-    fn added(self, other: Tally) -> Tally
-        ensures is { result ≡ added self other }
+impl ChainTally {
+    #[tactic(auto, unfolding(crate::specs::Tallies::tally_sum))]
+    fn added(self, other: ChainTally) -> ChainTally
+        ensures is { result ≡ tally_sum self other }
     {
-        Tally {
+        ChainTally {
             count: self.count.saturating_add(other.count),
             longest: self.longest.max(other.longest),
         }
@@ -29,16 +29,16 @@ impl Tally {
 
     /// These chains, each with each of so many calls behind it.
     #[tactic(auto, unfolding(crate::specs::Tallies::called))]
-    fn called(self, calls: u32) -> Tally
+    fn called(self, calls: u32) -> ChainTally
         ensures is { result ≡ called self calls }
     {
         if self.count > 0 && calls > 0 {
-            Tally {
+            ChainTally {
                 count: self.count.saturating_mul(calls),
                 longest: self.longest.saturating_add(1),
             }
         } else {
-            Tally {
+            ChainTally {
                 count: 0,
                 longest: 0,
             }
@@ -75,11 +75,11 @@ fn calls_in(name: &Text, stmt: &Stmt) -> u32
 
 /// The chains to a procedure through the later ones, of which the tallies are known.
 #[tactic(auto, using(crate::proofs::ChainLemmas::tallies_length, crate::proofs::ChainLemmas::none_added))]
-fn through(name: &Text, later: &[Proc], tallies: &[Tally]) -> Tally
+fn through(name: &Text, later: &[Proc], tallies: &[ChainTally]) -> ChainTally
     requires known { tallies.now ≡ tallies_of later.now }
     ensures is { result ≡ tally_of (chains_through name.now later.now) }
 {
-    let mut total = Tally {
+    let mut total = ChainTally {
         count: 0,
         longest: 0,
     };
@@ -90,12 +90,12 @@ fn through(name: &Text, later: &[Proc], tallies: &[Tally]) -> Tally
 }
 
 /// The chains to a procedure, where the tallies of the later ones are known.
-fn chains_to(name: &Text, later: &[Proc], tallies: &[Tally]) -> Tally
+fn chains_to(name: &Text, later: &[Proc], tallies: &[ChainTally]) -> ChainTally
     requires known { tallies.now ≡ tallies_of later.now }
     ensures is { result ≡ tally_of (chains_to name.now later.now) }
 {
     if later.is_empty() {
-        Tally {
+        ChainTally {
             count: 1,
             longest: 0,
         }
@@ -106,10 +106,10 @@ fn chains_to(name: &Text, later: &[Proc], tallies: &[Tally]) -> Tally
 
 /// The chains to each procedure, the last one first.
 #[tactic(auto, using(crate::proofs::ChainLemmas::tallies_before))]
-fn tallies(alloc: Global, procs: &[Proc]) -> Result<Vec<Tally>, Memory>
+fn tallies(alloc: Global, procs: &[Proc]) -> Result<Vec<ChainTally>, Memory>
     ensures is { IfOk result (λ tallies. tallies.items ≡ tallies_of procs.now) }
 {
-    let mut found: Vec<Tally> = Vec::new(alloc);
+    let mut found: Vec<ChainTally> = Vec::new(alloc);
     for i in (0..procs.len()).rev() {
         let one = chains_to(procs[i].name(), &procs[i + 1..], found.as_slice());
         found.insert(0, one)?;
@@ -119,10 +119,10 @@ fn tallies(alloc: Global, procs: &[Proc]) -> Result<Vec<Tally>, Memory>
 
 /// All chains of a program.
 #[tactic(auto, using(crate::proofs::ChainLemmas::all_end, crate::proofs::ChainLemmas::none_added, crate::proofs::ChainLemmas::added_none))]
-pub(crate) fn all_chains(alloc: Global, procs: &[Proc]) -> Result<Tally, Memory>
+pub(crate) fn all_chains(alloc: Global, procs: &[Proc]) -> Result<ChainTally, Memory>
     ensures is { IfOk result (λ tally. tally ≡ tally_of (all_chains procs.now)) }
 {
-    let mut total = Tally {
+    let mut total = ChainTally {
         count: 0,
         longest: 0,
     };

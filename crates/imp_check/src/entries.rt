@@ -14,14 +14,14 @@ ghost use Rattle.imp_check.specs.Puts.{put_at, put_all, with_site, with_sites, w
 use crate::entry::{Context, Entry, SlotForm, Which};
 use crate::heads::number_at;
 use crate::parts::{breaks_of, first_ends, part_of, second_ends};
-use crate::place::Place;
+use crate::place::TableSlot;
 use crate::putting::put_entry;
 use crate::resolve::Resolver;
 use crate::slots::Slots;
 use crate::terms::{effect_in, guard_in};
+use base_values::{Items, Memory};
 use imp_slots::SlotStmt;
 use imp_syntax::{Action, Block, Call, Cond, ProcId, Stmt, StmtId, StmtNode};
-use plain_values::{Items, Memory};
 use std::alloc::Global;
 
 /// What a simple statement does, over slots.
@@ -113,7 +113,7 @@ fn entry_at(
 /// A table that is being made: the places of statements, and the call statements of each procedure.
 #[derive(Drop)]
 pub(crate) struct Making {
-    pub(crate) places: Vec<Place>,
+    pub(crate) places: Vec<TableSlot>,
     pub(crate) sites: Vec<Items<StmtId>>,
 }
 

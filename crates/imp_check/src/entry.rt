@@ -1,7 +1,7 @@
 //! What is known of a statement by its number, and of a procedure by its place.
+use base_values::Items;
 use imp_slots::{Layout, SlotCall, SlotCond, SlotStmt};
 use imp_syntax::{Proc, ProcId, Stmt, StmtId};
-use plain_values::Items;
 
 /// A statement of a checked program, and where it stands. It holds none of the statements inside it, so a change of a
 /// block leaves the entries of the statements around it, but where the ends of the block or the breaks of a loop change.
@@ -80,7 +80,7 @@ pub struct BlockEnds {
 
 /// A procedure of a checked program, without its statements.
 #[derive(Drop)]
-pub struct Head {
+pub struct ProcHeader {
     /// The procedure with an empty body.
     pub bare: Proc,
     /// Its variables as slots.

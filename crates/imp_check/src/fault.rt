@@ -2,7 +2,7 @@
 ghost use Rattle.std.specs.Prelude.{◌≡◌};
 ghost use Rattle.imp_check.specs.declared.fault.CheckError.TheVariants.{Memory as of_memory};
 
-use plain_values::{Memory, Text};
+use base_values::{Memory, Text};
 use std::alloc::AllocError;
 use thiserror::Error;
 
@@ -50,7 +50,7 @@ pub(crate) struct Spot {
 
 /// A fault, the name of its procedure, and the number of its statement, or 0.
 #[derive(Debug, Drop)]
-pub struct Found {
+pub struct LocatedFault {
     pub fault: Fault,
     pub proc: Text,
     pub at: u32,
@@ -61,7 +61,7 @@ pub struct Found {
 pub enum CheckError {
     /// The program has a fault.
     #[error("the program has a fault")]
-    Fault(Found),
+    Fault(LocatedFault),
     /// Want of memory.
     #[error("out of memory")]
     Memory,

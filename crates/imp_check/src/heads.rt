@@ -5,11 +5,11 @@ ghost use Rattle.imp_check.specs.Parts.{ends_of};
 ghost use Rattle.imp_check.specs.Entries.{head_of, heads_of, place_headed, is_headed};
 ghost use Rattle.imp_check.specs.Slots.{layout_in};
 
-use crate::entry::{BlockEnds, Head};
+use crate::entry::{BlockEnds, ProcHeader};
 use crate::names::same_name;
 use crate::slots::Slots;
+use base_values::{Items, Memory, Text};
 use imp_syntax::{Block, Proc, Stmt, StmtId};
-use plain_values::{Items, Memory, Text};
 use std::alloc::Global;
 
 /// The number of the statement at a place of a block.
@@ -35,14 +35,14 @@ pub(crate) fn ends_of(block: &Block) -> BlockEnds
 }
 
 /// A procedure with these slots, without its statements.
-pub(crate) fn head_of(proc: &Proc, slots: &Slots) -> Result<Head, Memory>
+pub(crate) fn head_of(proc: &Proc, slots: &Slots) -> Result<ProcHeader, Memory>
     requires slots { slots.now ≡ layout_in proc.now }
     ensures is { IfOk result (λ head. head ≡ head_of proc.now) }
 {
     let bare = proc.with_body(Block::empty())?;
     let layout = slots.layout().clone()?;
     let body = ends_of(proc.body());
-    Ok(Head { bare, layout, body })
+    Ok(ProcHeader { bare, layout, body })
 }
 
 /// The procedures with these slots, without their statements.
@@ -51,7 +51,7 @@ pub(crate) fn heads_of(
     alloc: Global,
     procs: &[Proc],
     known: &[Slots],
-) -> Result<Items<Head>, Memory>
+) -> Result<Items<ProcHeader>, Memory>
     requires known { known.now ≡ map layout_in procs.now }
     ensures is { IfOk result (λ heads. heads ≡ heads_of procs.now) }
 {
@@ -63,7 +63,7 @@ pub(crate) fn heads_of(
 }
 
 /// Whether a procedure has this name.
-pub fn is_headed(heads: &[Head], name: &Text) -> bool
+pub fn is_headed(heads: &[ProcHeader], name: &Text) -> bool
     ensures is { result ≡ is_headed heads.now name.now }
 {
     for head in heads {
@@ -75,7 +75,7 @@ pub fn is_headed(heads: &[Head], name: &Text) -> bool
 }
 
 /// The place of the first procedure of this name, or how many there are.
-pub fn place_headed(heads: &[Head], name: &Text) -> usize
+pub fn place_headed(heads: &[ProcHeader], name: &Text) -> usize
     ensures is { result ≡ place_headed heads.now name.now }
     ensures within { result ≤ length heads.now }
 {

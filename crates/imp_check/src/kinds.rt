@@ -7,8 +7,8 @@ ghost use Rattle.imp_check.specs.Small.{small_expression, small_operand, small_o
 ghost use Rattle.imp_check.specs.Kinds.{knows, knows_expression, knows_operand, knows_operands, knows_condition, knows_action, int, array, link, int_expression, int_operand, array_expression, link_expression, array_operand, link_operand, is_equality, fits_condition, fits_assign, fits_action};
 
 use crate::names::{is_array, is_int, is_link, kind_of};
+use base_values::Text;
 use imp_syntax::{Action, Cond, CondNode, Declaration, Expr, ExprNode, Relation, Side};
-use plain_values::Text;
 
 pub(crate) fn knows(variables: &[Declaration], name: &Text) -> bool
     ensures is { result ≡ knows variables.now name.now }

@@ -17,7 +17,7 @@
 //! form, the block that it stands in, its neighbours there, the ends of its own blocks and the breaks that leave it;
 //! `entry_of` finds one by its number, `sites_in` the calls of a procedure. [`table_parts`] puts them into places by
 //! their numbers (`AreOf` of `specs/Tables.antt`); `specs/Rebuilt.antt` makes the tree of them again. The crate
-//! `program_table` keeps and changes such tables.
+//! `imp_table` keeps and changes such tables.
 //!
 //! Checking takes time linear in the program, times the variables of a procedure for each name, and
 //! times the procedures for the calls.
@@ -45,11 +45,11 @@ mod terms;
 
 pub use building::{TableParts, table_parts};
 pub use counts::{block_count, nesting, statement_count};
-pub use entry::{Around, BlockEnds, Context, Entry, Head, SlotForm, Which};
-pub use fault::{CheckError, Fault, Found};
+pub use entry::{Around, BlockEnds, Context, Entry, ProcHeader, SlotForm, Which};
+pub use fault::{CheckError, Fault, LocatedFault};
 pub use heads::{is_headed, place_headed};
 pub use numbered::is_numbered;
 pub use parts::{add_leaving, breaks_of, first_ends, part_of, second_ends};
-pub use place::Place;
+pub use place::TableSlot;
 pub use programs::{check_procs, variables_of};
 pub use routines::routines_of;

@@ -4,11 +4,11 @@ ghost use Rattle.std.specs.Str.{bytes_eq};
 ghost use Rattle.std.specs.Option.{option_copied};
 ghost use Rattle.imp_check.specs.Names.{kind_of, procedure_named, place_named, is_named, is_known, is_int, is_array, is_link};
 
-use imp_syntax::{Declaration, Kind, Proc};
-use plain_values::Text;
+use base_values::Text;
+use imp_syntax::{Declaration, Proc, VariableKind};
 
 /// The kind of the first variable of this name.
-pub(crate) fn kind_of(variables: &[Declaration], name: &Text) -> Option<Kind>
+pub(crate) fn kind_of(variables: &[Declaration], name: &Text) -> Option<VariableKind>
     ensures is { result ≡ kind_of variables.now name.now }
 {
     for variable in variables {
@@ -62,20 +62,20 @@ pub(crate) fn same_name(a: &Text, b: &Text) -> bool
     a == b
 }
 
-pub(crate) fn is_int(kind: Option<Kind>) -> bool
+pub(crate) fn is_int(kind: Option<VariableKind>) -> bool
     ensures is { result ≡ is_int kind }
 {
-    matches!(kind, Some(Kind::Int))
+    matches!(kind, Some(VariableKind::Int))
 }
 
-pub(crate) fn is_array(kind: Option<Kind>) -> bool
+pub(crate) fn is_array(kind: Option<VariableKind>) -> bool
     ensures is { result ≡ is_array kind }
 {
-    matches!(kind, Some(Kind::Array))
+    matches!(kind, Some(VariableKind::Array))
 }
 
-pub(crate) fn is_link(kind: Option<Kind>) -> bool
+pub(crate) fn is_link(kind: Option<VariableKind>) -> bool
     ensures is { result ≡ is_link kind }
 {
-    matches!(kind, Some(Kind::List))
+    matches!(kind, Some(VariableKind::List))
 }

@@ -3,8 +3,8 @@ ghost use Rattle.std.specs.Prelude.{◌≡◌, ◌++◌, ◌↔◌, true, IfOk, 
 ghost use Rattle.imp_syntax.specs.Plain.{numbers_in, numbers, program_numbers};
 ghost use Rattle.imp_check.specs.Programs.{AreNumbered, all_once};
 
+use base_values::{Items, Memory};
 use imp_syntax::{Block, Proc, Program, Stmt, StmtNode};
-use plain_values::{Items, Memory};
 use std::alloc::Global;
 use std::collections::HashSet;
 

@@ -5,8 +5,8 @@ ghost use Rattle.imp_check.specs.Entries.{inside, inside_loop};
 
 use crate::entry::{Around, BlockEnds, Context, Which};
 use crate::heads::ends_of;
+use base_values::{Items, Memory};
 use imp_syntax::{Block, Stmt, StmtId, StmtNode};
-use plain_values::{Items, Memory};
 use std::alloc::Global;
 
 /// A statement with its blocks empty.

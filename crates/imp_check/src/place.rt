@@ -3,17 +3,17 @@ ghost use Rattle.std.specs.Prelude.{◌≡◌, IfOk, Some, None};
 ghost use Rattle.std.specs.Option.{option_copied};
 
 use crate::entry::Entry;
-use plain_values::Memory;
+use base_values::Memory;
 use std::alloc::Global;
 use std::marker::Model;
 
 /// A place of a table, seen as the entry that stands there, or `None`.
 #[derive(Drop)]
-pub struct Place {
+pub struct TableSlot {
     entry: Option<Box<Entry>>,
 }
 
-impl Model for Place {
+impl Model for TableSlot {
     ghost use Rattle.std.specs.Prelude.{Option};
     ghost use Rattle.std.specs.Option.{option_map};
     ghost use Rattle.std.specs.Box.{box_value};
@@ -29,20 +29,20 @@ impl Model for Place {
     ghost view = { λ a. option_map box_value a.entry };
 }
 
-impl Place {
+impl TableSlot {
     /// A place where nothing stands. It takes no memory.
-    pub fn free() -> Place
+    pub fn free() -> TableSlot
         ensures is { result ≡ None }
     {
-        Place { entry: None }
+        TableSlot { entry: None }
     }
 
     /// A place where this entry stands. It fails for want of memory alone.
-    pub fn of(alloc: Global, entry: Entry) -> Result<Place, Memory>
+    pub fn of(alloc: Global, entry: Entry) -> Result<TableSlot, Memory>
         ensures is { IfOk result (λ place. place ≡ Some entry) }
     {
         let entry = Box::new(alloc, entry)?;
-        Ok(Place { entry: Some(entry) })
+        Ok(TableSlot { entry: Some(entry) })
     }
 
     /// What stands here.

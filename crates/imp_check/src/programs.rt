@@ -13,9 +13,9 @@ use crate::counts::{deepest, program_count};
 use crate::fault::Spot;
 use crate::names::{is_named, kind_of};
 use crate::statements::{Scope, block_fault};
-use crate::{CheckError, Fault, Found};
-use imp_syntax::{Declaration, Kind, Proc};
-use plain_values::{Items, Memory, Text};
+use crate::{CheckError, Fault, LocatedFault};
+use base_values::{Items, Memory, Text};
+use imp_syntax::{Declaration, Proc, VariableKind};
 use std::alloc::Global;
 
 const MOST_PROCEDURES: usize = 64;
@@ -47,23 +47,23 @@ pub(crate) fn size_fault(procs: &[Proc]) -> Option<Fault>
     }
 }
 
-fn one_numeric(kind: Kind) -> usize
+fn one_numeric(kind: VariableKind) -> usize
     ensures is { result ≡ one_numeric kind }
 {
     match kind {
-        Kind::Int => 1,
-        Kind::Array => 1,
-        Kind::List => 0,
+        VariableKind::Int => 1,
+        VariableKind::Array => 1,
+        VariableKind::List => 0,
     }
 }
 
-fn one_link(kind: Kind) -> usize
+fn one_link(kind: VariableKind) -> usize
     ensures is { result ≡ one_link kind }
 {
     match kind {
-        Kind::Int => 0,
-        Kind::Array => 0,
-        Kind::List => 1,
+        VariableKind::Int => 0,
+        VariableKind::Array => 0,
+        VariableKind::List => 1,
     }
 }
 
@@ -163,11 +163,11 @@ fn procedure_fault(
     Ok(block_fault(&scope, false, proc.body()))
 }
 
-fn found_in(name: &Text, spot: Spot) -> Result<Found, Memory>
+fn found_in(name: &Text, spot: Spot) -> Result<LocatedFault, Memory>
     ensures is { IfOk result (λ found. found ≡ record { fault = spot.fault; proc = name.now; at = spot.at }) }
 {
     let proc = name.clone()?;
-    Ok(Found {
+    Ok(LocatedFault {
         fault: spot.fault,
         proc,
         at: spot.at,
@@ -176,7 +176,10 @@ fn found_in(name: &Text, spot: Spot) -> Result<Found, Memory>
 
 /// The first fault of the procedures, one by one.
 #[tactic(auto, using(crate::proofs::Going::procedures_step, crate::proofs::SmallLemmas::programs_step))]
-pub(crate) fn procedures_fault(alloc: Global, procs: &[Proc]) -> Result<Option<Found>, Memory>
+pub(crate) fn procedures_fault(
+    alloc: Global,
+    procs: &[Proc],
+) -> Result<Option<LocatedFault>, Memory>
     ensures is { IfOk result (λ found. found ≡ procedures_fault [] procs.now) }
     ensures small { IfOk result (λ found. found ≡ None → small_program procs.now ≡ true) }
 {
@@ -227,13 +230,13 @@ fn chains_fault(alloc: Global, procs: &[Proc]) -> Result<Option<Fault>, Memory>
 }
 
 /// A fault whose procedure is the last one.
-fn found_last(alloc: Global, procs: &[Proc], fault: Fault) -> Result<Found, Memory>
+fn found_last(alloc: Global, procs: &[Proc], fault: Fault) -> Result<LocatedFault, Memory>
     ensures is { IfOk result (λ found. found ≡ record { fault = fault; proc = name_of (last_of procs.now); at = 0 }) }
 {
     let spot = Spot { fault, at: 0 };
     match procs.last() {
         Some(last) => found_in(last.name(), spot),
-        None => Ok(Found {
+        None => Ok(LocatedFault {
             fault,
             proc: Text::new(alloc),
             at: 0,
@@ -242,7 +245,7 @@ fn found_last(alloc: Global, procs: &[Proc], fault: Fault) -> Result<Found, Memo
 }
 
 /// The first fault of a program.
-fn check_fault(alloc: Global, procs: &[Proc]) -> Result<Option<Found>, Memory>
+fn check_fault(alloc: Global, procs: &[Proc]) -> Result<Option<LocatedFault>, Memory>
     ensures is { IfOk result (λ found. found ≡ check_fault procs.now) }
     ensures small { IfOk result (λ found. found ≡ None → small_program procs.now ≡ true) }
 {

@@ -11,9 +11,9 @@ ghost use Rattle.imp_check.specs.Slots.{layout_in, result_in, returning_in, invo
 use crate::names::place_named;
 use crate::slots::Slots;
 use crate::terms::{arguments_in, effect_in, guard_in};
+use base_values::{Memory, Text};
 use imp_slots::{Entering, Returning, SlotBlock, SlotCall, SlotNode};
 use imp_syntax::{Block, Call, Declaration, Proc, Stmt, StmtNode};
-use plain_values::{Memory, Text};
 use std::alloc::Global;
 use std::marker::Model;
 
@@ -60,7 +60,7 @@ impl<'a> Resolver<'a> {
     }
 
     /// A call.
-    #[tactic(auto, using(plain_values::proofs::Lists::get_there, std::proofs::lemmas::Option::slice_get_past, crate::proofs::SlotLemmas::layout_there, crate::proofs::SlotLemmas::known_length))]
+    #[tactic(auto, using(base_values::proofs::Lists::get_there, std::proofs::lemmas::Option::slice_get_past, crate::proofs::SlotLemmas::layout_there, crate::proofs::SlotLemmas::known_length))]
     pub(crate) fn invoke(&self, alloc: Global, call: &Call) -> Result<SlotCall, Memory>
         ensures is { IfOk result (λ c. c ≡ invoke_in self.now call.now.target call.now.callee (operands_of call.now.arguments)) }
     {

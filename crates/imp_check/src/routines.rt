@@ -6,9 +6,9 @@ ghost use Rattle.imp_check.specs.Few.{HasFew, AreFew};
 use crate::programs::variables_of;
 use crate::resolve::{Resolver, code_in};
 use crate::slots::Slots;
+use base_values::{Items, Memory};
 use imp_slots::Routine;
 use imp_syntax::Proc;
-use plain_values::{Items, Memory};
 use std::alloc::Global;
 
 /// The procedures over slots, in the order of the text. It takes time linear in the program, and fails for want of

@@ -4,9 +4,9 @@ ghost use Rattle.imp_check.specs.Programs.{count_numeric, count_links};
 ghost use Rattle.imp_check.specs.Slots.{numerics, links, layout_of, number_slot, link_slot, names_array, names_link, number_in, link_in, is_array_in, is_link_in};
 
 use crate::names::same_name;
+use base_values::{Items, Memory, Text};
 use imp_slots::{Layout, NumericSlot};
-use imp_syntax::{Declaration, Kind};
-use plain_values::{Items, Memory, Text};
+use imp_syntax::{Declaration, VariableKind};
 use std::alloc::Global;
 use std::marker::Model;
 
@@ -84,9 +84,9 @@ fn numerics(alloc: Global, variables: &[Declaration]) -> Result<Items<NumericSlo
     let mut numbers = Items::new(alloc);
     for variable in variables {
         match variable.kind {
-            Kind::Int => numbers.push(NumericSlot::new(variable.name.clone()?, false))?,
-            Kind::Array => numbers.push(NumericSlot::new(variable.name.clone()?, true))?,
-            Kind::List => {}
+            VariableKind::Int => numbers.push(NumericSlot::new(variable.name.clone()?, false))?,
+            VariableKind::Array => numbers.push(NumericSlot::new(variable.name.clone()?, true))?,
+            VariableKind::List => {}
         }
     }
     Ok(numbers)
@@ -98,7 +98,7 @@ fn links(alloc: Global, variables: &[Declaration]) -> Result<Items<Text>, Memory
     let mut found = Items::new(alloc);
     for variable in variables {
         match variable.kind {
-            Kind::List => found.push(variable.name.clone()?)?,
+            VariableKind::List => found.push(variable.name.clone()?)?,
             _ => {}
         }
     }

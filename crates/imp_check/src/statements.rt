@@ -15,8 +15,10 @@ use crate::kinds::{
     knows_operands, link_operand,
 };
 use crate::names::{is_array, is_int, is_link, is_named, kind_of, procedure_named};
-use imp_syntax::{Action, Block, Call, Cond, Declaration, Kind, Proc, Side, Stmt, StmtNode};
-use plain_values::Text;
+use base_values::Text;
+use imp_syntax::{
+    Action, Block, Call, Cond, Declaration, Proc, Side, Stmt, StmtNode, VariableKind,
+};
 use std::marker::Model;
 
 /// What the statements of a procedure may name: the procedures before it, itself and those behind it, its variables.
@@ -123,13 +125,13 @@ fn gives_result(target: &Option<Text>, outcome: Option<&Declaration>) -> bool
     target.is_none() || outcome.is_some()
 }
 
-fn fits_parameter(variables: &[Declaration], argument: &Side, kind: Kind) -> bool
+fn fits_parameter(variables: &[Declaration], argument: &Side, kind: VariableKind) -> bool
     ensures is { result ≡ fits_parameter variables.now (operand_of argument.now) kind }
 {
     match kind {
-        Kind::Int => int_operand(variables, argument),
-        Kind::Array => array_operand(variables, argument),
-        Kind::List => link_operand(variables, argument),
+        VariableKind::Int => int_operand(variables, argument),
+        VariableKind::Array => array_operand(variables, argument),
+        VariableKind::List => link_operand(variables, argument),
     }
 }
 
@@ -148,7 +150,7 @@ fn fit_parameters(variables: &[Declaration], arguments: &[Side], parameters: &[D
     true
 }
 
-fn alike(a: Option<Kind>, b: Option<Kind>) -> bool
+fn alike(a: Option<VariableKind>, b: Option<VariableKind>) -> bool
     ensures is { result ≡ alike a b }
 {
     (is_int(a) && is_int(b)) || (is_array(a) && is_array(b)) || (is_link(a) && is_link(b))

@@ -8,9 +8,9 @@ ghost use Rattle.imp_slots.specs.CallViews.{argument_of};
 ghost use Rattle.imp_check.specs.Slots.{term_in, is_link_expression, is_link_operand, link_of, side_in, operand_term, is_equal, comparison_in, guard_in, copy_in, assign_in, effect_in, variable_argument, expression_argument, argument_in, arguments_in};
 
 use crate::slots::Slots;
+use base_values::{Items, Memory, Text};
 use imp_slots::{Argument, SlotAction, SlotCond, SlotCondNode, SlotExpr, SlotExprNode};
 use imp_syntax::{Action, Cond, CondNode, Expr, ExprNode, Number, Relation, Side};
-use plain_values::{Items, Memory, Text};
 use std::alloc::Global;
 
 fn term_in(alloc: Global, slots: &Slots, expr: &Expr) -> Result<SlotExpr, Memory>

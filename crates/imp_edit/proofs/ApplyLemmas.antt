@@ -5,7 +5,7 @@ use Rattle.imp_syntax.specs.Plain.{Procedure}
 use Rattle.imp_syntax.specs.declared.edit.Edit.{Edit}
 use Rattle.imp_check.specs.Faults.{first}
 use Rattle.imp_check.specs.Programs.{check_fault}
-use Rattle.imp_check.specs.declared.fault.Found.{Found}
+use Rattle.imp_check.specs.declared.fault.LocatedFault.{LocatedFault}
 use Rattle.imp_edit.specs.Edited.{edited, uses, next_after}
 use Rattle.imp_edit.specs.Refusals.{IsRefusal, edit_refusal, numbers_refusal, passes, site_refusal}
 use Rattle.imp_edit.specs.declared.error.EditError.{EditError}
@@ -49,8 +49,8 @@ next_is e next k w = go (passes (uses e) next) w
     go true w = absurd cc
     go false w = cc
 
-pub fault_is : (o : Option Found) (f : Found) → o ≡ Some f → option_map Fault o ≡ Some (Fault f)
+pub fault_is : (o : Option LocatedFault) (f : LocatedFault) → o ≡ Some f → option_map Fault o ≡ Some (Fault f)
 fault_is o f e = ap (option_map Fault) e
 
-pub no_fault : (o : Option Found) → o ≡ None → option_map Fault o ≡ None
+pub no_fault : (o : Option LocatedFault) → o ≡ None → option_map Fault o ≡ None
 no_fault o e = ap (option_map Fault) e

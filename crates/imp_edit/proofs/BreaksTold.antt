@@ -20,11 +20,11 @@ use Rattle.edit_entries.proofs.Others.{last_append, leaving_append}
 use Rattle.edit_entries.proofs.Parts.{around_of, around_last, inmost, Inmost}
 use Rattle.edit_entries.proofs.Programs.{old_program, new_program}
 use Rattle.edit_entries.proofs.Touched.{context_of, own_in, part_found, plug_last}
-use Rattle.loop_breaks.specs.Breaks.{counted, front_count, leaving_from, leaving_on, leaving_part, loop_breaks, passed}
-use Rattle.loop_breaks.specs.declared.gap.Gap.{Gap}
-use Rattle.loop_breaks.proofs.BreakLemmas.{with_loop}
+use Rattle.edit_breaks.specs.Breaks.{counted, front_count, leaving_from, leaving_on, leaving_part, loop_breaks, passed}
+use Rattle.edit_breaks.specs.declared.gap.Gap.{Gap}
+use Rattle.edit_breaks.proofs.BreakLemmas.{with_loop}
 use Rattle.imp_edit.proofs.GapLemmas.{append_again}
-use Rattle.imp_edit.proofs.QuietLemmas.{own_count}
+use Rattle.imp_edit.proofs.CallFreeLemmas.{own_count}
 
 -- A statement is one at least.
 one_more : (s : Statement) → 1 ≤ block_count (Starts s Ends)

@@ -28,14 +28,14 @@ use Rattle.edit_entries.proofs.Touched.{context_of, part_found, plug_last}
 use Rattle.imp_edit.specs.Changes.{in_program, deleted, exchanged, followed, then_started, else_started, body_started, at_named, started}
 use Rattle.imp_edit.specs.Edited.{edited, brought}
 use Rattle.imp_edit.specs.Gaps.{gone_gap, behind_gap, then_gap, else_gap, body_gap, start_gap, of_entry, of_place, gap_of}
-use Rattle.imp_edit.specs.Quiet.{part_numbers, part_quiet}
+use Rattle.imp_edit.specs.CallFreeParts.{part_numbers, part_quiet}
 use Rattle.imp_edit.specs.Refusals.{site_refusal, statement_refusal, entry_refusal, fits}
-use Rattle.loop_breaks.specs.declared.gap.Gap.{Gap}
+use Rattle.edit_breaks.specs.declared.gap.Gap.{Gap}
 use Rattle.imp_edit.specs.declared.refusals.Needed.{Needed}
 use Rattle.imp_edit.specs.declared.refusals.Needed.TheVariants as needed
 use Rattle.imp_edit.specs.declared.error.EditError.TheVariants.{NoProcedure, WrongStatement}
 use Rattle.imp_edit.proofs.Exchanged.{program_edited}
-use Rattle.imp_edit.proofs.QuietLemmas.{own_count, part_numbers_is, part_quiet_is}
+use Rattle.imp_edit.proofs.CallFreeLemmas.{own_count, part_numbers_is, part_quiet_is}
 
 -- The place of an edit, between statements of a block in holes, and what the edit puts there.
 pub record GapPart (e : Edit) (P : List Procedure) (g : Gap) : Type 0 where

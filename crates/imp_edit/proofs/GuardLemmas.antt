@@ -12,16 +12,16 @@ use Rattle.imp_check.specs.Fine.{IsFine}
 use Rattle.imp_check.specs.Faults.{first, at, in_procedure}
 use Rattle.imp_check.specs.Names.{variables}
 use Rattle.imp_check.specs.Slots.{layout_in, guard_in, routines_of}
-use Rattle.program_table.proofs.FallingLemmas.{falling_more}
+use Rattle.imp_table.proofs.FallingLemmas.{falling_more}
 use Rattle.imp_check.specs.Statements.{condition_fault, block_fault}
 use Rattle.imp_check.specs.Parts.{part_of}
 use Rattle.imp_check.specs.Programs.{AreNumbered, block_count, program_count, variables_fault, check_fault}
 use Rattle.imp_check.specs.Entries.{entries_of, entry_of, form_in, resolver_at, heads_of, sites_of}
-use Rattle.program_table.specs.Changes.{AreWithin, Makes, overlay}
-use Rattle.program_table.specs.declared.change.Change.{Change}
-use Rattle.program_table.specs.declared.change.Put.{Put}
+use Rattle.imp_table.specs.Changes.{AreWithin, Makes, overlay}
+use Rattle.imp_table.specs.declared.change.Change.{Change}
+use Rattle.imp_table.specs.declared.change.Put.{Put}
 use Rattle.imp_check.specs.declared.entry.Entry.{Entry}
-use Rattle.imp_check.specs.declared.entry.Head.{Head}
+use Rattle.imp_check.specs.declared.entry.ProcHeader.{ProcHeader}
 use Rattle.imp_check.specs.declared.entry.SlotForm.{SlotForm}
 use Rattle.imp_check.specs.declared.entry.SlotForm.TheVariants as form
 use Rattle.edit_entries.specs.Holes.{Hole, plug, between, in_loop, with_body}
@@ -37,7 +37,7 @@ use Rattle.imp_edit.specs.Changes.{guarded, in_program}
 use Rattle.imp_edit.specs.Refusals.{IsRefusal, fits}
 use Rattle.imp_edit.specs.declared.error.EditError.{EditError}
 use Rattle.imp_edit.specs.declared.error.EditError.TheVariants.{Fault}
-use Rattle.imp_edit.specs.Short.{IsMade}
+use Rattle.imp_edit.specs.EditChange.{IsMade}
 use Rattle.imp_edit.specs.declared.refusals.Needed.TheVariants.{Conditional}
 use Rattle.imp_edit.proofs.Exchanged.{program_edited}
 use Rattle.imp_check.proofs.FewLemmas.{first_none, first_alone}
@@ -145,7 +145,7 @@ module _ (p : Procedure) (hs : List Hole) (before behind : Statements) (ps qs : 
     entries = λ m. go m (number_of s == m) refl ∙ ap (λ (os : List Put). overlay os (entry_of (entries_of (old s))) m) (sym puts);
     heads =
         heads_stay p (plug hs (between before behind (one s))) (plug hs (between before behind (one (with_condition s d)))) ps qs (plug_ends (resolver_at ps p) 0 hs (between before behind (one s)) (between before behind (one (with_condition s d))) (guard_ends before behind s d))
-        ∙ ap (λ (o : Option (List Head)). unwrap_or o (heads_of (old s))) (sym no_heads);
+        ∙ ap (λ (o : Option (List ProcHeader)). unwrap_or o (heads_of (old s))) (sym no_heads);
     counted = counted ∙ count_stays s;
     sites = sites_stay p hs before (one s) (one (with_condition s d)) behind (same_sites s) ps qs ∙ ap (λ (o : Option (List (List ℕ))). unwrap_or o (sites_of (old s))) (sym no_sites);
   }
@@ -168,7 +168,7 @@ conditional_is : (e : Entry) (s : Statement) → e.part ≡ part_of s → fits C
 conditional_is e s q f = ap (fits Conditional) (sym q) ∙ f
 
 -- The first fault is that of the condition.
-pub guard_refusal : (n : ℕ) (d : Condition) (P : List Procedure) (e : Entry) (h : Head) → IsFine P → entry_of (entries_of P) n ≡ Some e → slice_get (heads_of P) e.context.proc ≡ Some h → fits Conditional e.part ≡ true →
+pub guard_refusal : (n : ℕ) (d : Condition) (P : List Procedure) (e : Entry) (h : ProcHeader) → IsFine P → entry_of (entries_of P) n ≡ Some e → slice_get (heads_of P) e.context.proc ≡ Some h → fits Conditional e.part ≡ true →
     check_fault (in_program n (guarded d) P) ≡ in_procedure h.bare.name (at n (condition_fault (variables h.bare) d))
 guard_refusal n d P e h fine k l f =
     let t = site n P e h fine.numbered.once k l in
@@ -177,13 +177,13 @@ guard_refusal n d P e h fine k l f =
     ap check_fault (new_is n d P fine.numbered.once s)
     ∙ guard_fault s.own s.place.holes s.place.before s.place.behind s.front s.back d s.place.stmt c (ap check_fault (sym (old_is n P s)) ∙ fine.faultless)
     ∙ ap (λ m. in_procedure s.own.name (at m (condition_fault (variables s.own) d))) s.place.number
-    ∙ ap (λ (z : Head). in_procedure z.bare.name (at n (condition_fault (variables z.bare) d))) (sym t.head)
+    ∙ ap (λ (z : ProcHeader). in_procedure z.bare.name (at n (condition_fault (variables z.bare) d))) (sym t.head)
 
 one_within : (next : ℕ) (p : Put) → p.number < next → AreWithin next (p ∷ [])
 one_within next p h = record { falling = falling_more [] p (λ i j d l m. absurd (omega arith)) (λ i d l. absurd (omega arith)); below = All-push (λ (q : Put). q.number < next) [] p (λ i d l. absurd (omega arith)) h }
 
 -- The change of one entry makes the new program.
-pub guard_made : (n : ℕ) (d : Condition) (P : List Procedure) (e y : Entry) (h : Head) (next : ℕ) (change : Change) → IsFine P → entry_of (entries_of P) n ≡ Some e → slice_get (heads_of P) e.context.proc ≡ Some h → fits Conditional e.part ≡ true →
+pub guard_made : (n : ℕ) (d : Condition) (P : List Procedure) (e y : Entry) (h : ProcHeader) (next : ℕ) (change : Change) → IsFine P → entry_of (entries_of P) n ≡ Some e → slice_get (heads_of P) e.context.proc ≡ Some h → fits Conditional e.part ≡ true →
     All (λ (m : ℕ). m < next) (program_numbers P) → AreNumbered (in_program n (guarded d) P) → condition_fault (variables h.bare) d ≡ None → fits_guard (layout_in h.bare) (guard_in (layout_in h.bare) d) ≡ true →
     y ≡ record e { part = with_condition e.part d; form = form.Cond (guard_in (layout_in h.bare) d) } →
     change.entries.items ≡ one_put n y → change.heads ≡ None → change.count ≡ program_count P → change.sites ≡ None →
@@ -195,10 +195,10 @@ guard_made n d P e y h next change fine k l f low numbered c g same puts no_head
     let u = conditional_is e v.stmt (ap (λ (z : Entry). z.part) t.entry) f in
     let is = new_is n d P fine.numbered.once s in
     let was = old_is n P s in
-    let fits_own : fits_guard (layout_in s.own) (guard_in (layout_in s.own) d) ≡ true = subst (λ (z : Head). fits_guard (layout_in z.bare) (guard_in (layout_in z.bare) d) ≡ true) t.head g in
+    let fits_own : fits_guard (layout_in s.own) (guard_in (layout_in s.own) d) ≡ true = subst (λ (z : ProcHeader). fits_guard (layout_in z.bare) (guard_in (layout_in z.bare) d) ≡ true) t.head g in
     let part : with_condition e.part d ≡ part_of (with_condition v.stmt d) = ap (λ (z : Entry). with_condition z.part d) t.entry ∙ guarded_part d v.stmt in
     let own : y ≡ record e { part = part_of (with_condition v.stmt d); form = form.Cond (guard_in (layout_in s.own) d) } =
-    same ∙ ap (λ (z : Statement). record e { part = z; form = form.Cond (guard_in (layout_in h.bare) d) }) part ∙ ap (λ (z : Head). record e { part = part_of (with_condition v.stmt d); form = form.Cond (guard_in (layout_in z.bare) d) }) t.head in
+    same ∙ ap (λ (z : Statement). record e { part = z; form = form.Cond (guard_in (layout_in h.bare) d) }) part ∙ ap (λ (z : ProcHeader). record e { part = part_of (with_condition v.stmt d); form = form.Cond (guard_in (layout_in z.bare) d) }) t.head in
     let once : Distinct (program_numbers (old s.own v.holes v.before v.behind s.front s.back d v.stmt)) = subst (λ (os : List Procedure). Distinct (program_numbers os)) was fine.numbered.once in
     let again : AreNumbered (new s.own v.holes v.before v.behind s.front s.back d v.stmt) = subst AreNumbered is numbered in
     let found : entry_of (entries_of (old s.own v.holes v.before v.behind s.front s.back d v.stmt)) (number_of v.stmt) ≡ Some e = ap (λ (os : List Procedure). entry_of (entries_of os) (number_of v.stmt)) (sym was) ∙ ap (entry_of (entries_of P)) v.number ∙ k in
@@ -218,14 +218,14 @@ pub fine_of : (P : List Procedure) → check_fault P ≡ None → AreNumbered P 
 fine_of P z k w = record { faultless = z; numbered = k; fit = w }
 
 -- the variables of a procedure that is there have no fault
-pub guard_variables : (n : ℕ) (P : List Procedure) (e : Entry) (h : Head) → IsFine P → entry_of (entries_of P) n ≡ Some e → slice_get (heads_of P) e.context.proc ≡ Some h → variables_fault [] (variables h.bare) ≡ None
+pub guard_variables : (n : ℕ) (P : List Procedure) (e : Entry) (h : ProcHeader) → IsFine P → entry_of (entries_of P) n ≡ Some e → slice_get (heads_of P) e.context.proc ≡ Some h → variables_fault [] (variables h.bare) ≡ None
 guard_variables n P e h fine k l =
     let t = site n P e h fine.numbered.once k l in
     let s = t.place in
     let v = s.place in
-    ap (λ (z : Head). variables_fault [] (variables z.bare)) t.head
+    ap (λ (z : ProcHeader). variables_fault [] (variables z.bare)) t.head
     ∙ (faultless s.own v.holes v.before (one v.stmt) (one v.stmt) v.behind s.front s.back (ap check_fault (sym (old_is n P s)) ∙ fine.faultless)).vars
 
-pub guard_refused : (n : ℕ) (d : Condition) (P : List Procedure) (e : Entry) (h : Head) (r : EditError) → IsFine P → entry_of (entries_of P) n ≡ Some e → slice_get (heads_of P) e.context.proc ≡ Some h → fits Conditional e.part ≡ true →
+pub guard_refused : (n : ℕ) (d : Condition) (P : List Procedure) (e : Entry) (h : ProcHeader) (r : EditError) → IsFine P → entry_of (entries_of P) n ≡ Some e → slice_get (heads_of P) e.context.proc ≡ Some h → fits Conditional e.part ≡ true →
     IsRefusal (option_map Fault (in_procedure h.bare.name (at n (condition_fault (variables h.bare) d)))) r → IsRefusal (option_map Fault (check_fault (in_program n (guarded d) P))) r
 guard_refused n d P e h r fine k l f w = subst (λ o. IsRefusal (option_map Fault o) r) (sym (guard_refusal n d P e h fine k l f)) w

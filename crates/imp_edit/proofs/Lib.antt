@@ -8,11 +8,11 @@ pub mod RefusalLemmas
 mod Worked
 pub mod ApplyLemmas
 pub mod Exchanged
-pub mod AloneLemmas
+pub mod SingleStatementLemmas
 pub mod GuardLemmas
-pub mod QuietLemmas
+pub mod CallFreeLemmas
 pub mod GapLemmas
 pub mod SpliceLemmas
 pub mod BreaksTold
-pub mod ComingLemmas
+pub mod NewEntryLemmas
 pub mod SpliceMade

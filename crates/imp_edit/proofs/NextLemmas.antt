@@ -3,7 +3,7 @@ use Rattle.std.proofs.lemmas.Bool.Decides.{nat_tests}
 use Rattle.std.proofs.Common.{ℕ, ◌≡◌, ◌+◌, ◌-◌, ◌^◌, ◌<◌, ◌≤◌, ◌&&◌, ◌⊎◌, inl, inr, nat_lt, min, cond, true, false, Some, None, sym, ap, ◌∙◌, arith}
 use Rattle.std.proofs.lemmas.Bool.{and_from}
 use Rattle.std.proofs.Math.Bool.{and-false}
-use Rattle.plain_values.proofs.Cases.{less_test}
+use Rattle.base_values.proofs.Cases.{less_test}
 use Rattle.imp_edit.specs.Refusals.{passes}
 
 -- a count below the limit is exact, and one at it is no less

@@ -2,7 +2,7 @@
 use Rattle.std.proofs.Common.{ℕ, ◌+◌, ◌<◌, ◌≤◌, ◌≡◌, List, [], ◌∷◌, ◌++◌, length, drop, get_or, cond, true, false, ap, ◌∙◌}
 use Rattle.std.specs.Str.{bytes_eq}
 use Rattle.std.proofs.lemmas.List.{drop_all}
-use Rattle.plain_values.proofs.Lists.{drop_item}
+use Rattle.base_values.proofs.Lists.{drop_item}
 use Rattle.imp_syntax.specs.Plain.{Procedure}
 use Rattle.imp_edit.specs.Changes.{at_named}
 

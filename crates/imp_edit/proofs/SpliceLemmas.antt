@@ -12,12 +12,12 @@ use Rattle.imp_check.specs.Programs.{has, last_of, name_of}
 use Rattle.imp_check.specs.declared.entry.Around.{Around}
 use Rattle.imp_check.specs.declared.entry.BlockEnds.{BlockEnds}
 use Rattle.imp_check.specs.declared.entry.Entry.{Entry}
-use Rattle.imp_check.specs.declared.entry.Head.{Head}
-use Rattle.imp_check.specs.declared.fault.Found.{Found}
+use Rattle.imp_check.specs.declared.entry.ProcHeader.{ProcHeader}
+use Rattle.imp_check.specs.declared.fault.LocatedFault.{LocatedFault}
 use Rattle.imp_check.proofs.RebuildLemmas.{entry_numbers}
 use Rattle.edit_entries.specs.Gaps.{head_with, heads_in, holder_of}
 use Rattle.edit_entries.proofs.Others.{entry_append}
-use Rattle.loop_breaks.specs.Bounds.{IsBelow}
+use Rattle.edit_breaks.specs.Bounds.{IsBelow}
 use Rattle.imp_edit.specs.Refusals.{IsRefusal}
 use Rattle.imp_edit.specs.declared.error.EditError.{EditError}
 use Rattle.imp_edit.specs.declared.error.EditError.TheVariants.{NoProcedure, NoStatement, WrongStatement, IsMain, StillCalled, Numbers, Fault, Memory}
@@ -44,23 +44,23 @@ last_gone (Starts x (Starts y ys)) o (suc i) h e = absurd (some_there y ys i (om
     some_there y (Starts z zs) zero h e = absurd (omega arith)
     some_there y (Starts z zs) (suc i) h e = some_there z zs i (omega arith) e
 
-name_at : (o : Option Procedure) (h : Head) → Some h ≡ option_map head_of o → h.bare.name ≡ name_of o
+name_at : (o : Option Procedure) (h : ProcHeader) → Some h ≡ option_map head_of o → h.bare.name ≡ name_of o
 name_at None h e = cc
-name_at (Some p) h e = let q : h ≡ head_of p = cc in ap (λ (z : Head). z.bare.name) q
+name_at (Some p) h e = let q : h ≡ head_of p = cc in ap (λ (z : ProcHeader). z.bare.name) q
 
 no_name : (o : Option Procedure) → None ≡ option_map head_of o → [] ≡ name_of o
 no_name None e = refl
 no_name (Some p) e = absurd cc
 
-pub last_name : (ps : List Procedure) (hs : List Head) (i : ℕ) (h : Head) → hs ≡ heads_of ps → i ≡ length hs - 1 → Some h ≡ slice_get hs i → h.bare.name ≡ name_of (last_of ps)
+pub last_name : (ps : List Procedure) (hs : List ProcHeader) (i : ℕ) (h : ProcHeader) → hs ≡ heads_of ps → i ≡ length hs - 1 → Some h ≡ slice_get hs i → h.bare.name ≡ name_of (last_of ps)
 last_name ps hs i h q k e =
-    let n : i ≡ length ps - 1 = k ∙ ap (λ (zs : List Head). length zs - 1) q ∙ ap (λ n. n - 1) (heads_length ps) in
-    name_at (last_of ps) h (e ∙ ap (λ (zs : List Head). slice_get zs i) q ∙ ap (slice_get (heads_of ps)) n ∙ head_at ps (length ps - 1))
+    let n : i ≡ length ps - 1 = k ∙ ap (λ (zs : List ProcHeader). length zs - 1) q ∙ ap (λ n. n - 1) (heads_length ps) in
+    name_at (last_of ps) h (e ∙ ap (λ (zs : List ProcHeader). slice_get zs i) q ∙ ap (slice_get (heads_of ps)) n ∙ head_at ps (length ps - 1))
 
-pub no_last : (ps : List Procedure) (hs : List Head) (i : ℕ) → hs ≡ heads_of ps → i ≡ length hs - 1 → None ≡ slice_get hs i → [] ≡ name_of (last_of ps)
+pub no_last : (ps : List Procedure) (hs : List ProcHeader) (i : ℕ) → hs ≡ heads_of ps → i ≡ length hs - 1 → None ≡ slice_get hs i → [] ≡ name_of (last_of ps)
 no_last ps hs i q k e =
-    let n : i ≡ length ps - 1 = k ∙ ap (λ (zs : List Head). length zs - 1) q ∙ ap (λ n. n - 1) (heads_length ps) in
-    no_name (last_of ps) (e ∙ ap (λ (zs : List Head). slice_get zs i) q ∙ ap (slice_get (heads_of ps)) n ∙ head_at ps (length ps - 1))
+    let n : i ≡ length ps - 1 = k ∙ ap (λ (zs : List ProcHeader). length zs - 1) q ∙ ap (λ n. n - 1) (heads_length ps) in
+    no_name (last_of ps) (e ∙ ap (λ (zs : List ProcHeader). slice_get zs i) q ∙ ap (slice_get (heads_of ps)) n ∙ head_at ps (length ps - 1))
 
 first_cond : (t : Bool) (e : Entry) (x : Option Entry) → first (cond t (Some e) None) x ≡ cond t (Some e) x
 first_cond true e x = refl
@@ -120,7 +120,7 @@ pub around_below : (b : ℕ) (o : Option Around) (w : Around) → o ≡ Some w �
 around_below b o w e h = subst (λ (z : Option Around). IsBelow b (holder_of z)) e h
 
 -- A refusal by the first of two faults, or by the second where the first is none.
-only_memory : (o : Option Found) (r : EditError) → IsRefusal None r → IsRefusal (option_map Fault o) r
+only_memory : (o : Option LocatedFault) (r : EditError) → IsRefusal None r → IsRefusal (option_map Fault o) r
 only_memory o NoProcedure h = absurd cc
 only_memory o NoStatement h = absurd cc
 only_memory o WrongStatement h = absurd cc
@@ -130,7 +130,7 @@ only_memory o Numbers h = absurd cc
 only_memory o (Fault f) h = absurd cc
 only_memory o Memory h = tt
 
-pub refused_first : (o p : Option Found) (r : EditError) → IsRefusal (option_map Fault o) r → IsRefusal (option_map Fault (first o p)) r
+pub refused_first : (o p : Option LocatedFault) (r : EditError) → IsRefusal (option_map Fault o) r → IsRefusal (option_map Fault (first o p)) r
 refused_first None p r h = only_memory p r h
 refused_first (Some f) p r h = h
 
@@ -142,21 +142,21 @@ pub refused_step : (x : List ℕ) (o : _) (p : _) (q : _) (r : EditError) → q 
 refused_step x o p q r e h = subst (λ z. IsRefusal (option_map Fault z) r) (sym (ap (in_procedure x) e ∙ in_first x o p)) (refused_first (in_procedure x o) (in_procedure x p) r h)
 
 -- The procedures, with other ends of one body.
-pub head_set : (hs : List Head) (n : ℕ) (h : Head) (ends : BlockEnds → BlockEnds) → n < length hs → h ≡ slice_index_or hs n h → slice_set hs n (record h { body = ends h.body }) ≡ head_with hs n ends
+pub head_set : (hs : List ProcHeader) (n : ℕ) (h : ProcHeader) (ends : BlockEnds → BlockEnds) → n < length hs → h ≡ slice_index_or hs n h → slice_set hs n (record h { body = ends h.body }) ≡ head_with hs n ends
 head_set [] n h ends l e = absurd (omega arith)
-head_set (x ∷ hs) zero h ends l e = ap (λ (z : Head). record z { body = ends z.body } ∷ hs) e
-head_set (x ∷ hs) (suc n) h ends l e = ap (λ (zs : List Head). x ∷ zs) (head_set hs n h ends (omega arith) e)
+head_set (x ∷ hs) zero h ends l e = ap (λ (z : ProcHeader). record z { body = ends z.body } ∷ hs) e
+head_set (x ∷ hs) (suc n) h ends l e = ap (λ (zs : List ProcHeader). x ∷ zs) (head_set hs n h ends (omega arith) e)
 
-pub head_past : (hs : List Head) (n : ℕ) (ends : BlockEnds → BlockEnds) → length hs ≤ n → hs ≡ head_with hs n ends
+pub head_past : (hs : List ProcHeader) (n : ℕ) (ends : BlockEnds → BlockEnds) → length hs ≤ n → hs ≡ head_with hs n ends
 head_past [] n ends l = refl
 head_past (x ∷ hs) zero ends l = absurd (omega arith)
-head_past (x ∷ hs) (suc n) ends l = ap (λ (zs : List Head). x ∷ zs) (head_past hs n ends (omega arith))
+head_past (x ∷ hs) (suc n) ends l = ap (λ (zs : List ProcHeader). x ∷ zs) (head_past hs n ends (omega arith))
 
-pub head_same : (hs : List Head) (n : ℕ) (ends : BlockEnds → BlockEnds) → ((e : BlockEnds) → ends e ≡ e) → hs ≡ head_with hs n ends
+pub head_same : (hs : List ProcHeader) (n : ℕ) (ends : BlockEnds → BlockEnds) → ((e : BlockEnds) → ends e ≡ e) → hs ≡ head_with hs n ends
 head_same [] n ends h = refl
 head_same (x ∷ hs) zero ends h = ap (λ o. record x { body = o } ∷ hs) (sym (h x.body))
-head_same (x ∷ hs) (suc n) ends h = ap (λ (zs : List Head). x ∷ zs) (head_same hs n ends h)
+head_same (x ∷ hs) (suc n) ends h = ap (λ (zs : List ProcHeader). x ∷ zs) (head_same hs n ends h)
 
-pub heads_same : (o : Option Around) (hs : List Head) (n : ℕ) (ends : BlockEnds → BlockEnds) → ((e : BlockEnds) → ends e ≡ e) → hs ≡ heads_in o hs n ends
+pub heads_same : (o : Option Around) (hs : List ProcHeader) (n : ℕ) (ends : BlockEnds → BlockEnds) → ((e : BlockEnds) → ends e ≡ e) → hs ≡ heads_in o hs n ends
 heads_same None hs n ends h = head_same hs n ends h
 heads_same (Some w) hs n ends h = refl

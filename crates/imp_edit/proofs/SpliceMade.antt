@@ -14,9 +14,9 @@ use Rattle.imp_check.specs.Parts.{first_or, last_or}
 use Rattle.imp_check.specs.Programs.{AreNumbered, block_count, program_count, nesting, name_of, last_of, variables_fault, check_fault}
 use Rattle.imp_check.specs.Slots.{code_in, layout_in}
 use Rattle.imp_check.specs.Statements.{block_fault}
-use Rattle.program_table.specs.declared.change.Change.{Change}
+use Rattle.imp_table.specs.declared.change.Change.{Change}
 use Rattle.imp_check.specs.declared.entry.Entry.{Entry}
-use Rattle.imp_check.specs.declared.entry.Head.{Head}
+use Rattle.imp_check.specs.declared.entry.ProcHeader.{ProcHeader}
 use Rattle.imp_check.specs.declared.fault.Fault.TheVariants.{Statements as TooManyStatements, Nesting}
 use Rattle.edit_entries.specs.Gaps.{are_quiet, are_closed, closed_at, ends_with, holder_of, held_in, heads_in, gap_splice, lone}
 use Rattle.edit_entries.specs.Holes.{Hole, in_loop}
@@ -28,18 +28,18 @@ use Rattle.edit_entries.proofs.Located.{Has}
 use Rattle.edit_entries.proofs.Numbers.{Apart}
 use Rattle.edit_entries.proofs.Parts.{closed_in, gap_table, gap_heads, gap_fault, gap_sites, gap_fits, front_has, next_has, old_has, holder_has, loop_has}
 use Rattle.edit_entries.proofs.Programs.{old_one, old_program, new_program, news_count}
-use Rattle.edit_entries.proofs.Quiet.{numbers_count, quiet_entries}
+use Rattle.edit_entries.proofs.CallFree.{numbers_count, quiet_entries}
 use Rattle.edit_entries.proofs.Standing.{all_has, context_proc, own_head}
 use Rattle.edit_entries.proofs.Touched.{context_of}
 use Rattle.imp_edit.specs.Edited.{edited, brought, uses, next_after, counting, Continues}
-use Rattle.loop_breaks.specs.Breaks.{loop_breaks}
-use Rattle.loop_breaks.specs.Bounds.{IsBelow}
+use Rattle.edit_breaks.specs.Breaks.{loop_breaks}
+use Rattle.edit_breaks.specs.Bounds.{IsBelow}
 use Rattle.imp_edit.specs.Gaps.{AreBelow, IsSplice, count_with, entries_with, gap_of, splice_fault}
 use Rattle.imp_edit.specs.Refusals.{IsRefusal, site_refusal}
-use Rattle.imp_edit.specs.Short.{IsMade}
+use Rattle.imp_edit.specs.EditChange.{IsMade}
 use Rattle.imp_edit.specs.declared.error.EditError.{EditError}
 use Rattle.imp_edit.specs.declared.error.EditError.TheVariants.{Fault}
-use Rattle.loop_breaks.specs.declared.gap.Gap.{Gap}
+use Rattle.edit_breaks.specs.declared.gap.Gap.{Gap}
 use Rattle.imp_edit.proofs.BreaksTold.{breaks_told}
 use Rattle.imp_edit.proofs.GapLemmas.{GapPart, gap_part}
 use Rattle.imp_edit.proofs.Once.{never_absent, counting_low, counting_high, never_below}
@@ -52,7 +52,7 @@ module _ (p : Procedure) (hs : List Hole) (before olds behind : Statements) (ps 
   abbrev N : List Procedure
   N = new_program p hs before olds news behind ps qs
 
-  abbrev h : Head
+  abbrev h : ProcHeader
   h = head_of (old_one p hs before olds Ends behind)
 
   module _ (g : Gap) (context : g.context ≡ context_of (context_at (length ps)) hs) (in_front : g.front ≡ last_or before None) (in_back : g.next ≡ first_or behind None) (gone : g.gone ≡ numbers olds) where
@@ -137,7 +137,7 @@ module _ (p : Procedure) (hs : List Hole) (before olds behind : Statements) (ps 
     }
 
 -- At the place of an edit.
-module _ (e : Edit) (P : List Procedure) (g : Gap) (h : Head) (fine : IsFine P) (site : site_refusal e P ≡ None) (here : gap_of e P ≡ Some g) (l : slice_get (heads_of P) g.context.proc ≡ Some h) where
+module _ (e : Edit) (P : List Procedure) (g : Gap) (h : ProcHeader) (fine : IsFine P) (site : site_refusal e P ≡ None) (here : gap_of e P ≡ Some g) (l : slice_get (heads_of P) g.context.proc ≡ Some h) where
   abbrev part : GapPart e P g
   part = gap_part e P g fine.numbered.once site here
 
@@ -160,7 +160,7 @@ module _ (e : Edit) (P : List Procedure) (g : Gap) (h : Head) (fine : IsFine P) 
   fine_whole = subst IsFine part.is fine
 
   pub gap_variables : variables_fault [] (variables h.bare) ≡ None
-  gap_variables = ap (λ (z : Head). variables_fault [] (variables z.bare)) head_is ∙ (faultless part.own part.holes part.before part.olds Ends part.behind part.front part.back fine_whole.faultless).vars
+  gap_variables = ap (λ (z : ProcHeader). variables_fault [] (variables z.bare)) head_is ∙ (faultless part.own part.holes part.before part.olds Ends part.behind part.front part.back fine_whole.faultless).vars
 
   module _ (closed_here : closed_at g.context.head (brought e) ≡ true) where
     closed : are_closed (in_loop false part.holes) (brought e) ≡ true
@@ -173,7 +173,7 @@ module _ (e : Edit) (P : List Procedure) (g : Gap) (h : Head) (fine : IsFine P) 
     edit_fault =
         ap check_fault part.becomes
         ∙ fault_is part.own part.holes part.before part.olds part.behind part.front part.back (brought e) part.quiet closed g part.context part.in_front part.in_back part.gone fine_whole.faultless
-        ∙ ap (λ (z : Head). splice_fault whole z g (brought e)) (sym head_is)
+        ∙ ap (λ (z : ProcHeader). splice_fault whole z g (brought e)) (sym head_is)
         ∙ ap (λ (os : List Procedure). splice_fault os h g (brought e)) (sym part.is)
 
     pub gap_refused : (r : EditError) → IsRefusal (option_map Fault (splice_fault P h g (brought e))) r → IsRefusal (option_map Fault (check_fault (edited e P))) r
@@ -195,9 +195,9 @@ module _ (e : Edit) (P : List Procedure) (g : Gap) (h : Head) (fine : IsFine P) 
       pub gap_made : AreNumbered (edited e P) → FitsCode [] (layout_in h.bare) (code_in (resolver_at [] h.bare) (brought e)) → splice_fault P h g (brought e) ≡ None → (change : Change) → IsSplice P h g (brought e) change → IsMade P (edited e P) (next_after e next) change
       gap_made numbered fits none change s =
           let new = new_program part.own part.holes part.before part.olds (brought e) part.behind part.front part.back in
-          let splice : IsSplice whole (head_of own) g (brought e) change = subst (λ (z : Head). IsSplice whole z g (brought e) change) head_is (subst (λ (os : List Procedure). IsSplice os h g (brought e) change) part.is s) in
-          let fit : FitsCode [] (layout_in part.own) (code_in (resolver_at [] part.own) (brought e)) = subst (λ (z : Head). FitsCode [] (layout_in z.bare) (code_in (resolver_at [] z.bare) (brought e))) head_is fits in
-          let no : splice_fault whole (head_of own) g (brought e) ≡ None = ap (λ (z : Head). splice_fault whole z g (brought e)) (sym head_is) ∙ ap (λ (os : List Procedure). splice_fault os h g (brought e)) (sym part.is) ∙ none in
+          let splice : IsSplice whole (head_of own) g (brought e) change = subst (λ (z : ProcHeader). IsSplice whole z g (brought e) change) head_is (subst (λ (os : List Procedure). IsSplice os h g (brought e) change) part.is s) in
+          let fit : FitsCode [] (layout_in part.own) (code_in (resolver_at [] part.own) (brought e)) = subst (λ (z : ProcHeader). FitsCode [] (layout_in z.bare) (code_in (resolver_at [] z.bare) (brought e))) head_is fits in
+          let no : splice_fault whole (head_of own) g (brought e) ≡ None = ap (λ (z : ProcHeader). splice_fault whole z g (brought e)) (sym head_is) ∙ ap (λ (os : List Procedure). splice_fault os h g (brought e)) (sym part.is) ∙ none in
           let made : IsMade whole new (next_after e next) change =
           spliced_made part.own part.holes part.before part.olds part.behind part.front part.back (brought e) part.quiet closed g part.context part.in_front part.in_back part.gone
           fine_whole (subst AreNumbered part.becomes numbered) apart next (next_after e next) low_whole (omega arith) come fit no change splice in

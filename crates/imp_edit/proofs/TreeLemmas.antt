@@ -1,7 +1,7 @@
 -- Changes of trees, as the code makes them.
 use Rattle.std.proofs.Common.{ℕ, ◌+◌, ◌<◌, ◌≤◌, ◌≡◌, refl, List, [], ◌∷◌, ◌++◌, length, drop, slice_index_or, cond, ◌==◌, true, false, ap, sym, ◌∙◌, append_assoc}
 use Rattle.std.proofs.lemmas.List.{append-nil, drop_all}
-use Rattle.plain_values.proofs.Cases.{equal_test}
+use Rattle.base_values.proofs.Cases.{equal_test}
 use Rattle.imp_syntax.specs.Plain.{Condition, Statement, Simple, Break, Call, If, While, Statements, Ends, Starts, block_of, statements_of, number_of}
 use Rattle.imp_syntax.specs.Changes.{inserted, with_condition}
 use Rattle.imp_syntax.specs.Blocks.{statements_back, block_again, block_rest}

@@ -7,25 +7,25 @@ use Rattle.imp_syntax.specs.declared.edit.Edit.{Edit}
 use Rattle.imp_syntax.specs.declared.edit.Edit.TheVariants as edit
 use Rattle.imp_syntax.specs.declared.edit.Place.{Place}
 use Rattle.imp_syntax.specs.declared.edit.Place.TheVariants as place
-use Rattle.program_table.specs.Changes.{AreWithin, overlay}
+use Rattle.imp_table.specs.Changes.{AreWithin, overlay}
 use Rattle.imp_check.specs.Entries.{inside, inside_loop, context_at, entries_of, entry_of, resolver_at, heads_of}
 use Rattle.imp_check.specs.Faults.{first, unless, at, in_procedure}
 use Rattle.imp_check.specs.Names.{named_in, variables}
 use Rattle.imp_check.specs.Programs.{block_count, program_count, nesting, name_of, last_of}
 use Rattle.imp_check.specs.Statements.{block_fault}
-use Rattle.program_table.specs.declared.change.Change.{Change}
+use Rattle.imp_table.specs.declared.change.Change.{Change}
 use Rattle.imp_check.specs.declared.entry.Context.{Context}
 use Rattle.imp_check.specs.declared.entry.Entry.{Entry}
-use Rattle.imp_check.specs.declared.entry.Head.{Head}
+use Rattle.imp_check.specs.declared.entry.ProcHeader.{ProcHeader}
 use Rattle.imp_check.specs.declared.entry.Which.TheVariants as which
 use Rattle.imp_check.specs.declared.fault.Fault.TheVariants.{Statements as TooManyStatements, Nesting}
-use Rattle.imp_check.specs.declared.fault.Found.{Found}
+use Rattle.imp_check.specs.declared.fault.LocatedFault.{LocatedFault}
 use Rattle.edit_entries.specs.Gaps.{ends_with, holder_of, held_in, heads_in, gap_splice, lone}
 use Rattle.edit_entries.specs.Spliced.{spliced}
-use Rattle.loop_breaks.specs.Bounds.{IsBelow}
-use Rattle.loop_breaks.specs.Breaks.{loop_breaks}
-use Rattle.loop_breaks.specs.declared.gap.Gap.{Gap}
-use Rattle.imp_edit.specs.Quiet.{part_numbers, part_quiet}
+use Rattle.edit_breaks.specs.Bounds.{IsBelow}
+use Rattle.edit_breaks.specs.Breaks.{loop_breaks}
+use Rattle.edit_breaks.specs.declared.gap.Gap.{Gap}
+use Rattle.imp_edit.specs.CallFreeParts.{part_numbers, part_quiet}
 
 -- in the place of a statement in which no call stands
 abbrev pub gone_gap : (at : ℕ → Option Entry) → (most : ℕ) → Entry → Option Gap
@@ -48,14 +48,14 @@ else_gap e = Some (first_gap (inside e.context e.number which.Else) e.other.firs
 abbrev pub body_gap : Entry → Option Gap
 body_gap e = Some (first_gap (inside_loop e.context e.number) e.inner.first)
 
-abbrev pub start_gap : (place : ℕ) → Head → Gap
+abbrev pub start_gap : (place : ℕ) → ProcHeader → Gap
 start_gap place h = first_gap (context_at place) h.body.first
 
 abbrev pub of_entry : (Entry → Option Gap) → Option Entry → Option Gap
 of_entry gap None = None
 of_entry gap (Some e) = gap e
 
-abbrev pub of_place : List Head → Option ℕ → Option Gap
+abbrev pub of_place : List ProcHeader → Option ℕ → Option Gap
 of_place heads None = None
 of_place heads (Some p) = option_map (start_gap p) (slice_get heads p)
 
@@ -84,15 +84,15 @@ abbrev pub count_with : List Procedure → Gap → Statements → ℕ
 count_with ps g news = (program_count ps - length g.gone) + block_count news
 
 -- The first fault of all: too many statements, or a block that is too deep.
-abbrev pub size_fault : List Procedure → Gap → Statements → Option Found
+abbrev pub size_fault : List Procedure → Gap → Statements → Option LocatedFault
 size_fault ps g news = in_procedure (name_of (last_of ps)) (at 0 (first (unless (nat_lt (count_with ps g news) 10001) TooManyStatements) (unless (nat_lt (g.context.depth + nesting news) 33) Nesting)))
 
 -- The first fault: that, or the first one of the statements that come, whose breaks stand in loops.
-abbrev pub splice_fault : List Procedure → Head → Gap → Statements → Option Found
+abbrev pub splice_fault : List Procedure → ProcHeader → Gap → Statements → Option LocatedFault
 splice_fault ps h g news = first (size_fault ps g news) (in_procedure h.bare.name (block_fault (lone (variables h.bare)) true news))
 
 -- what is then known of the statements
-abbrev pub entries_with : List Procedure → Head → Gap → Statements → ℕ → Option Entry
+abbrev pub entries_with : List Procedure → ProcHeader → Gap → Statements → ℕ → Option Entry
 entries_with ps h g news = spliced (gap_splice (resolver_at [] h.bare) g.context g.front g.next g.gone news (loop_breaks ps g news)) (held_in g.context.around (ends_with g.front g.next news)) (entry_of (entries_of ps))
 
 -- The numbers of the statements around a place, and of those that come and go, are below a bound.
@@ -105,7 +105,7 @@ pub record AreBelow (b : ℕ) (g : Gap) (news : Statements) : Type 0 where
   pub come : All (λ (n : ℕ). n < b) (numbers news)
 
 -- The change puts statements at a place, and takes away what goes.
-pub record IsSplice (ps : List Procedure) (h : Head) (g : Gap) (news : Statements) (change : Change) : Type 0 where
+pub record IsSplice (ps : List Procedure) (h : ProcHeader) (g : Gap) (news : Statements) (change : Change) : Type 0 where
   pub entries : (m : ℕ) → overlay change.entries.items (entry_of (entries_of ps)) m ≡ entries_with ps h g news m
   pub heads : unwrap_or change.heads (heads_of ps) ≡ heads_in g.context.around (heads_of ps) g.context.proc (ends_with g.front g.next news)
   pub counted : change.count ≡ count_with ps g news

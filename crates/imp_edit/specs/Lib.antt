@@ -1,8 +1,8 @@
-pub mod Alone
+pub mod SingleStatements
 pub mod Changes
 pub mod Edited
 pub mod Gaps
 pub mod Made
-pub mod Quiet
+pub mod CallFreeParts
 pub mod Refusals
-pub mod Short
+pub mod EditChange

@@ -5,21 +5,21 @@ ghost use Rattle.std.specs.Option.{option_map};
 ghost use Rattle.imp_syntax.specs.Plain.{program_numbers};
 ghost use Rattle.imp_check.specs.Programs.{AreNumbered, check_fault};
 ghost use Rattle.imp_check.specs.Fine.{IsFine};
-ghost use Rattle.program_table.specs.Changes.{AreWithin, Makes};
+ghost use Rattle.imp_table.specs.Changes.{AreWithin, Makes};
 ghost use Rattle.imp_edit.specs.declared.error.EditError.TheVariants.{Fault};
 ghost use Rattle.imp_edit.specs.Edited.{Continues, edited, next_after};
 ghost use Rattle.imp_edit.specs.Refusals.{IsRefusal, edit_refusal};
 
 use crate::error::EditError;
 use crate::numbers::next_after;
+use crate::part_changes::short_change;
 use crate::procedures::at_named;
 use crate::refusals::site_refusal;
-use crate::short::short_change;
 use crate::trees::in_program;
+use base_values::Memory;
 use imp_check::CheckError;
 use imp_syntax::{Edit, Place, Proc, Program};
-use plain_values::Memory;
-use program_table::{Change, Table, check_table};
+use imp_table::{Change, Table, check_table};
 use std::alloc::Global;
 
 /// What an accepted edit changes.

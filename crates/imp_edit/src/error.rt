@@ -2,8 +2,8 @@
 ghost use Rattle.imp_edit.specs.declared.error.EditError.TheVariants.{Memory as of_memory};
 ghost use Rattle.std.specs.Prelude.{◌≡◌};
 
-use imp_check::Found;
-use plain_values::Memory;
+use base_values::Memory;
+use imp_check::LocatedFault;
 use std::alloc::AllocError;
 use thiserror::Error;
 
@@ -30,7 +30,7 @@ pub enum EditError {
     Numbers,
     /// The new program has this fault, and no earlier one.
     #[error("the new program has a fault")]
-    Fault(Found),
+    Fault(LocatedFault),
     /// Want of memory.
     #[error("out of memory")]
     Memory,

@@ -3,14 +3,14 @@ ghost use Rattle.std.specs.Prelude.{◌≡◌, ◌++◌, ◌&&◌, IfOk, Some, t
 ghost use Rattle.imp_check.specs.Entries.{entries_of, entry_of, heads_of};
 ghost use Rattle.imp_check.specs.Walks.{walk};
 ghost use Rattle.imp_edit.specs.Gaps.{gap_of, part_gap, place_gap, behind_gap, first_gap, then_gap, else_gap, body_gap, of_entry, of_place};
-ghost use Rattle.imp_edit.specs.Quiet.{quiet_from};
+ghost use Rattle.imp_edit.specs.CallFreeParts.{quiet_from};
 
-use crate::quiet::{add_quiet, is_call};
+use crate::call_free_parts::{add_quiet, is_call};
+use base_values::{Items, Memory};
+use edit_breaks::Gap;
 use imp_check::{Context, Entry, Which};
 use imp_syntax::{Edit, Place, ProcId, StmtId};
-use loop_breaks::Gap;
-use plain_values::{Items, Memory};
-use program_table::Table;
+use imp_table::Table;
 use std::alloc::Global;
 
 /// Where an edit puts statements or takes one away in which no call stands; `None` for other edits. It takes time in

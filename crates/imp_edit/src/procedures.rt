@@ -4,8 +4,8 @@ ghost use Rattle.imp_edit.specs.Changes.{at_named};
 ghost use Rattle.imp_edit.specs.Made.{made_of};
 
 use crate::trees::in_front;
+use base_values::{Items, Memory, Text};
 use imp_syntax::{Edit, Place, Proc, Program};
-use plain_values::{Items, Memory, Text};
 use std::alloc::Global;
 
 /// The program with what the edit makes of the first procedure of a name. It takes time linear in the procedures.

@@ -3,10 +3,10 @@ ghost use Rattle.std.specs.Prelude.{◌≡◌, Some};
 ghost use Rattle.imp_edit.specs.Refusals.{called_refusal, drop_refusal, entry_refusal, fits, is_if, is_while, main_refusal, place_refusal, procedure_refusal, site_refusal, statement_refusal};
 
 use crate::error::EditError;
+use base_values::Text;
 use imp_check::Entry;
 use imp_syntax::{Edit, Place, Stmt, StmtId, StmtNode};
-use plain_values::Text;
-use program_table::Table;
+use imp_table::Table;
 
 /// What an edit asks of the statement that it changes.
 #[derive(Clone, Copy)]

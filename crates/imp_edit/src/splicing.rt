@@ -11,14 +11,14 @@ ghost use Rattle.imp_edit.specs.declared.error.EditError.TheVariants.{Fault as r
 ghost use Rattle.imp_edit.specs.Gaps.{IsSplice, count_with, size_fault, splice_fault};
 ghost use Rattle.imp_edit.specs.Refusals.{IsRefusal};
 
-use crate::beside::{ends_stay, ends_with, puts_of};
-use crate::coming::entries_of;
 use crate::error::EditError;
-use imp_check::{Fault, Found, Head, block_count, nesting};
+use crate::neighbour_entries::{ends_stay, ends_with, puts_of};
+use crate::new_entries::entries_of;
+use base_values::{Items, Memory, Text};
+use edit_breaks::Gap;
+use imp_check::{Fault, LocatedFault, ProcHeader, block_count, nesting};
 use imp_syntax::Block;
-use loop_breaks::Gap;
-use plain_values::{Items, Memory, Text};
-use program_table::{Change, Table};
+use imp_table::{Change, Table};
 use std::alloc::Global;
 
 /// The most statements that a program may have.
@@ -40,7 +40,7 @@ const MOST_NESTING: u32 = 32;
 pub(crate) fn splice(
     alloc: Global,
     table: &Table,
-    head: &Head,
+    head: &ProcHeader,
     gap: &Gap,
     news: &Block,
 ) -> Result<Change, EditError>
@@ -90,7 +90,7 @@ fn found_last(alloc: Global, table: &Table, fault: Fault) -> Result<EditError, M
     ensures is { IfOk result (λ error. error ≡ refused_by (record { fault = fault; proc = name_of (last_of table.now.program); at = 0 })) }
 {
     let proc = last_name(alloc, table)?;
-    Ok(EditError::Fault(Found { fault, proc, at: 0 }))
+    Ok(EditError::Fault(LocatedFault { fault, proc, at: 0 }))
 }
 
 /// The name of the last procedure.
@@ -110,7 +110,7 @@ fn heads_with(
     table: &Table,
     gap: &Gap,
     news: &Block,
-) -> Result<Option<Items<Head>>, Memory>
+) -> Result<Option<Items<ProcHeader>>, Memory>
     ensures are { IfOk result (λ heads. unwrap_or heads (heads_of table.now.program) ≡ heads_in gap.now.context.around (heads_of table.now.program) gap.now.context.proc (ends_with gap.now.front gap.now.next news.now)) }
 {
     if ends_stay(gap) {
@@ -128,7 +128,7 @@ fn heads_with(
 
 /// Sets the ends of the body of the procedure at a place.
 #[tactic(auto, using(crate::proofs::SpliceLemmas::head_past))]
-fn set_body(heads: &mut Vec<Head>, proc: usize, gap: &Gap, news: &Block)
+fn set_body(heads: &mut Vec<ProcHeader>, proc: usize, gap: &Gap, news: &Block)
     ensures is { heads.new.items ≡ head_with heads.old.items proc (ends_with gap.now.front gap.now.next news.now) }
 {
     if proc >= heads.len() {
@@ -138,7 +138,7 @@ fn set_body(heads: &mut Vec<Head>, proc: usize, gap: &Gap, news: &Block)
 }
 
 /// Copies of procedures.
-fn heads_again(alloc: Global, heads: &[Head]) -> Result<Vec<Head>, Memory>
+fn heads_again(alloc: Global, heads: &[ProcHeader]) -> Result<Vec<ProcHeader>, Memory>
     ensures are { IfOk result (λ copies. copies.items ≡ heads.now) }
 {
     let mut copies = Vec::with_capacity(alloc, heads.len())?;
@@ -146,7 +146,7 @@ fn heads_again(alloc: Global, heads: &[Head]) -> Result<Vec<Head>, Memory>
         let bare = head.bare.clone()?;
         let layout = head.layout.clone()?;
         let body = head.body;
-        copies.push(Head { bare, layout, body })?;
+        copies.push(ProcHeader { bare, layout, body })?;
     }
     Ok(copies)
 }

@@ -5,8 +5,8 @@ ghost use Rattle.edit_entries.specs.Holes.{append, with_body};
 ghost use Rattle.imp_edit.specs.Changes.{body_started, else_started, followed, guarded, in_block, in_program, in_statement, then_started};
 ghost use Rattle.imp_edit.specs.Made.{made, made_at};
 
+use base_values::{Items, Memory};
 use imp_syntax::{Block, Cond, Edit, Place, Proc, Program, Stmt, StmtId, StmtNode};
-use plain_values::{Items, Memory};
 use std::alloc::Global;
 
 /// One block in front of another.

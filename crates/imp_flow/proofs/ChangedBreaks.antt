@@ -8,8 +8,8 @@ use Rattle.std.specs.Cmp.Lexicographic.{pointwise}
 use Rattle.imp_slots.specs.Plain.{Guard}
 use Rattle.imp_slots.specs.Fits.{Distinct}
 use Rattle.batch_meaning.specs.Places.{if_some}
-use Rattle.plain_values.proofs.Cases.{by_test}
-use Rattle.cell_names.specs.declared.frame.Frame.{Frame}
+use Rattle.base_values.proofs.Cases.{by_test}
+use Rattle.cell_names.specs.declared.frame.NameFrame.{NameFrame}
 use Rattle.cell_names.specs.declared.frame.Point.{Point}
 use Rattle.cell_names.specs.declared.frame.Point.TheVariants.{Fix}
 use Rattle.cell_names.specs.contracts.frame.PointPartialEq.TheImpl as points
@@ -17,13 +17,13 @@ use Rattle.cell_names.proofs.Telling.{point_decides}
 use Rattle.cell_rows.specs.Names.{name, next_place, place_of, item}
 use Rattle.cell_rows.specs.Rows.{Row, One, Joins, Assumes}
 use Rattle.cell_rows.proofs.BatchTie.{place_is}
-use Rattle.flow_rows.specs.declared.node.Leave.{Leave}
-use Rattle.flow_rows.specs.contracts.node.LeavePartialEq.TheImpl as leaves
-use Rattle.flow_rows.specs.contracts.node.LeaveEq.TheImpl.Laws as laws
-use Rattle.flow_rows.specs.NodeRows.{breaks_of, joined_at, joins_at, behind_loop}
+use Rattle.imp_flow_rows.specs.declared.node.Leave.{Leave}
+use Rattle.imp_flow_rows.specs.contracts.node.LeavePartialEq.TheImpl as leaves
+use Rattle.imp_flow_rows.specs.contracts.node.LeaveEq.TheImpl.Laws as laws
+use Rattle.imp_flow_rows.specs.NodeRows.{breaks_of, joined_at, joins_at, behind_loop}
 use Rattle.imp_flow.specs.Changed.{last_leave, same_ends, same_leaves}
-use Rattle.plain_values.proofs.Lists.{get_last, get_some, one_more}
-use Rattle.flow_rows.proofs.LeaveLemmas.{front_at, break_at}
+use Rattle.base_values.proofs.Lists.{get_last, get_some, one_more}
+use Rattle.imp_flow_rows.proofs.LeaveLemmas.{front_at, break_at}
 use Rattle.imp_flow.proofs.EnteredLemmas.{get_front}
 use Rattle.imp_flow.proofs.ChangedLeaves.{Split, none, some, split, last_behind, count_breaks, SameLeaves, same_but_last, leaping, found_leap, leap_there}
 
@@ -106,7 +106,7 @@ same_count n ls ks d (suc i) (suc j) h k a e =
     let c = count_breaks ks in
     ap suc (item_once (breaks_of ks) d j i (omega arith) (omega (arith, slice_get_within ks i l.0 m)) (f ∙ break_at ls i l.0 l.1 ∙ sym (break_at ks i l.0 m)))
 
-module _ (w : List Frame) (n : ℕ) where
+module _ (w : List NameFrame) (n : ℕ) where
   abbrev joined_row : Bool → List Leave → ℕ → Point → Row
   joined_row stays ls i p = Joins stays (name w (joined_at n (breaks_of ls) i)) n w p
 

@@ -4,13 +4,13 @@ use Rattle.std.proofs.lemmas.Option.{same_Some}
 use Rattle.std.proofs.Common.{◌≡◌, ◌≢◌, ℕ, zero, suc, ◌<◌, if◌then◌else◌, nat_lt, List, [], ◌∷◌, ◌++◌, length, Option, Some, None, Bool, true, false, refl, sym, ap, subst, ◌∙◌, arith}
 use Rattle.imp_slots.specs.Plain.{Guard}
 use Rattle.batch_meaning.specs.Places.{if_some}
-use Rattle.plain_values.proofs.Cases.{by_test}
-use Rattle.cell_names.specs.declared.frame.Frame.{Frame}
+use Rattle.base_values.proofs.Cases.{by_test}
+use Rattle.cell_names.specs.declared.frame.NameFrame.{NameFrame}
 use Rattle.cell_names.specs.declared.frame.Point.TheVariants.{Leap}
 use Rattle.cell_rows.specs.Names.{next_place, place_of, item}
 use Rattle.cell_rows.specs.Rows.{Row}
-use Rattle.flow_rows.specs.declared.node.Leave.{Leave}
-use Rattle.flow_rows.specs.NodeRows.{breaks_of, fronts_of, joined_at, joins_at, behind_loop}
+use Rattle.imp_flow_rows.specs.declared.node.Leave.{Leave}
+use Rattle.imp_flow_rows.specs.NodeRows.{breaks_of, fronts_of, joined_at, joins_at, behind_loop}
 use Rattle.imp_flow.specs.Changed.{last_of, last_leave}
 
 last_of_behind : (y : Leave) (xs : List Leave) (l : Leave) → last_of y (xs ++ l ∷ []) ≡ (l, y ∷ xs)
@@ -76,7 +76,7 @@ joined_kept : (n : ℕ) (ls ks : List Leave) → SameLeaves ls ks → (i : ℕ) 
 joined_kept n ls ks s zero h = refl
 joined_kept n ls ks s (suc i) h = ap (Leap n) (s.breaks i h)
 
-module _ (w : List Frame) (n : ℕ) where
+module _ (w : List NameFrame) (n : ℕ) where
   joins_kept : (stays : Bool) (ls ks : List Leave) → SameLeaves ls ks → (i : ℕ) → i < length ls → joins_at w stays n ls i ≡ joins_at w stays n ks i
   joins_kept stays ls ks s i h = rw (s.fronts, joined_kept n ls ks s i h) refl
 

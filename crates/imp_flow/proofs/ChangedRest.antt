@@ -5,7 +5,7 @@ use Rattle.std.specs.Prelude.{if◌then◌else◌}
 use Rattle.std.specs.Option.{option_map}
 use Rattle.std.specs.BTreeSet.{contains, IsOrdered}
 use Rattle.std.specs.Ordering.{nat_cmp}
-use Rattle.plain_values.proofs.Cases.{by_test}
+use Rattle.base_values.proofs.Cases.{by_test}
 use Rattle.imp_syntax.specs.Plain.{Procedure, Statement}
 use Rattle.imp_syntax.specs.Plain as tree
 use Rattle.imp_slots.specs.Plain.{Guard, Invoke}
@@ -16,31 +16,31 @@ use Rattle.imp_check.specs.Slots.{routines_of}
 use Rattle.imp_check.specs.Entries.{calls_here, entries_of, entry_of, sites_in}
 use Rattle.imp_check.specs.declared.entry.BlockEnds.{BlockEnds}
 use Rattle.std.specs.Bool.{OnTrue}
-use Rattle.program_table.specs.Changes.{overlay}
-use Rattle.program_table.specs.declared.change.Put.{Put}
+use Rattle.imp_table.specs.Changes.{overlay}
+use Rattle.imp_table.specs.declared.change.Put.{Put}
 use Rattle.imp_check.specs.declared.entry.Entry as known
 use Rattle.imp_check.specs.declared.entry.SlotForm.{SlotForm}
 use Rattle.imp_check.specs.declared.entry.SlotForm.TheVariants as form
 use Rattle.imp_check.proofs.PutLemmas.{same}
-use Rattle.program_table.proofs.OverlayLemmas.{put_numbers, overlay_other, overlay_kept}
+use Rattle.imp_table.proofs.OverlayLemmas.{put_numbers, overlay_other, overlay_kept}
 use Rattle.imp_check.proofs.StandLemmas.{place_there, site_there}
 use Rattle.imp_check.proofs.BreakLemmas.{Has, loop_named}
-use Rattle.batch_meaning.specs.Batch.{Engine}
+use Rattle.batch_meaning.specs.Batch.{LoopOptions}
 use Rattle.call_contexts.specs.Places.{is_loop}
 use Rattle.call_contexts.proofs.Looped.{loop_there}
 use Rattle.cell_names.specs.declared.frame.Point.{Point}
 use Rattle.cell_names.specs.declared.frame.Point.TheVariants.{Entry, Body}
-use Rattle.flow_rows.specs.Shapes.{Shape}
-use Rattle.flow_rows.specs.Shapes as shape
-use Rattle.flow_rows.specs.Entered.{Table, behind_or, leave_at, front_in, front_point, end_of, end_in, branching, shape_from, known_in, node_by}
-use Rattle.imp_flow.specs.Plans.{Plan, plan_of, marks_at, loops_at}
+use Rattle.imp_flow_rows.specs.Shapes.{Shape}
+use Rattle.imp_flow_rows.specs.Shapes as shape
+use Rattle.imp_flow_rows.specs.Entered.{Table, behind_or, leave_at, front_in, front_point, end_of, end_in, branching, shape_from, known_in, node_by}
+use Rattle.imp_flow.specs.Plans.{Plan, plan_of, thresholds_at, loops_at}
 use Rattle.imp_flow.specs.Changed.{AreChanged, Stays, is_looping}
 use Rattle.imp_flow.specs.declared.search.Search.{Search}
 use Rattle.imp_flow.specs.Searches.{left_of, left_by, EndsAlike, GoesOn, IsLooked, AllLooked, ArePutsLooked, AreCallersLooked, AreLoopsLooked}
 use Rattle.imp_flow.proofs.EnteredLemmas.{node_found, node_gone}
 use Rattle.imp_flow.proofs.ChangedStays.{none_stays}
 use Rattle.imp_flow.proofs.ChangedSet.{are_changed, puts_looked_more, callers_looked_more}
-use Rattle.imp_flow.proofs.Alike.{unlooped, AreMarksAlike, alike_stays}
+use Rattle.imp_flow.proofs.Alike.{unlooped, AreThresholdsAlike, alike_stays}
 use Rattle.std.proofs.lemmas.Option.{same_Some}
 
 -- Whether something of a change has a number, and whether a break of it leaves a loop.
@@ -131,7 +131,7 @@ ends old new k a b true e f h = record { last = b.last; before = last_of (slice_
     last_of (Some p) c e = let q : ends_of p.body ≡ c = cc in ap (λ (z : BlockEnds). Some z.last) q
 
 -- Two programs of which the second has these entries over the first, and a search through them.
-module _ (ps qs : List Procedure) (puts : List Put) (engine : Engine) (old_checked : IsChecked (routines_of ps)) (old_numbered : AreNumbered ps) (new_checked : IsChecked (routines_of qs)) (new_numbered : AreNumbered qs) (made : (n : ℕ) → entry_of (entries_of qs) n ≡ overlay puts (entry_of (entries_of ps)) n) where
+module _ (ps qs : List Procedure) (puts : List Put) (engine : LoopOptions) (old_checked : IsChecked (routines_of ps)) (old_numbered : AreNumbered ps) (new_checked : IsChecked (routines_of qs)) (new_numbered : AreNumbered qs) (made : (n : ℕ) → entry_of (entries_of qs) n ≡ overlay puts (entry_of (entries_of ps)) n) where
   abbrev old : Plan
   old = plan_of (routines_of ps) engine
 
@@ -174,8 +174,8 @@ module _ (ps qs : List Procedure) (puts : List Put) (engine : Engine) (old_check
           | inr a ↦ inl (called a)
         ]
 
-    -- a statement that marks do not count for, or at which the search looked
-    marked : (n : ℕ) (x : known.Entry) → entry_of (entries_of qs) n ≡ Some x → IsLooked old new s n ⊎ AreMarksAlike engine (marks_at old x.context.proc) (marks_at new x.context.proc) (node_by qs x)
+    -- a statement that thresholds do not count for, or at which the search looked
+    marked : (n : ℕ) (x : known.Entry) → entry_of (entries_of qs) n ≡ Some x → IsLooked old new s n ⊎ AreThresholdsAlike engine (thresholds_at old x.context.proc) (thresholds_at new x.context.proc) (node_by qs x)
     marked n x e = elim (cases_lt engine.widening.delay engine.budget) [
       | inr l ↦ inr (inr (inl l))
       | inl l ↦ elim (looked_loops l x.context.proc (place_there qs n x e)) [
@@ -184,7 +184,7 @@ module _ (ps qs : List Procedure) (puts : List Put) (engine : Engine) (old_check
       ]
     ]
       where
-        go : (b : Bool) → is_loop x.part ≡ b → AllLooked old new s (loops_at new x.context.proc) → IsLooked old new s n ⊎ AreMarksAlike engine (marks_at old x.context.proc) (marks_at new x.context.proc) (node_by qs x)
+        go : (b : Bool) → is_loop x.part ≡ b → AllLooked old new s (loops_at new x.context.proc) → IsLooked old new s n ⊎ AreThresholdsAlike engine (thresholds_at old x.context.proc) (thresholds_at new x.context.proc) (node_by qs x)
         go true t a = let k = loop_there qs n x new_numbered e t in inl (a.at k.0 n k.1)
         go false t a = inr (inr (inr (no_shape (known_in qs) (end_in qs x.context.proc) x x.form t)))
 
@@ -227,7 +227,7 @@ pub record AllDone (ps qs : List Procedure) (puts : List Put) (old new : Plan) (
   pub further : GoesOn old new t u
   pub at_loops : old.engine.widening.delay < old.engine.budget → (k : ℕ) → k < length qs → AreLoopsLooked old new u k
 
-pub all_found : (ps qs : List Procedure) (puts : List Put) (engine : Engine) (old new : Plan) (s t u : Search) (ns : List ℕ) → old ≡ plan_of (routines_of ps) engine → new ≡ plan_of (routines_of qs) engine → AreNumbered ps → AreNumbered qs → ((n : ℕ) → entry_of (entries_of qs) n ≡ overlay puts (entry_of (entries_of ps)) n) → AllDone ps qs puts old new s t u → IsOrdered nat_cmp u.changed → ns ≡ u.changed.keys → AreChanged (plan_of (routines_of ps) engine) (plan_of (routines_of qs) engine) ns
+pub all_found : (ps qs : List Procedure) (puts : List Put) (engine : LoopOptions) (old new : Plan) (s t u : Search) (ns : List ℕ) → old ≡ plan_of (routines_of ps) engine → new ≡ plan_of (routines_of qs) engine → AreNumbered ps → AreNumbered qs → ((n : ℕ) → entry_of (entries_of qs) n ≡ overlay puts (entry_of (entries_of ps)) n) → AllDone ps qs puts old new s t u → IsOrdered nat_cmp u.changed → ns ≡ u.changed.keys → AreChanged (plan_of (routines_of ps) engine) (plan_of (routines_of qs) engine) ns
 all_found ps qs puts engine old new s t u ns eo en np nq made done o e = go (subst (λ (z : Plan). AllDone ps qs puts (plan_of (routines_of ps) engine) z s t u) en (subst (λ (z : Plan). AllDone ps qs puts z new s t u) eo done))
   where
     go : AllDone ps qs puts (plan_of (routines_of ps) engine) (plan_of (routines_of qs) engine) s t u → AreChanged (plan_of (routines_of ps) engine) (plan_of (routines_of qs) engine) ns

@@ -1,20 +1,20 @@
 -- The rows of one statement's points, in all paths, and what of them is kept by another statement.
 use Rattle.std.proofs.Common.{◌≡◌, ◌≢◌, ℕ, zero, suc, ℤ, List, [], ◌∷◌, Option, Some, None, Bool, true, false, ◌&&◌, ◌||◌, MatchBool, refl}
 use Rattle.std.specs.Bool.{Decides}
-use Rattle.batch_meaning.specs.Batch.{Engine}
-use Rattle.cell_names.specs.declared.frame.Frame.{Frame}
-use Rattle.cell_names.specs.declared.frame.Frame.TheVariants.{InCall, InLoop}
+use Rattle.batch_meaning.specs.Batch.{LoopOptions}
+use Rattle.cell_names.specs.declared.frame.NameFrame.{NameFrame}
+use Rattle.cell_names.specs.declared.frame.NameFrame.TheVariants.{InCall, InLoop}
 use Rattle.cell_names.specs.declared.frame.Point.{Point}
 use Rattle.cell_names.specs.declared.frame.Point.TheVariants.{Entry, Then, Else, Body, Post, Iterate, Fix, Exit, Leap}
 use Rattle.cell_rows.specs.Rows.{Row}
-use Rattle.flow_rows.specs.Shapes.{Node}
-use Rattle.flow_rows.specs.NodeRows.{post_at, enter_at, branch_at, turn_at, next_at, fix_at, exit_at, leap_at}
+use Rattle.imp_flow_rows.specs.Shapes.{Node}
+use Rattle.imp_flow_rows.specs.NodeRows.{post_at, enter_at, branch_at, turn_at, next_at, fix_at, exit_at, leap_at}
 use Rattle.imp_flow.specs.Owners.{owner}
 use Rattle.imp_flow.specs.Changed.{is_start}
 
 -- The row of a point of a statement. None is of the start of main.
-module _ (engine : Engine) (ms : List ℤ) where
-  abbrev pub part : Node → List Frame → Point → Option Row
+module _ (engine : LoopOptions) (ms : List ℤ) where
+  abbrev pub part : Node → List NameFrame → Point → Option Row
   part x [] Entry = None
   part x (InCall n ∷ w) Entry = enter_at w x
   part x (InLoop n k ∷ w) Entry = None
@@ -31,12 +31,12 @@ module _ (engine : Engine) (ms : List ℤ) where
   part x w (Leap n k) = leap_at w k x
 
 -- All rows are kept.
-pub record Kept (f g : List Frame → Point → Option Row) : Type 0 where
-  pub all : (w : List Frame) (p : Point) (r : Row) → f w p ≡ Some r → g w p ≡ Some r
+pub record Kept (f g : List NameFrame → Point → Option Row) : Type 0 where
+  pub all : (w : List NameFrame) (p : Point) (r : Row) → f w p ≡ Some r → g w p ≡ Some r
 
 -- A row of a point of the statement n is not.
-pub record Lost (n : ℕ) (f g : List Frame → Point → Option Row) : Type 0 where
-  pub path : List Frame
+pub record Lost (n : ℕ) (f g : List NameFrame → Point → Option Row) : Type 0 where
+  pub path : List NameFrame
   pub point : Point
   pub row : Row
   pub owned : owner path point ≡ n
@@ -81,21 +81,21 @@ mapped_no (no h) k = no (k h)
 abbrev pub Keeps : Option Row → Option Row → Type 0
 Keeps a b = (r : Row) → a ≡ Some r → b ≡ Some r
 
-module _ (engine : Engine) (ms os : List ℤ) (x y : Node) where
+module _ (engine : LoopOptions) (ms os : List ℤ) (x y : Node) where
   pub record Rows : Type 0 where
-    pub enter : (w : List Frame) → Keeps (enter_at w x) (enter_at w y)
-    pub branch : (w : List Frame) (h : Bool) → Keeps (branch_at w h x) (branch_at w h y)
-    pub turn : (w : List Frame) (k : ℕ) → Keeps (turn_at w engine k x) (turn_at w engine k y)
-    pub post : (w : List Frame) → Keeps (post_at w x) (post_at w y)
-    pub next : (w : List Frame) (k : ℕ) → Keeps (next_at w engine ms k x) (next_at w engine os k y)
-    pub fix : (w : List Frame) → Keeps (fix_at w x) (fix_at w y)
-    pub exit : (w : List Frame) → Keeps (exit_at w x) (exit_at w y)
-    pub leap : (w : List Frame) (b : ℕ) → Keeps (leap_at w b x) (leap_at w b y)
+    pub enter : (w : List NameFrame) → Keeps (enter_at w x) (enter_at w y)
+    pub branch : (w : List NameFrame) (h : Bool) → Keeps (branch_at w h x) (branch_at w h y)
+    pub turn : (w : List NameFrame) (k : ℕ) → Keeps (turn_at w engine k x) (turn_at w engine k y)
+    pub post : (w : List NameFrame) → Keeps (post_at w x) (post_at w y)
+    pub next : (w : List NameFrame) (k : ℕ) → Keeps (next_at w engine ms k x) (next_at w engine os k y)
+    pub fix : (w : List NameFrame) → Keeps (fix_at w x) (fix_at w y)
+    pub exit : (w : List NameFrame) → Keeps (exit_at w x) (exit_at w y)
+    pub leap : (w : List NameFrame) (b : ℕ) → Keeps (leap_at w b x) (leap_at w b y)
 
   pub kept_by : Rows → Kept (part engine ms x) (part engine os y)
   kept_by h = record { all = all }
     where
-      all : (w : List Frame) (p : Point) → Keeps (part engine ms x w p) (part engine os y w p)
+      all : (w : List NameFrame) (p : Point) → Keeps (part engine ms x w p) (part engine os y w p)
       all [] Entry = λ r e. e
       all (InCall n ∷ w) Entry = h.enter w
       all (InLoop n k ∷ w) Entry = λ r e. e

@@ -7,11 +7,11 @@ use Rattle.std.specs.Cmp.{nat_cmp_total}
 use Rattle.std.proofs.Common.{◌≡◌, inl, inr, ℕ, ◌+◌, ◌<◌, ◌==◌, ◌||◌, ◌&&◌, not, List, [], ◌∷◌, reverse, Some, Bool, true, false, MatchBool, slice_get, refl, sym, ap, subst, ◌∙◌, arith}
 use Rattle.std.specs.BTreeSet.{contains, IsOrdered}
 use Rattle.std.specs.Ordering.{nat_cmp}
-use Rattle.plain_values.specs.Equal.{same, same_equal, same_Decides}
+use Rattle.base_values.specs.Equal.{same, same_equal, same_Decides}
 use Rattle.imp_slots.specs.PartCodes.{layout_code}
 use Rattle.batch_meaning.specs.Places.{main_layout}
-use Rattle.plain_values.proofs.Cases.{by_test}
-use Rattle.cell_names.specs.declared.frame.Frame.{Frame}
+use Rattle.base_values.proofs.Cases.{by_test}
+use Rattle.cell_names.specs.declared.frame.NameFrame.{NameFrame}
 use Rattle.cell_names.specs.declared.frame.Point.{Point}
 use Rattle.cell_names.specs.declared.frame.Point.TheVariants.{Entry, Then, Else, Body, Post, Iterate, Fix, Exit, Leap}
 use Rattle.cell_rows.specs.Rows.{Row, Init}
@@ -22,7 +22,7 @@ use Rattle.imp_flow.specs.Changed.{is_start, IsChanged, IsTold, AreChanged, Stay
 use Rattle.imp_syntax.specs.Plain.{Procedure}
 use Rattle.imp_slots.specs.Fits.{IsChecked}
 use Rattle.imp_check.specs.Entries.{entries_of, sites_in}
-use Rattle.program_table.specs.declared.change.Put.{Put}
+use Rattle.imp_table.specs.declared.change.Put.{Put}
 use Rattle.imp_flow.specs.declared.search.Search.{Search}
 use Rattle.imp_flow.specs.Searches.{left_by, IsSearch, GoesOn, IsLooked, AllLooked, ArePutsLooked, AreCallersLooked, AreLoopsLooked}
 use Rattle.std.proofs.lemmas.Option.{same_Some}
@@ -90,7 +90,7 @@ module _ (old new : Plan) where
     only n f true e = is.only n e
     only n f false e = let t = adds_true (has n) kept n m (more n) (adds n) e f in subst (IsChanged old new) (sym t.1) (changed kept t.0 told)
 
-  start_is : (w : List Frame) (p : Point) → is_start w p ≡ true → (w ≡ []) × (p ≡ Entry)
+  start_is : (w : List NameFrame) (p : Point) → is_start w p ≡ true → (w ≡ []) × (p ≡ Entry)
   start_is [] Entry h = (refl, refl)
   start_is [] Body h = absurd cc
   start_is [] (Then n) h = absurd cc
@@ -103,9 +103,9 @@ module _ (old new : Plan) where
   start_is (f ∷ w) p h = absurd cc
 
   module _ (s : Search) (is : IsSearch old new s) (rest : (n : ℕ) → contains nat_cmp s.changed n ≡ false → Stays old new n) where
-    unchanged_start : (w : List Frame) (p : Point) (r : Row) → contains nat_cmp s.changed (owner w p) ≡ false → w ≡ [] → p ≡ Entry → flat_row old.engine (reverse old.program) w p ≡ Some r → flat_row new.engine (reverse new.program) w p ≡ Some r
+    unchanged_start : (w : List NameFrame) (p : Point) (r : Row) → contains nat_cmp s.changed (owner w p) ≡ false → w ≡ [] → p ≡ Entry → flat_row old.engine (reverse old.program) w p ≡ Some r → flat_row new.engine (reverse new.program) w p ≡ Some r
     unchanged_start w p r h a b had =
-        let P : List Frame → Point → Type 0 = λ w p. contains nat_cmp s.changed (owner w p) ≡ false → flat_row old.engine (reverse old.program) w p ≡ Some r → flat_row new.engine (reverse new.program) w p ≡ Some r in
+        let P : List NameFrame → Point → Type 0 = λ w p. contains nat_cmp s.changed (owner w p) ≡ false → flat_row old.engine (reverse old.program) w p ≡ Some r → flat_row new.engine (reverse new.program) w p ≡ Some r in
         let q : P [] Entry = λ h had. ap (λ l. Some (Init l)) (sym (is.start h)) ∙ had in
         (subst (λ w. P w p) (sym a) (subst (P []) (sym b) q)) h had
 

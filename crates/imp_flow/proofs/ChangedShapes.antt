@@ -4,7 +4,7 @@ use Rattle.std.proofs.lemmas.Slice.Eq.{slice_eq-Decides}
 use Rattle.std.proofs.Common.{◌≡◌, ◌≢◌, ℕ, zero, suc, ◌<◌, ◌==◌, ◌&&◌, if◌then◌else◌, nat_lt, nat_le, ℤ, List, [], ◌∷◌, length, Option, Some, None, Bool, true, false, slice_get, refl, sym, ap, ap₂, subst, ◌∙◌, arith}
 use Rattle.std.specs.Cmp.Lexicographic.{pointwise}
 use Rattle.std.specs.Ordering.{int_eq}
-use Rattle.plain_values.specs.Equal.{same, same_Decides}
+use Rattle.base_values.specs.Equal.{same, same_Decides}
 use Rattle.imp_slots.specs.Plain.{Act as Does, Guard, Entering, Returning, Invoke}
 use Rattle.imp_slots.specs.Fits.{Distinct}
 use Rattle.imp_slots.specs.ActionViews.{act_of, stmt_of, stmt_of-act_of}
@@ -12,10 +12,10 @@ use Rattle.imp_slots.specs.Codes.{guard_code}
 use Rattle.imp_slots.specs.PartCodes.{entering_code, invoke_code}
 use Rattle.imp_slots.specs.EnumCodes.{stmt_coded}
 use Rattle.imp_slots.specs.declared.actions.SlotStmt.{SlotStmt}
-use Rattle.batch_meaning.specs.Batch.{Engine}
+use Rattle.batch_meaning.specs.Batch.{LoopOptions}
 use Rattle.batch_meaning.specs.Places.{if_some}
-use Rattle.cell_names.specs.declared.frame.Frame.{Frame}
-use Rattle.cell_names.specs.declared.frame.Frame.TheVariants.{InCall, InLoop}
+use Rattle.cell_names.specs.declared.frame.NameFrame.{NameFrame}
+use Rattle.cell_names.specs.declared.frame.NameFrame.TheVariants.{InCall, InLoop}
 use Rattle.cell_names.specs.declared.frame.Point.{Point}
 use Rattle.cell_names.specs.declared.frame.Point.TheVariants.{Entry, Then, Post, Iterate, Fix, Exit, Leap}
 use Rattle.cell_names.specs.contracts.frame.PointPartialEq.TheImpl as points
@@ -23,9 +23,9 @@ use Rattle.cell_names.specs.Paths.{CellName}
 use Rattle.cell_names.proofs.Telling.{point_decides}
 use Rattle.cell_rows.specs.Names.{name}
 use Rattle.cell_rows.specs.Rows.{Row, One, Two, Fixed, Joins, Posts, Assumes, Enters, Exits, JoinsBoth, Leaves, Widens, Unary, Binary, next_operation}
-use Rattle.flow_rows.specs.declared.node.Leave.{Leave}
-use Rattle.flow_rows.specs.Shapes.{Node, Shape, Act, If, While, Call}
-use Rattle.flow_rows.specs.NodeRows.{breaks_of, fronts_of, joined_at, iterate_at, where_so, joins_at, behind_loop, post_by, enter_by, branch_by, fix_at}
+use Rattle.imp_flow_rows.specs.declared.node.Leave.{Leave}
+use Rattle.imp_flow_rows.specs.Shapes.{Node, Shape, Act, If, While, Call}
+use Rattle.imp_flow_rows.specs.NodeRows.{breaks_of, fronts_of, joined_at, iterate_at, where_so, joins_at, behind_loop, post_by, enter_by, branch_by, fix_at}
 use Rattle.imp_flow.specs.Changed.{is_bare, same_leaves, same_rounds, same_shapes}
 use Rattle.imp_flow.proofs.ChangedRows.{part, Kept, Lost, Keeps, kept_by, Verdict, no, verdict, and_then, or_else, told, mapped, mapped_no}
 use Rattle.imp_flow.proofs.ChangedLeaves.{SameLeaves, behind_kept, leap_kept}
@@ -56,21 +56,21 @@ abbrev IsCall : Shape → Entering → Type 0
 IsCall (Call j c (Some e)) i = j.entering ≡ i
 IsCall _ i = ⊥
 
-point_of : (w : List Frame) (p q : Point) → name w q ≡ name w p → q ≡ p
+point_of : (w : List NameFrame) (p q : Point) → name w q ≡ name w p → q ≡ p
 point_of w p q e = ap (λ x. x.point) e
 
-joins_other : (w : List Frame) (n : ℕ) (ks : List Leave) (i : ℕ) (op : Unary) (x : CellName) → joins_at w false n ks i ≡ Some (One op x) → ⊥
+joins_other : (w : List NameFrame) (n : ℕ) (ks : List Leave) (i : ℕ) (op : Unary) (x : CellName) → joins_at w false n ks i ≡ Some (One op x) → ⊥
 joins_other w n ks i op x e = go (slice_get (fronts_of ks) i) e
   where
     go : (o : Option Point) → if_some o (λ p. Some (Joins false (name w (joined_at n (breaks_of ks) i)) n w p)) ≡ Some (One op x) → ⊥
     go None e = cc
     go (Some p) e = cc
 
-behind_other : (w : List Frame) (n : ℕ) (g : Guard) (ks : List Leave) (k : ℕ) (a : Does) (x : CellName) → behind_loop w n g ks k ≡ Some (One (Posts a) x) → ⊥
+behind_other : (w : List NameFrame) (n : ℕ) (g : Guard) (ks : List Leave) (k : ℕ) (a : Does) (x : CellName) → behind_loop w n g ks k ≡ Some (One (Posts a) x) → ⊥
 behind_other w n g ks zero a x e = cc
 behind_other w n g ks (suc i) a x e = joins_other w n ks i (Posts a) x e
 
-behind_guard : (w : List Frame) (n : ℕ) (g h : Guard) (ks : List Leave) (k : ℕ) (x : CellName) → behind_loop w n h ks k ≡ Some (One (Assumes g false) x) → h ≡ g
+behind_guard : (w : List NameFrame) (n : ℕ) (g h : Guard) (ks : List Leave) (k : ℕ) (x : CellName) → behind_loop w n h ks k ≡ Some (One (Assumes g false) x) → h ≡ g
 behind_guard w n g h ks zero x e = cc
 behind_guard w n g h ks (suc i) x e = absurd (joins_other w n ks i (Assumes g false) x e)
 
@@ -99,7 +99,7 @@ where_same : (t : Bool) (x y : Row) → where_so t x ≡ Some y → x ≡ y
 where_same true x y e = same_Some x y e
 where_same false x y e = absurd cc
 
-module _ (engine : Engine) (ms os : List ℤ) (n a b : ℕ) (us vs : List ℕ) where
+module _ (engine : LoopOptions) (ms os : List ℤ) (n a b : ℕ) (us vs : List ℕ) where
   -- a statement of the old program, and one of the new
   abbrev X : Point → Shape → Node
   X p s = record { stmt = n; place = a; loops = us; front = p; shape = s }
@@ -107,10 +107,10 @@ module _ (engine : Engine) (ms os : List ℤ) (n a b : ℕ) (us vs : List ℕ) w
   abbrev Y : Point → Shape → Node
   Y q t = record { stmt = n; place = b; loops = vs; front = q; shape = t }
 
-  abbrev F : Point → Shape → List Frame → Point → Option Row
+  abbrev F : Point → Shape → List NameFrame → Point → Option Row
   F p s = part engine ms (X p s)
 
-  abbrev G : Point → Shape → List Frame → Point → Option Row
+  abbrev G : Point → Shape → List NameFrame → Point → Option Row
   G q t = part engine os (Y q t)
 
   while_only : (p q : Point) (t : Shape) → fix_at [] (Y q t) ≡ Some (Fixed n [] [] p) → (q ≡ p) × IsWhile t
@@ -280,7 +280,7 @@ module _ (engine : Engine) (ms os : List ℤ) (n a b : ℕ) (us vs : List ℕ) w
         (λ l k t. (e, joined_below ms k (early l k t) ∙ sym (joined_below os k (early l k t))))
         (λ l. mapped
         (told ms os (pointwise int_eq ms os) (slice_eq-Decides Decides-int_eq ms os (pointwise int_eq ms os) refl)
-        (λ d. lost_round engine.widening.delay g h x y ls ks (late l) (λ f k. d (marks (sym (widened ms) ∙ k ∙ widened os)))))
+        (λ d. lost_round engine.widening.delay g h x y ls ks (late l) (λ f k. d (thresholds (sym (widened ms) ∙ k ∙ widened os)))))
         (λ f k t. (e, ap (λ m. next_operation engine m k) f)))))
       where
         none : (engine.budget == 0) ≡ true → (k : ℕ) → nat_lt k engine.budget ≡ true → ⊥
@@ -295,11 +295,11 @@ module _ (engine : Engine) (ms os : List ℤ) (n a b : ℕ) (us vs : List ℕ) w
         late : nat_le engine.budget engine.widening.delay ≡ false → nat_lt engine.widening.delay engine.budget ≡ true
         late l = grind (arith, nat_tests)
 
-        marks : Widens ms ≡ Widens os → ms ≡ os
-        marks e = cc
+        thresholds : Widens ms ≡ Widens os → ms ≡ os
+        thresholds e = cc
 
     -- loops: all their rows
-    kept_next : (w : List Frame) (k : ℕ) (x y : Point) (t : Bool) → nat_lt k engine.budget ≡ t → SameRounds x y →
+    kept_next : (w : List NameFrame) (k : ℕ) (x y : Point) (t : Bool) → nat_lt k engine.budget ≡ t → SameRounds x y →
         Keeps (where_so t (Two (next_operation engine ms k) (name w (iterate_at n p k)) (name (InLoop n k ∷ w) x))) (where_so t (Two (next_operation engine os k) (name w (iterate_at n p k)) (name (InLoop n k ∷ w) y)))
     kept_next w k x y true h s r e =
         let f = s k h in

@@ -2,12 +2,12 @@
 use Rattle.std.proofs.Common.{◌≡◌, ℕ, zero, suc, ◌&&◌, ℤ, cond, List, [], ◌∷◌, ◌++◌, reverse, Option, Some, None, true, false, refl, sym, ap, subst, ◌∙◌}
 use Rattle.imp_slots.specs.Plain.{Code, Stop, Simple, If, While, Call, Break, Routine, Invoke, code_numbers}
 use Rattle.imp_slots.specs.Fits.{Distinct, IsChecked, routine_numbers}
-use Rattle.batch_meaning.specs.Batch.{Engine}
+use Rattle.batch_meaning.specs.Batch.{LoopOptions}
 use Rattle.batch_meaning.specs.Places.{if_some}
-use Rattle.plain_values.proofs.Cases.{by_test}
-use Rattle.plain_values.proofs.Members.{Member, here, there, Each, none_there, each_more, each_both}
-use Rattle.cell_names.specs.declared.frame.Frame.{Frame}
-use Rattle.cell_names.specs.declared.frame.Frame.TheVariants.{InCall, InLoop}
+use Rattle.base_values.proofs.Cases.{by_test}
+use Rattle.base_values.proofs.Members.{Member, here, there, Each, none_there, each_more, each_both}
+use Rattle.cell_names.specs.declared.frame.NameFrame.{NameFrame}
+use Rattle.cell_names.specs.declared.frame.NameFrame.TheVariants.{InCall, InLoop}
 use Rattle.cell_names.specs.declared.frame.Point.{Point}
 use Rattle.cell_names.specs.declared.frame.Point.TheVariants.{Entry, Then, Else, Body, Post, Iterate, Fix, Exit, Leap}
 use Rattle.cell_names.specs.contracts.frame.PointPartialEq.TheImpl as points
@@ -17,10 +17,10 @@ use Rattle.cell_rows.specs.Flat.{flat_row}
 use Rattle.cell_rows.proofs.Checked.{distinct_part, break_part, once_nested}
 use Rattle.imp_slots.proofs.Distinct.{left_once, right_once}
 use Rattle.cell_rows.proofs.FlatOnce.{once_reversed}
-use Rattle.flow_rows.specs.Shapes.{Node, Shape}
-use Rattle.flow_rows.specs.Shapes as shape
+use Rattle.imp_flow_rows.specs.Shapes.{Node, Shape}
+use Rattle.imp_flow_rows.specs.Shapes as shape
 use Rattle.imp_flow.specs.Nodes.{shape_of, node_in, block_nodes, nodes_of, node_of}
-use Rattle.imp_flow.specs.Plans.{Plan, marks_at, plan_nodes, node_row}
+use Rattle.imp_flow.specs.Plans.{Plan, thresholds_at, plan_nodes, node_row}
 use Rattle.imp_flow.specs.Owners.{owner}
 use Rattle.imp_flow.specs.Changed.{is_start, IsChanged, Stays, is_bare, same_shapes}
 use Rattle.imp_flow.proofs.Ties.{breaks_are, rows_tie}
@@ -70,13 +70,13 @@ nothing None = refl
 nothing (Some x) = refl
 
 -- The row of a point is that of its statement's node.
-abbrev rows_by : Engine → Plan → Option Node → List Frame → Point → Option Row
-rows_by engine plan o w p = if_some o (λ x. part engine (marks_at plan x.place) x w p)
+abbrev rows_by : LoopOptions → Plan → Option Node → List NameFrame → Point → Option Row
+rows_by engine plan o w p = if_some o (λ x. part engine (thresholds_at plan x.place) x w p)
 
-abbrev at_owner : Plan → List Frame → Point → Option Row
+abbrev at_owner : Plan → List NameFrame → Point → Option Row
 at_owner plan w p = rows_by plan.engine plan (node_of (plan_nodes plan) (owner w p)) w p
 
-row_is : (plan : Plan) (w : List Frame) (p : Point) → is_start w p ≡ false → node_row plan w p ≡ at_owner plan w p
+row_is : (plan : Plan) (w : List NameFrame) (p : Point) → is_start w p ≡ false → node_row plan w p ≡ at_owner plan w p
 row_is plan [] Entry h = absurd cc
 row_is plan (InCall n ∷ w) Entry h = refl
 row_is plan (InLoop n k ∷ w) Entry h = sym (nothing (node_of (plan_nodes plan) 0))
@@ -92,11 +92,11 @@ row_is plan w (Fix n) h = refl
 row_is plan w (Exit n) h = refl
 row_is plan w (Leap n k) h = refl
 
-flat_is : (plan : Plan) (w : List Frame) (p : Point) (n : ℕ) → owner w p ≡ n → is_start w p ≡ false → flat_row plan.engine (reverse plan.program) w p ≡ rows_by plan.engine plan (node_of (plan_nodes plan) n) w p
+flat_is : (plan : Plan) (w : List NameFrame) (p : Point) (n : ℕ) → owner w p ≡ n → is_start w p ≡ false → flat_row plan.engine (reverse plan.program) w p ≡ rows_by plan.engine plan (node_of (plan_nodes plan) n) w p
 flat_is plan w p n o h = sym (rows_tie plan w p) ∙ row_is plan w p h ∙ ap (λ n. rows_by plan.engine plan (node_of (plan_nodes plan) n) w p) o
 
 -- no row of a call of nothing
-bare_part : (engine : Engine) (ms : List ℤ) (n a : ℕ) (us : List ℕ) (q : Point) (i : Invoke) (c : ℕ) (w : List Frame) (p : Point) →
+bare_part : (engine : LoopOptions) (ms : List ℤ) (n a : ℕ) (us : List ℕ) (q : Point) (i : Invoke) (c : ℕ) (w : List NameFrame) (p : Point) →
     part engine ms (record { stmt = n; place = a; loops = us; front = q; shape = shape.Call i c None }) w p ≡ None
 bare_part engine ms n a us q i c [] Entry = refl
 bare_part engine ms n a us q i c (InCall m ∷ w) Entry = refl
@@ -113,7 +113,7 @@ bare_part engine ms n a us q i c w (Fix m) = refl
 bare_part engine ms n a us q i c w (Exit m) = refl
 bare_part engine ms n a us q i c w (Leap m k) = refl
 
-bare_shape : (engine : Engine) (ms : List ℤ) (n a : ℕ) (us : List ℕ) (q : Point) (s : Shape) → is_bare s ≡ true → (w : List Frame) (p : Point) →
+bare_shape : (engine : LoopOptions) (ms : List ℤ) (n a : ℕ) (us : List ℕ) (q : Point) (s : Shape) → is_bare s ≡ true → (w : List NameFrame) (p : Point) →
     part engine ms (record { stmt = n; place = a; loops = us; front = q; shape = s }) w p ≡ None
 bare_shape engine ms n a us q (shape.Act s) h w p = absurd cc
 bare_shape engine ms n a us q (shape.If g t e) h w p = absurd cc
@@ -128,16 +128,16 @@ module _ (old new : Plan) (one : old.engine ≡ new.engine) (n : ℕ) where
   abbrev here_new : Option Node
   here_new = node_of (plan_nodes new) n
 
-  abbrev olds : Option Node → List Frame → Point → Option Row
+  abbrev olds : Option Node → List NameFrame → Point → Option Row
   olds = rows_by old.engine old
 
-  abbrev news : Option Node → List Frame → Point → Option Row
+  abbrev news : Option Node → List NameFrame → Point → Option Row
   news = rows_by old.engine new
 
-  old_is : (w : List Frame) (p : Point) → owner w p ≡ n → is_start w p ≡ false → flat_row old.engine (reverse old.program) w p ≡ olds here_old w p
+  old_is : (w : List NameFrame) (p : Point) → owner w p ≡ n → is_start w p ≡ false → flat_row old.engine (reverse old.program) w p ≡ olds here_old w p
   old_is w p o h = flat_is old w p n o h
 
-  new_is : (w : List Frame) (p : Point) → owner w p ≡ n → is_start w p ≡ false → flat_row new.engine (reverse new.program) w p ≡ news here_new w p
+  new_is : (w : List NameFrame) (p : Point) → owner w p ≡ n → is_start w p ≡ false → flat_row new.engine (reverse new.program) w p ≡ news here_new w p
   new_is w p o h = flat_is new w p n o h ∙ ap (λ e. rows_by e new here_new w p) (sym one)
 
   pub kept_stays : (o q : Option Node) → here_old ≡ o → here_new ≡ q → Kept (olds o) (news q) → Stays old new n
@@ -161,23 +161,23 @@ module _ (old new : Plan) (one : old.engine ≡ new.engine) (n : ℕ) where
   pub bare_stays : (x : Node) → here_old ≡ Some x → is_bare x.shape ≡ true → Stays old new n
   bare_stays x e h =
       kept_stays (Some x) here_new e refl
-      (record { all = λ w p r had. let f : None ≡ Some r = sym (bare_shape old.engine (marks_at old x.place) x.stmt x.place x.loops x.front x.shape h w p) ∙ had in absurd cc })
+      (record { all = λ w p r had. let f : None ≡ Some r = sym (bare_shape old.engine (thresholds_at old x.place) x.stmt x.place x.loops x.front x.shape h w p) ∙ had in absurd cc })
 
   -- the statement is gone
   pub gone_changed : (x : Node) → here_old ≡ Some x → is_bare x.shape ≡ false → here_new ≡ None → IsChanged old new n
   gone_changed x e h f =
       let k : x.stmt ≡ n = (found_node (plan_nodes old) n x e).1 in
-      lost_changed (Some x) None e f (subst (λ m. Lost m (olds (Some x)) (news None)) k (lone_lost old.engine (marks_at old x.place) [] x.stmt x.place 0 x.loops [] x.front x.shape h))
+      lost_changed (Some x) None e f (subst (λ m. Lost m (olds (Some x)) (news None)) k (lone_lost old.engine (thresholds_at old x.place) [] x.stmt x.place 0 x.loops [] x.front x.shape h))
 
   -- it is there
   pub told_found : (x y : Node) → here_old ≡ Some x → here_new ≡ Some y → is_bare x.shape ≡ false → AreOnce x.shape → AreOnce y.shape →
-      Verdict (Stays old new n) (IsChanged old new n) (points.ghosts.eq x.front y.front && same_shapes old.engine (marks_at old x.place) (marks_at new y.place) x.shape y.shape)
+      Verdict (Stays old new n) (IsChanged old new n) (points.ghosts.eq x.front y.front && same_shapes old.engine (thresholds_at old x.place) (thresholds_at new y.place) x.shape y.shape)
   told_found x y e f h c d =
       let k : x.stmt ≡ n = (found_node (plan_nodes old) n x e).1 in
       let j : y.stmt ≡ n = (found_node (plan_nodes new) n y f).1 in
-      let v = told_nodes old.engine (marks_at old x.place) (marks_at new y.place) n x.place y.place x.loops y.loops x.front y.front x.shape y.shape h c d in
+      let v = told_nodes old.engine (thresholds_at old x.place) (thresholds_at new y.place) n x.place y.place x.loops y.loops x.front y.front x.shape y.shape h c d in
       let P : Node → Node → Type 0 =
-      λ u z. Verdict (Kept (part old.engine (marks_at old x.place) u) (part old.engine (marks_at new y.place) z)) (Lost n (part old.engine (marks_at old x.place) u) (part old.engine (marks_at new y.place) z)) (points.ghosts.eq x.front y.front && same_shapes old.engine (marks_at old x.place) (marks_at new y.place) x.shape y.shape)
+      λ u z. Verdict (Kept (part old.engine (thresholds_at old x.place) u) (part old.engine (thresholds_at new y.place) z)) (Lost n (part old.engine (thresholds_at old x.place) u) (part old.engine (thresholds_at new y.place) z)) (points.ghosts.eq x.front y.front && same_shapes old.engine (thresholds_at old x.place) (thresholds_at new y.place) x.shape y.shape)
       in
       let number : Node → ℕ → Node = λ u m. record { stmt = m; place = u.place; loops = u.loops; front = u.front; shape = u.shape } in
       let w : P x (number y n) = subst (λ u. P u (number y n)) (ap (number x) (sym k)) v in

@@ -16,24 +16,24 @@ use Rattle.imp_check.specs.Slots.{Resolver, layout_in, code_in, guard_in, callee
 use Rattle.imp_check.specs.Entries.{inside, inside_loop, entry_at, block_entries, procedure_entries, entries_from, entries_of, entry_of, resolver_at, context_at, heads_of, head_of}
 use Rattle.imp_check.specs.declared.entry.Context.{Context}
 use Rattle.imp_check.specs.declared.entry.Entry as known
-use Rattle.imp_check.specs.declared.entry.Head.{Head}
+use Rattle.imp_check.specs.declared.entry.ProcHeader.{ProcHeader}
 use Rattle.imp_check.specs.declared.entry.Which.TheVariants as which
 use Rattle.imp_check.proofs.RebuildLemmas.{In, in_left, in_right, Known, known_left, known_right, found, all_numbers}
 use Rattle.batch_meaning.specs.Places.{from, if_some, main_layout}
 use Rattle.batch_meaning.proofs.Procedures.{look, look_get}
-use Rattle.plain_values.proofs.Cases.{by_test}
-use Rattle.plain_values.proofs.Members.{Member, here, there}
-use Rattle.plain_values.proofs.Members as members
+use Rattle.base_values.proofs.Cases.{by_test}
+use Rattle.base_values.proofs.Members.{Member, here, there}
+use Rattle.base_values.proofs.Members as members
 use Rattle.cell_names.specs.declared.frame.Point.{Point}
 use Rattle.cell_names.specs.declared.frame.Point.TheVariants.{Entry, Then, Else, Body, Post}
 use Rattle.cell_rows.specs.Rows.{last_point}
 use Rattle.cell_rows.proofs.FlatOnce.{once_reversed}
-use Rattle.flow_rows.specs.Shapes.{Node, Shape}
-use Rattle.flow_rows.specs.Shapes as shape
-use Rattle.imp_flow.specs.declared.steps.Step.{Step}
-use Rattle.imp_flow.specs.declared.steps.Step.TheVariants.{Take}
+use Rattle.imp_flow_rows.specs.Shapes.{Node, Shape}
+use Rattle.imp_flow_rows.specs.Shapes as shape
+use Rattle.imp_flow.specs.declared.steps.TargetStep.{TargetStep}
+use Rattle.imp_flow.specs.declared.steps.TargetStep.TheVariants.{Take}
 use Rattle.imp_flow.specs.Nodes.{leaving as leaves, body_end, callee_end, node_in, block_nodes, nodes_of, node_of}
-use Rattle.flow_rows.specs.Entered.{Table, start_of, behind_or, front_in, leave_at, end_of, end_in, head_of as outer_of, loops_up, node_from, known_in, node_by}
+use Rattle.imp_flow_rows.specs.Entered.{Table, start_of, behind_or, front_in, leave_at, end_of, end_in, head_of as outer_of, loops_up, node_from, known_in, node_by}
 use Rattle.imp_flow.specs.Reached.{into_loops}
 use Rattle.imp_flow.proofs.NumberLemmas.{all_numbers as all_nodes, found_there}
 use Rattle.imp_check.proofs.SlotLemmas.{routines_push}
@@ -307,14 +307,14 @@ main_gone ps k h e = go ps k (h ∙ as_many [] ps) e
 abbrev pub ending : (name : List ℕ) → (place : Option Routine) → Option (List ℕ × Point)
 ending x o = if_some o (λ r. if bytes_eq x r.name then Some ([], last_point r.code Entry) else None)
 
-end_at : (es ps : List Procedure) (k : ℕ) (h : Head) (x : List ℕ) → slice_get (heads_of ps) k ≡ Some h → ending x (slice_get (routines_from es ps) k) ≡ (if bytes_eq x h.bare.name then Some ([], behind_or Entry h.body.last) else None)
+end_at : (es ps : List Procedure) (k : ℕ) (h : ProcHeader) (x : List ℕ) → slice_get (heads_of ps) k ≡ Some h → ending x (slice_get (routines_from es ps) k) ≡ (if bytes_eq x h.bare.name then Some ([], behind_or Entry h.body.last) else None)
 end_at es [] k h x e = absurd cc
 end_at es (p ∷ ps) zero h x e =
     ap (λ q. if bytes_eq x p.name then Some ([], q) else None) (last_is (resolver_at es p) p.body Entry None)
-    ∙ ap (λ (z : Head). if bytes_eq x z.bare.name then Some ([], behind_or Entry z.body.last) else None) (same_Some (head_of p) h e)
+    ∙ ap (λ (z : ProcHeader). if bytes_eq x z.bare.name then Some ([], behind_or Entry z.body.last) else None) (same_Some (head_of p) h e)
 end_at es (p ∷ ps) (suc k) h x e = end_at (es ++ p ∷ []) ps k h x e
 
-pub end_there : (ps : List Procedure) (k : ℕ) (h : Head) (x : List ℕ) → slice_get (heads_of ps) k ≡ Some h → ending x (slice_get (routines_of ps) k) ≡ (if bytes_eq x h.bare.name then Some ([], behind_or Entry h.body.last) else None)
+pub end_there : (ps : List Procedure) (k : ℕ) (h : ProcHeader) (x : List ℕ) → slice_get (heads_of ps) k ≡ Some h → ending x (slice_get (routines_of ps) k) ≡ (if bytes_eq x h.bare.name then Some ([], behind_or Entry h.body.last) else None)
 end_there ps k h x e = end_at [] ps k h x e
 
 pub end_gone : (ps : List Procedure) (k : ℕ) (x : List ℕ) → slice_get (heads_of ps) k ≡ None → ending x (slice_get (routines_of ps) k) ≡ None
@@ -330,7 +330,7 @@ into_both : (xs : List ℕ) (n : ℕ) → into_loops (xs ++ n ∷ []) ≡ into_l
 into_both [] n = refl
 into_both (x ∷ xs) n = ap (λ ss. Take x ∷ ss) (into_both xs n)
 
-pub into_more : (at : Table) (most n : ℕ) (ss : List Step) → most ≢ 0 → (ss ++ into_loops (loops_up at (most - 1) (outer_of (at n)))) ++ Take n ∷ [] ≡ ss ++ into_loops (loops_up at most (Some n))
+pub into_more : (at : Table) (most n : ℕ) (ss : List TargetStep) → most ≢ 0 → (ss ++ into_loops (loops_up at (most - 1) (outer_of (at n)))) ++ Take n ∷ [] ≡ ss ++ into_loops (loops_up at most (Some n))
 into_more at zero n ss h = absurd (h refl)
 into_more at (suc most) n ss h =
     let e : suc most - 1 ≡ most = omega arith in
@@ -338,13 +338,13 @@ into_more at (suc most) n ss h =
     ∙ append_assoc ss (into_loops (loops_up at most (outer_of (at n)))) (Take n ∷ [])
     ∙ ap (λ xs. ss ++ xs) (sym (into_both (loops_up at most (outer_of (at n))) n))
 
-pub into_none : (at : Table) (most : ℕ) (ss : List Step) → ss ≡ ss ++ into_loops (loops_up at most None)
+pub into_none : (at : Table) (most : ℕ) (ss : List TargetStep) → ss ≡ ss ++ into_loops (loops_up at most None)
 into_none at zero ss = sym (append-nil ss)
 into_none at (suc most) ss = sym (append-nil ss)
 
-pub into_zero : (at : Table) (most : ℕ) (head : Option ℕ) (ss : List Step) → most ≡ 0 → ss ≡ ss ++ into_loops (loops_up at most head)
+pub into_zero : (at : Table) (most : ℕ) (head : Option ℕ) (ss : List TargetStep) → most ≡ 0 → ss ≡ ss ++ into_loops (loops_up at most head)
 into_zero at zero head ss h = sym (append-nil ss)
 into_zero at (suc most) head ss h = absurd (omega arith)
 
-pub into_nothing : (ss : List Step) → ss ≡ ss ++ into_loops []
+pub into_nothing : (ss : List TargetStep) → ss ≡ ss ++ into_loops []
 into_nothing ss = sym (append-nil ss)

@@ -4,10 +4,10 @@ use Rattle.std.specs.Cmp.Lexicographic.{pointwise}
 use Rattle.std.proofs.lemmas.List.{drop_all}
 use Rattle.std.proofs.Math.Bool.{and-false}
 use Rattle.cell_names.specs.contracts.frame.PointPartialEq.TheImpl as points
-use Rattle.flow_rows.specs.declared.node.Leave.{Leave}
-use Rattle.flow_rows.specs.contracts.node.LeavePartialEq.TheImpl as leaves
+use Rattle.imp_flow_rows.specs.declared.node.Leave.{Leave}
+use Rattle.imp_flow_rows.specs.contracts.node.LeavePartialEq.TheImpl as leaves
 use Rattle.imp_flow.specs.Changed.{last_of, same_leaves}
-use Rattle.plain_values.proofs.Lists.{drop_from, get_some}
+use Rattle.base_values.proofs.Lists.{drop_from, get_some}
 
 and_swap : (a b c : Bool) → (a && (b && c)) ≡ (b && (a && c))
 and_swap true b c = refl

@@ -3,16 +3,16 @@ use Rattle.std.proofs.lemmas.List.{length-reverse, length-drop, length-take-le, 
 use Rattle.std.proofs.Common.{◌≡◌, ◌<◌, ◌⊎◌, inl, inr, ℕ, zero, suc, List, [], ◌∷◌, ◌++◌, length, map, reverse, take, drop, Option, Some, None, true, false, refl, sym, ap, ◌∙◌, subst, arith, append_assoc}
 use Rattle.imp_slots.specs.Plain.{Code, Routine, code_numbers}
 use Rattle.imp_slots.specs.Fits.{Absent, Distinct, IsChecked, routine_numbers}
-use Rattle.batch_meaning.specs.Batch.{Engine}
+use Rattle.batch_meaning.specs.Batch.{LoopOptions}
 use Rattle.batch_meaning.specs.Places.{find, if_some, main_layout}
-use Rattle.cell_names.specs.declared.frame.Frame.{Frame}
-use Rattle.cell_names.specs.declared.frame.Frame.TheVariants.{InCall, InLoop}
+use Rattle.cell_names.specs.declared.frame.NameFrame.{NameFrame}
+use Rattle.cell_names.specs.declared.frame.NameFrame.TheVariants.{InCall, InLoop}
 use Rattle.cell_names.specs.declared.frame.Point.{Point}
 use Rattle.cell_names.specs.declared.frame.Point.TheVariants.{Entry, Then, Else, Body, Post, Iterate, Fix, Exit, Leap}
-use Rattle.plain_values.proofs.Cases.{by_test}
-use Rattle.plain_values.proofs.Members.{Member, here, there, in_left, in_right, key_member, either}
+use Rattle.base_values.proofs.Cases.{by_test}
+use Rattle.base_values.proofs.Members.{Member, here, there, in_left, in_right, key_member, either}
 use Rattle.batch_meaning.proofs.Places.{found_member}
-use Rattle.cell_rows.specs.Names.{Mark, mark, Place, bare}
+use Rattle.cell_rows.specs.Names.{Mark, mark, PathBlock, bare}
 use Rattle.cell_rows.specs.Rows.{Row, enter_row, turn_row, branch_row, post_row, next_row, fix_row, exit_row, leap_row}
 use Rattle.cell_rows.specs.Flat.{Flat, flat, stand_in, by_text, flat_row}
 use Rattle.imp_slots.proofs.Distinct.{absent_left, absent_right, not_in, right_once, apart}
@@ -50,32 +50,32 @@ put_in_back k r program =
     ∙ ap (λ xs. xs ++ r ∷ behind k program) (reverse_map (shift_routine k) (drop k program))
 
 -- A row of a point is looked up by its statement, which stands in the program.
-by_number : (engine : Engine) (ps : List Routine) (w : List Frame) (n : ℕ) (g : Place engine bare → Mark (Unit {0}) → Code → Option Row) (row : Row) → by_text engine ps w n g ≡ Some row → Member n (routine_numbers ps)
+by_number : (engine : LoopOptions) (ps : List Routine) (w : List NameFrame) (n : ℕ) (g : PathBlock engine bare → Mark (Unit {0}) → Code → Option Row) (row : Row) → by_text engine ps w n g ≡ Some row → Member n (routine_numbers ps)
 by_number engine ps w n g row e = go (find n (flat ps)) refl e
   where
     go : (o : Option Flat) → find n (flat ps) ≡ o → if_some o (λ u. g (stand_in engine ps w u) (mark u.text.front 0 tt) u.text.code) ≡ Some row → Member n (routine_numbers ps)
     go None f h = absurd cc
     go (Some u) f h = subst (λ (ns : List ℕ). Member n ns) (keys_flat ps) (key_member (n, u) (flat ps) (found_member n u (flat ps) f))
 
-module _ (engine : Engine) (ps : List Routine) where
-  abbrev IsOwned : List Frame → Point → Type 0
+module _ (engine : LoopOptions) (ps : List Routine) where
+  abbrev IsOwned : List NameFrame → Point → Type 0
   IsOwned w p = (row : Row) → flat_row engine ps w p ≡ Some row → (owner w p ≡ 0) ⊎ Member (owner w p) (routine_numbers ps)
 
-  owned_entry : (w : List Frame) → IsOwned w Entry
+  owned_entry : (w : List NameFrame) → IsOwned w Entry
   owned_entry [] row e = inl refl
   owned_entry (InCall n ∷ w) row e = inr (by_number engine ps w n (λ b. enter_row engine bare w b n) row e)
   owned_entry (InLoop n k ∷ w) row e = inl refl
 
-  owned_body : (w : List Frame) → IsOwned w Body
+  owned_body : (w : List NameFrame) → IsOwned w Body
   owned_body [] row e = inl refl
   owned_body (InCall n ∷ w) row e = inl refl
   owned_body (InLoop n k ∷ w) row e = inr (by_number engine ps w n (λ b. turn_row engine bare w b n k) row e)
 
-  owned_iterate : (w : List Frame) (n k : ℕ) → IsOwned w (Iterate n k)
+  owned_iterate : (w : List NameFrame) (n k : ℕ) → IsOwned w (Iterate n k)
   owned_iterate w n zero row e = absurd cc
   owned_iterate w n (suc k) row e = inr (by_number engine ps w n (next_row engine bare w k) row e)
 
-  owned : (w : List Frame) (p : Point) → IsOwned w p
+  owned : (w : List NameFrame) (p : Point) → IsOwned w p
   owned w Entry = owned_entry w
   owned w Body = owned_body w
   owned w (Then n) = λ row e. inr (by_number engine ps w n (branch_row engine bare w true) row e)
@@ -116,7 +116,7 @@ module _ (k : ℕ) (b : List Routine) (r : Routine) (n : ℕ) (m : Member n (cod
       ]
 
 -- The rows of a program and of that with r behind its first k procedures.
-module _ (engine : Engine) (program : List Routine) (k : ℕ) (r : Routine) (within : k < length program) where
+module _ (engine : LoopOptions) (program : List Routine) (k : ℕ) (r : Routine) (within : k < length program) where
   abbrev New : List Routine
   New = put_in k r program
 
@@ -130,7 +130,7 @@ module _ (engine : Engine) (program : List Routine) (k : ℕ) (r : Routine) (wit
   some_front : 0 < length (front k program)
   some_front = omega (arith, length-reverse (drop k program), length-drop k program)
 
-  others : (w : List Frame) (p : Point) → Absent (owner w p) (code_numbers r.code) → flat_row engine (reverse New) w p ≡ flat_row engine (reverse program) w p
+  others : (w : List NameFrame) (p : Point) → Absent (owner w p) (code_numbers r.code) → flat_row engine (reverse New) w p ≡ flat_row engine (reverse program) w p
   others w p h =
       ap (λ (ps : List Routine). flat_row engine ps w p) (put_in_back k r program)
       ∙ same_row engine (map (shift_routine k) (front k program) ++ r ∷ behind k program) (front k program ++ behind k program) (same_main (front k program) some_front) w p (found_alike k (behind k program) r at (owner w p) h (front k program))
@@ -143,7 +143,7 @@ module _ (engine : Engine) (program : List Routine) (k : ℕ) (r : Routine) (wit
       (subst (λ (ps : List Routine). Distinct (routine_numbers ps)) (put_in_back k r program) (once_reversed New h.numbers_once))
       (subst (λ (ps : List Routine). Member n (routine_numbers ps)) (split_back k program) i)
 
-  kept : IsChecked New → (w : List Frame) (p : Point) (row : Row) → flat_row engine (reverse program) w p ≡ Some row → flat_row engine (reverse New) w p ≡ Some row
+  kept : IsChecked New → (w : List NameFrame) (p : Point) (row : Row) → flat_row engine (reverse program) w p ≡ Some row → flat_row engine (reverse New) w p ≡ Some row
   kept h w p row e =
       elim (absent_or (owner w p) (code_numbers r.code)) [
         | inl a ↦ others w p a ∙ e

@@ -2,25 +2,25 @@
 use Rattle.std.proofs.Common.{◌≡◌, ℕ, zero, suc, ℤ, List, [], ◌∷◌, ◌++◌, length, map, Option, Some, None, Bool, true, false, if◌then◌else◌, refl, sym, ap, ◌∙◌, subst}
 use Rattle.imp_slots.specs.Plain.{Layout, Code, Routine, code_numbers}
 use Rattle.imp_slots.specs.Fits.{Absent}
-use Rattle.program_chains.specs.Marks.{literals, marks_of, marks}
-use Rattle.batch_meaning.specs.Batch.{Engine}
+use Rattle.imp_chains.specs.Thresholds.{literals, thresholds_of, thresholds}
+use Rattle.batch_meaning.specs.Batch.{LoopOptions}
 use Rattle.batch_meaning.specs.Places.{find, if_some, main_layout}
-use Rattle.cell_names.specs.declared.frame.Frame.{Frame}
-use Rattle.cell_names.specs.declared.frame.Frame.TheVariants.{InCall, InLoop}
+use Rattle.cell_names.specs.declared.frame.NameFrame.{NameFrame}
+use Rattle.cell_names.specs.declared.frame.NameFrame.TheVariants.{InCall, InLoop}
 use Rattle.cell_names.specs.declared.frame.Point.{Point}
 use Rattle.cell_names.specs.declared.frame.Point.TheVariants.{Entry, Then, Else, Body, Post, Iterate, Fix, Exit, Leap}
-use Rattle.plain_values.proofs.Cases.{by_test}
-use Rattle.plain_values.proofs.Members.{keys}
+use Rattle.base_values.proofs.Cases.{by_test}
+use Rattle.base_values.proofs.Members.{keys}
 use Rattle.batch_meaning.proofs.Places.{found_member}
-use Rattle.cell_rows.specs.Names.{Mark, mark, Place, bare, number}
+use Rattle.cell_rows.specs.Names.{Mark, mark, PathBlock, bare, number}
 use Rattle.cell_rows.specs.Rows.{Row, Init, enter_row, turn_row, branch_row, post_row, next_row, fix_row, exit_row, leap_row}
 use Rattle.cell_rows.specs.Targets.{Text, texts}
 use Rattle.cell_rows.specs.Flat.{Flat, flat_of, flat, stand_in, by_text, flat_row}
 use Rattle.cell_rows.proofs.Arriving.{keys_texts}
-use Rattle.flow_rows.specs.Shapes.{Shape}
-use Rattle.flow_rows.specs.Shapes as shape
+use Rattle.imp_flow_rows.specs.Shapes.{Shape}
+use Rattle.imp_flow_rows.specs.Shapes as shape
 use Rattle.imp_flow.specs.Nodes.{shape_of, node_in}
-use Rattle.flow_rows.specs.NodeRows.{post_at, enter_at, branch_at, turn_at, next_at, fix_at, exit_at, leap_at}
+use Rattle.imp_flow_rows.specs.NodeRows.{post_at, enter_at, branch_at, turn_at, next_at, fix_at, exit_at, leap_at}
 use Rattle.imp_flow.specs.Owners.{owner}
 use Rattle.imp_flow.specs.Shifts.{shift_routine}
 use Rattle.imp_flow.proofs.Ties.{all_stand, post_is, enter_is, branch_is, turn_is, next_is, fix_is, exit_is, leap_is}
@@ -84,7 +84,7 @@ module _ (k : ℕ) (b : List Routine) (r : Routine) (at : length b ≡ k) where
       subst (λ (xs : List (ℕ × Text)). AreAlike (find n (map (New c a) xs ++ flat (M a))) (find n (map (Old c a) (texts c.code Entry) ++ flat (a ++ b)))) (sym (texts_shift k c.code Entry))
       (both c a n (texts c.code Entry) (flat (M a)) (flat (a ++ b)) (found_alike n h a))
 
--- A row by the marks of the procedure, the statement's number, the point in front of it and its shape; it does not read
+-- A row by the thresholds of the procedure, the statement's number, the point in front of it and its shape; it does not read
 -- the place of a callee.
 abbrev pub Reading : Type 0
 Reading = List ℤ → ℕ → Point → Shape → Option Row
@@ -93,7 +93,7 @@ abbrev Blind : Reading → Type 0
 Blind f = (ms : List ℤ) (n : ℕ) (p : Point) (s : Shape) → f ms n p s ≡ f ms n p (without_place s)
 
 -- No row reads the place of a callee.
-module _ (w : List Frame) where
+module _ (w : List NameFrame) where
   abbrev posts : Reading
   posts ms n p s = post_at w (node_in [] [] p n s)
 
@@ -148,7 +148,7 @@ module _ (w : List Frame) where
   blind_leap k ms n p (shape.While g end ls) = refl
   blind_leap k ms n p (shape.Call i q end) = refl
 
-module _ (engine : Engine) (w : List Frame) (k : ℕ) where
+module _ (engine : LoopOptions) (w : List NameFrame) (k : ℕ) where
   abbrev turns : Reading
   turns ms n p s = turn_at w engine k (node_in [] [] p n s)
 
@@ -167,24 +167,24 @@ module _ (engine : Engine) (w : List Frame) (k : ℕ) where
   blind_next ms n p (shape.While g end ls) = refl
   blind_next ms n p (shape.Call i q end) = refl
 
-module _ (engine : Engine) (w : List Frame) where
+module _ (engine : LoopOptions) (w : List NameFrame) where
   abbrev Look : Type 0
-  Look = Place engine bare → Mark (Unit {0}) → Code → Option Row
+  Look = PathBlock engine bare → Mark (Unit {0}) → Code → Option Row
 
   abbrev read : Reading → Flat → Option Row
-  read f u = f (marks engine.widening u.routine) (number u.text.code) u.text.front (shape_of u.earlier u.text.code)
+  read f u = f (thresholds engine.widening u.routine) (number u.text.code) u.text.front (shape_of u.earlier u.text.code)
 
   abbrev Reads : ℕ → Look → Reading → Type 0
   Reads n g f = (ps : List Routine) (u : Flat) → n ≡ number u.text.code → g (stand_in engine ps w u) (mark u.text.front 0 tt) u.text.code ≡ read f u
 
   reads_alike : (f : Reading) → Blind f → (v u : Flat) → Alike v u → read f v ≡ read f u
   reads_alike f blind v u a =
-      blind (marks engine.widening v.routine) (number v.text.code) v.text.front (shape_of v.earlier v.text.code)
-      ∙ ap (λ (ls : List ℕ). f (if engine.widening.thresholds then marks_of ls else []) (number v.text.code) v.text.front (without_place (shape_of v.earlier v.text.code))) a.literals
-      ∙ ap (λ (n : ℕ). f (marks engine.widening u.routine) n v.text.front (without_place (shape_of v.earlier v.text.code))) a.number
-      ∙ ap (λ (p : Point). f (marks engine.widening u.routine) (number u.text.code) p (without_place (shape_of v.earlier v.text.code))) a.front
-      ∙ ap (λ (s : Shape). f (marks engine.widening u.routine) (number u.text.code) u.text.front s) a.shape
-      ∙ sym (blind (marks engine.widening u.routine) (number u.text.code) u.text.front (shape_of u.earlier u.text.code))
+      blind (thresholds engine.widening v.routine) (number v.text.code) v.text.front (shape_of v.earlier v.text.code)
+      ∙ ap (λ (ls : List ℕ). f (if engine.widening.thresholds then thresholds_of ls else []) (number v.text.code) v.text.front (without_place (shape_of v.earlier v.text.code))) a.literals
+      ∙ ap (λ (n : ℕ). f (thresholds engine.widening u.routine) n v.text.front (without_place (shape_of v.earlier v.text.code))) a.number
+      ∙ ap (λ (p : Point). f (thresholds engine.widening u.routine) (number u.text.code) p (without_place (shape_of v.earlier v.text.code))) a.front
+      ∙ ap (λ (s : Shape). f (thresholds engine.widening u.routine) (number u.text.code) u.text.front s) a.shape
+      ∙ sym (blind (thresholds engine.widening u.routine) (number u.text.code) u.text.front (shape_of u.earlier u.text.code))
 
   module _ (new old : List Routine) where
     same_text : (n : ℕ) (g : Look) (f : Reading) → Blind f → Reads n g f → AreAlike (find n (flat new)) (find n (flat old)) → by_text engine new w n g ≡ by_text engine old w n g
@@ -229,26 +229,26 @@ module _ (engine : Engine) (w : List Frame) where
         same_text n (λ b. turn_row engine bare w b n k) (turns engine w k) (blind_turn engine w k)
         (λ ps u e. ap (λ (j : ℕ). turn_row engine bare w (stand_in engine ps w u) j k (mark u.text.front 0 tt) u.text.code) e ∙ turn_is engine w (stand_in engine ps w u) u.text.front k [] u.text.code)
 
-module _ (engine : Engine) (new old : List Routine) (main : main_layout new ≡ main_layout old) where
-  abbrev IsSame : List Frame → Point → Type 0
+module _ (engine : LoopOptions) (new old : List Routine) (main : main_layout new ≡ main_layout old) where
+  abbrev IsSame : List NameFrame → Point → Type 0
   IsSame w p = AreAlike (find (owner w p) (flat new)) (find (owner w p) (flat old)) → flat_row engine new w p ≡ flat_row engine old w p
 
-  same_entry : (w : List Frame) → IsSame w Entry
+  same_entry : (w : List NameFrame) → IsSame w Entry
   same_entry [] h = ap (λ (l : Layout). Some (Init l)) main
   same_entry (InCall n ∷ w) h = same_enter engine w new old n h
   same_entry (InLoop n k ∷ w) h = refl
 
-  same_body : (w : List Frame) → IsSame w Body
+  same_body : (w : List NameFrame) → IsSame w Body
   same_body [] h = refl
   same_body (InCall n ∷ w) h = refl
   same_body (InLoop n k ∷ w) h = same_turn engine w new old k n h
 
-  same_iterate : (w : List Frame) (n k : ℕ) → IsSame w (Iterate n k)
+  same_iterate : (w : List NameFrame) (n k : ℕ) → IsSame w (Iterate n k)
   same_iterate w n zero h = refl
   same_iterate w n (suc k) h = same_next engine w new old k n h
 
   -- A point whose statement is found alike has the same row.
-  pub same_row : (w : List Frame) (p : Point) → IsSame w p
+  pub same_row : (w : List NameFrame) (p : Point) → IsSame w p
   same_row w Entry = same_entry w
   same_row w Body = same_body w
   same_row w (Then n) = same_branch engine w new old true n

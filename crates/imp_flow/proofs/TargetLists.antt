@@ -4,10 +4,10 @@ use Rattle.std.proofs.Common.{◌≡◌, ℕ, ◌+◌, ◌<◌, List, [], ◌∷
 use Rattle.imp_syntax.specs.declared.edit.Location.{Location}
 use Rattle.imp_slots.specs.Plain.{Routine}
 use Rattle.imp_slots.specs.Fits.{IsChecked}
-use Rattle.program_chains.specs.Chains.{selected}
+use Rattle.imp_chains.specs.Chains.{selected}
 use Rattle.batch_meaning.specs.Answers.{In, procedure_of}
 use Rattle.batch_meaning.specs.Places.{if_some}
-use Rattle.selected_chains.specs.Targets.{selected_at, targets_of}
+use Rattle.call_chains.specs.Targets.{selected_at, targets_of}
 use Rattle.cell_rows.specs.Targets.{target, all_targets, targets}
 use Rattle.cell_rows.specs.Targets as plain
 use Rattle.cell_rows.proofs.Ways.{targets_some}
@@ -15,7 +15,7 @@ use Rattle.imp_flow.specs.declared.steps.Target.{Target}
 use Rattle.imp_flow.specs.declared.ways.Reached.{Reached}
 use Rattle.imp_flow.specs.Plans.{Plan}
 use Rattle.imp_flow.specs.Reached.{target_of, with_one, those_there, way_into, way_along}
-use Rattle.plain_values.proofs.Lists.{all_back, take_back}
+use Rattle.base_values.proofs.Lists.{all_back, take_back}
 
 module _ (plan : Plan) where
   gone_more : (ys z : List ℕ) → way_along plan z ≡ None → way_along plan (ys ++ z) ≡ None

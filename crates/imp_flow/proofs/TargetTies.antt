@@ -10,9 +10,9 @@ use Rattle.imp_slots.specs.Fits.{Distinct, IsChecked}
 use Rattle.batch_meaning.specs.Places.{find, if_some, from}
 use Rattle.cell_names.specs.declared.frame.Point.{Point}
 use Rattle.cell_names.specs.declared.frame.Point.TheVariants.{Entry, Post, Fix}
-use Rattle.plain_values.proofs.Cases.{by_test}
+use Rattle.base_values.proofs.Cases.{by_test}
 use Rattle.batch_meaning.proofs.Procedures.{look_get, look_from, look_below, from_behind, from_from, from_place, from_self}
-use Rattle.plain_values.proofs.Members.{Member, in_left, in_right, keys, keys_both, in_map}
+use Rattle.base_values.proofs.Members.{Member, in_left, in_right, keys, keys_both, in_map}
 use Rattle.batch_meaning.proofs.Places.{found, found_member, find_both, or_else}
 use Rattle.cell_rows.specs.Names.{number}
 use Rattle.cell_rows.specs.Rows.{last_point}
@@ -21,10 +21,10 @@ use Rattle.cell_rows.specs.Targets.{Text, text, texts, takes, to_point, callee_o
 use Rattle.cell_rows.specs.Targets as plain
 use Rattle.imp_slots.proofs.Distinct.{right_once}
 use Rattle.cell_rows.proofs.FlatOnce.{flat_once}
-use Rattle.flow_rows.specs.Shapes.{Node}
-use Rattle.flow_rows.specs.Shapes as shape
-use Rattle.imp_flow.specs.declared.steps.Step.{Step}
-use Rattle.imp_flow.specs.declared.steps.Step.TheVariants.{Go}
+use Rattle.imp_flow_rows.specs.Shapes.{Node}
+use Rattle.imp_flow_rows.specs.Shapes as shape
+use Rattle.imp_flow.specs.declared.steps.TargetStep.{TargetStep}
+use Rattle.imp_flow.specs.declared.steps.TargetStep.TheVariants.{Go}
 use Rattle.imp_flow.specs.declared.steps.Target.{Target}
 use Rattle.imp_flow.specs.declared.ways.Reached.{Reached}
 use Rattle.imp_flow.specs.Nodes.{shape_of, node_in, node_of, body_end}
@@ -38,10 +38,10 @@ takes_are : (ns : List ℕ) → map step_of (into_loops ns) ≡ takes ns
 takes_are [] = refl
 takes_are (n ∷ ns) = ap (λ k. plain.Take n ∷ k) (takes_are ns)
 
-into_is : (ss : List Step) (ns : List ℕ) → map step_of (ss ++ into_loops ns) ≡ map step_of ss ++ takes ns
+into_is : (ss : List TargetStep) (ns : List ℕ) → map step_of (ss ++ into_loops ns) ≡ map step_of ss ++ takes ns
 into_is ss ns = map-append step_of ss (into_loops ns) ∙ ap (λ k. map step_of ss ++ k) (takes_are ns)
 
-call_is : (ss : List Step) (ns : List ℕ) (n : ℕ) → map step_of ((ss ++ into_loops ns) ++ Go n ∷ []) ≡ map step_of ss ++ (takes ns ++ plain.Go n ∷ [])
+call_is : (ss : List TargetStep) (ns : List ℕ) (n : ℕ) → map step_of ((ss ++ into_loops ns) ++ Go n ∷ []) ≡ map step_of ss ++ (takes ns ++ plain.Go n ∷ [])
 call_is ss ns n =
     map-append step_of (ss ++ into_loops ns) (Go n ∷ [])
     ∙ ap (λ k. k ++ plain.Go n ∷ []) (into_is ss ns)
@@ -185,13 +185,13 @@ module _ (plan : Plan) (checked : IsChecked plan.program) where
       let a : q < length (from back k) = rw f (omega arith) in
       from_from back k q a ∙ ap (λ ps. from ps q) f ∙ from_behind r earlier q l ∙ g
 
-  abbrev into : (n : ℕ) (ss : List Step) (ls : List ℕ) → ℕ → Option Reached
+  abbrev into : (n : ℕ) (ss : List TargetStep) (ls : List ℕ) → ℕ → Option Reached
   into n ss ls q = Some (reached ((ss ++ into_loops ls) ++ Go n ∷ []) q)
 
-  abbrev onto : (n : ℕ) (ss : List Step) (ls : List ℕ) (earlier : List Routine) → ℕ → Option plain.Way
+  abbrev onto : (n : ℕ) (ss : List TargetStep) (ls : List ℕ) (earlier : List Routine) → ℕ → Option plain.Way
   onto n ss ls earlier q = Some (way_of (map step_of ss ++ (takes ls ++ plain.Go n ∷ [])) (from earlier q))
 
-  callee_ends : (k n q : ℕ) (r : Routine) (earlier : List Routine) (ss : List Step) (ls : List ℕ) (i : Invoke) → from back k ≡ r ∷ earlier →
+  callee_ends : (k n q : ℕ) (r : Routine) (earlier : List Routine) (ss : List TargetStep) (ls : List ℕ) (i : Invoke) → from back k ≡ r ∷ earlier →
       (ps : List Routine) → from earlier q ≡ ps → Ends (if_some (callee_at (shape.Call i q (body_end ps))) (into n ss ls)) (onto n ss ls earlier q)
   callee_ends k n q r earlier ss ls i f [] g = g
   callee_ends k n q r earlier ss ls i f (c ∷ more) g = record {
@@ -201,7 +201,7 @@ module _ (plan : Plan) (checked : IsChecked plan.program) where
     is = ap (λ ps. Some (way_of (map step_of ss ++ (takes ls ++ plain.Go n ∷ [])) ps)) g ∙ ap (λ xs. Some (way_of xs (c ∷ more))) (sym (call_is ss ls n));
   }
 
-  code_ends : (k n : ℕ) (r : Routine) (earlier : List Routine) (ss : List Step) (ls : List ℕ) → from back k ≡ r ∷ earlier →
+  code_ends : (k n : ℕ) (r : Routine) (earlier : List Routine) (ss : List TargetStep) (ls : List ℕ) → from back k ≡ r ∷ earlier →
       (c : Code) → Ends (if_some (callee_at (shape_of earlier c)) (into n ss ls)) (if_some (callee_of c) (λ q. onto n ss ls earlier q.1))
   code_ends k n r earlier ss ls f Stop = tt
   code_ends k n r earlier ss ls f (Simple m e c) = tt
@@ -210,13 +210,13 @@ module _ (plan : Plan) (checked : IsChecked plan.program) where
   code_ends k n r earlier ss ls f (Call m i q c) = callee_ends k n q r earlier ss ls i f (from earlier q) refl
   code_ends k n r earlier ss ls f (Break m c) = tt
 
-  abbrev way_text : (n : ℕ) (ss : List Step) (earlier : List Routine) → Option Text → Option plain.Way
+  abbrev way_text : (n : ℕ) (ss : List TargetStep) (earlier : List Routine) → Option Text → Option plain.Way
   way_text n ss earlier o = if_some o (λ t. if_some (callee_of t.code) (λ q. onto n ss t.loops earlier q.1))
 
-  abbrev way_node : (n : ℕ) (ss : List Step) → Option Node → Option Reached
+  abbrev way_node : (n : ℕ) (ss : List TargetStep) → Option Node → Option Reached
   way_node n ss o = if_some o (λ y. if_some (callee_at y.shape) (into n ss y.loops))
 
-  text_ends : (k n : ℕ) (r : Routine) (earlier : List Routine) (ss : List Step) → from back k ≡ r ∷ earlier →
+  text_ends : (k n : ℕ) (r : Routine) (earlier : List Routine) (ss : List TargetStep) → from back k ≡ r ∷ earlier →
       (o : Option Text) → Ends (way_node n ss (option_map (stood earlier) o)) (way_text n ss earlier o)
   text_ends k n r earlier ss f None = tt
   text_ends k n r earlier ss f (Some t) = code_ends k n r earlier ss t.loops f t.code
@@ -236,7 +236,7 @@ module _ (plan : Plan) (checked : IsChecked plan.program) where
       go (Some x) h = goes_on n x (way back z) h
 
   -- A location that no procedure has is nowhere.
-  gone_at : (l : Location) (ss : List plain.Step) → target_in l ss [] ≡ None
+  gone_at : (l : Location) (ss : List plain.TargetStep) → target_in l ss [] ≡ None
   gone_at (Before n) ss = refl
   gone_at (After n) ss = refl
   gone_at (Head n) ss = refl
@@ -247,10 +247,10 @@ module _ (plan : Plan) (checked : IsChecked plan.program) where
   gone_there l (Some x) h = ap (target_in l x.steps) h ∙ gone_at l x.steps
 
   -- one in a procedure that is there
-  abbrev finish : (ss : List Step) → Option (List ℕ × Point) → Option plain.Target
+  abbrev finish : (ss : List TargetStep) → Option (List ℕ × Point) → Option plain.Target
   finish ss o = option_map target_of (if_some o (λ e. Some (record { steps = ss ++ into_loops e.0; last = e.1 })))
 
-  done : (ss : List Step) (ls : List ℕ) (p : Point) → finish ss (Some (ls, p)) ≡ Some (to_point (map step_of ss ++ takes ls) p)
+  done : (ss : List TargetStep) (ls : List ℕ) (p : Point) → finish ss (Some (ls, p)) ≡ Some (to_point (map step_of ss ++ takes ls) p)
   done ss ls p = ap (λ xs. Some (to_point xs p)) (into_is ss ls)
 
   looped : (earlier : List Routine) (c : Code) → is_while (shape_of earlier c) ≡ is_loop c
@@ -261,15 +261,15 @@ module _ (plan : Plan) (checked : IsChecked plan.program) where
   looped earlier (Call n i q r) = refl
   looped earlier (Break n r) = refl
 
-  before_is : (ss : List Step) (earlier : List Routine) (o : Option Text) → finish ss (if_some (option_map (stood earlier) o) (λ y. Some (y.loops, y.front))) ≡ if_some o (λ t. Some (to_point (map step_of ss ++ takes t.loops) t.front))
+  before_is : (ss : List TargetStep) (earlier : List Routine) (o : Option Text) → finish ss (if_some (option_map (stood earlier) o) (λ y. Some (y.loops, y.front))) ≡ if_some o (λ t. Some (to_point (map step_of ss ++ takes t.loops) t.front))
   before_is ss earlier None = refl
   before_is ss earlier (Some t) = done ss t.loops t.front
 
-  after_is : (ss : List Step) (earlier : List Routine) (n : ℕ) (o : Option Text) → finish ss (if_some (option_map (stood earlier) o) (λ y. Some (y.loops, Post n))) ≡ if_some o (λ t. Some (to_point (map step_of ss ++ takes t.loops) (Post n)))
+  after_is : (ss : List TargetStep) (earlier : List Routine) (n : ℕ) (o : Option Text) → finish ss (if_some (option_map (stood earlier) o) (λ y. Some (y.loops, Post n))) ≡ if_some o (λ t. Some (to_point (map step_of ss ++ takes t.loops) (Post n)))
   after_is ss earlier n None = refl
   after_is ss earlier n (Some t) = done ss t.loops (Post n)
 
-  head_is : (ss : List Step) (earlier : List Routine) (n : ℕ) (o : Option Text) → finish ss (if_some (option_map (stood earlier) o) (λ y. if is_while y.shape then Some (y.loops, Fix n) else None)) ≡ if_some o (λ t. if is_loop t.code then Some (to_point (map step_of ss ++ takes t.loops) (Fix n)) else None)
+  head_is : (ss : List TargetStep) (earlier : List Routine) (n : ℕ) (o : Option Text) → finish ss (if_some (option_map (stood earlier) o) (λ y. if is_while y.shape then Some (y.loops, Fix n) else None)) ≡ if_some o (λ t. if is_loop t.code then Some (to_point (map step_of ss ++ takes t.loops) (Fix n)) else None)
   head_is ss earlier n None = refl
   head_is ss earlier n (Some t) = ap (λ (b : Bool). finish ss (if b then Some (t.loops, Fix n) else None)) (looped earlier t.code) ∙ go (is_loop t.code)
     where
@@ -277,7 +277,7 @@ module _ (plan : Plan) (checked : IsChecked plan.program) where
       go true = done ss t.loops (Fix n)
       go false = refl
 
-  end_is : (ss : List Step) (p : Point) (b : Bool) → finish ss (if b then Some ([], p) else None) ≡ (if b then Some (to_point (map step_of ss) p) else None)
+  end_is : (ss : List TargetStep) (p : Point) (b : Bool) → finish ss (if b then Some ([], p) else None) ≡ (if b then Some (to_point (map step_of ss) p) else None)
   end_is ss p true = done ss [] p ∙ ap (λ xs. Some (to_point xs p)) (append-nil (map step_of ss))
   end_is ss p false = refl
 
@@ -285,7 +285,7 @@ module _ (plan : Plan) (checked : IsChecked plan.program) where
   routine_at : (k : ℕ) (r : Routine) (earlier : List Routine) → from back k ≡ r ∷ earlier → slice_get plan.program k ≡ Some r
   routine_at k r earlier f = ap (λ ps. slice_get ps k) (sym (reverse-reverse plan.program)) ∙ sym (look_get back k) ∙ look_from back k r earlier f
 
-  in_there : (l : Location) (k : ℕ) (ss : List Step) (r : Routine) (earlier : List Routine) → from back k ≡ r ∷ earlier → finish ss (ending_at plan l k) ≡ target_in l (map step_of ss) (r ∷ earlier)
+  in_there : (l : Location) (k : ℕ) (ss : List TargetStep) (r : Routine) (earlier : List Routine) → from back k ≡ r ∷ earlier → finish ss (ending_at plan l k) ≡ target_in l (map step_of ss) (r ∷ earlier)
   in_there (Before n) k ss r earlier f = ap (λ o. finish ss (if_some o (λ y. Some (y.loops, y.front)))) (node_is k n r earlier f) ∙ before_is ss earlier (find n (texts r.code Entry))
   in_there (After n) k ss r earlier f = ap (λ o. finish ss (if_some o (λ y. Some (y.loops, Post n)))) (node_is k n r earlier f) ∙ after_is ss earlier n (find n (texts r.code Entry))
   in_there (Head n) k ss r earlier f = ap (λ o. finish ss (if_some o (λ y. if is_while y.shape then Some (y.loops, Fix n) else None))) (node_is k n r earlier f) ∙ head_is ss earlier n (find n (texts r.code Entry))

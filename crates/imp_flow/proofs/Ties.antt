@@ -3,28 +3,28 @@ use Rattle.std.proofs.lemmas.List.{length-append, reverse-reverse, map-append}
 use Rattle.std.proofs.Common.{◌≡◌, ℕ, zero, suc, ◌<◌, ◌==◌, ℤ, cond, List, [], ◌∷◌, ◌++◌, length, map, reverse, Option, Some, None, Bool, true, false, if◌then◌else◌, nat_lt, slice_get, refl, sym, ap, ◌∙◌, subst, arith, append_assoc, append-nil}
 use Rattle.std.specs.Option.{option_map}
 use Rattle.imp_slots.specs.Plain.{Guard, Code, Stop, Simple, If, While, Call, Break, Routine}
-use Rattle.program_chains.specs.Marks.{marks}
-use Rattle.batch_meaning.specs.Batch.{Engine}
+use Rattle.imp_chains.specs.Thresholds.{thresholds}
+use Rattle.batch_meaning.specs.Batch.{LoopOptions}
 use Rattle.batch_meaning.specs.Places.{find, if_some, from}
-use Rattle.cell_names.specs.declared.frame.Frame.{Frame}
-use Rattle.cell_names.specs.declared.frame.Frame.TheVariants.{InCall, InLoop}
+use Rattle.cell_names.specs.declared.frame.NameFrame.{NameFrame}
+use Rattle.cell_names.specs.declared.frame.NameFrame.TheVariants.{InCall, InLoop}
 use Rattle.cell_names.specs.declared.frame.Point.{Point}
 use Rattle.cell_names.specs.declared.frame.Point.TheVariants.{Entry, Then, Else, Body, Post, Iterate, Fix, Exit, Leap}
-use Rattle.plain_values.proofs.Cases.{by_test}
+use Rattle.base_values.proofs.Cases.{by_test}
 use Rattle.batch_meaning.proofs.Procedures.{look, look_get}
-use Rattle.plain_values.proofs.Members.{here, there, Each, none_there, each_more, each_both, each_as}
+use Rattle.base_values.proofs.Members.{here, there, Each, none_there, each_more, each_both, each_as}
 use Rattle.batch_meaning.proofs.Places.{found_member}
-use Rattle.cell_rows.specs.Names.{name, Mark, mark, Place, bare, number, breaks, break_numbers, place_of, iterate_point, start_of, when}
+use Rattle.cell_rows.specs.Names.{name, Mark, mark, PathBlock, bare, number, breaks, break_numbers, place_of, iterate_point, start_of, when}
 use Rattle.cell_rows.specs.Rows.{Row, One, Two, Fixed as FixedRow, Assumes, Enters, Exits, Leaves, next_operation, last_point, leave_points, joined_point, joins_row, loop_row, enter_row, turn_row, branch_row, post_row, next_row, fix_row, exit_row, leap_row, sites_of}
 use Rattle.cell_rows.specs.Targets.{Text, text, deeper, texts}
 use Rattle.cell_rows.specs.Flat.{Flat, flat_of, flat, stand_in, by_text, flat_row}
-use Rattle.flow_rows.specs.declared.node.Leave.{Leave}
-use Rattle.call_contexts.specs.Settings.{or_no_marks}
+use Rattle.imp_flow_rows.specs.declared.node.Leave.{Leave}
+use Rattle.call_contexts.specs.Settings.{or_no_thresholds}
 use Rattle.call_contexts.proofs.LiteralLemmas.{effect_again}
-use Rattle.flow_rows.specs.Shapes.{Node}
+use Rattle.imp_flow_rows.specs.Shapes.{Node}
 use Rattle.imp_flow.specs.Nodes.{leaving, body_end, shape_of, node_in, block_nodes, nodes_of, node_of}
-use Rattle.flow_rows.specs.NodeRows.{breaks_of, fronts_of, iterate_at, joined_at, where_so, joins_at, behind_loop, post_at, enter_at, branch_at, turn_at, next_at, fix_at, exit_at, leap_at}
-use Rattle.imp_flow.specs.Plans.{Plan, marks_at, by_node, next_of, node_row}
+use Rattle.imp_flow_rows.specs.NodeRows.{breaks_of, fronts_of, iterate_at, joined_at, where_so, joins_at, behind_loop, post_at, enter_at, branch_at, turn_at, next_at, fix_at, exit_at, leap_at}
+use Rattle.imp_flow.specs.Plans.{Plan, thresholds_at, by_node, next_of, node_row}
 use Rattle.std.proofs.lemmas.Option.{same_Some}
 
 -- The breaks of a block, with the points in front of them.
@@ -180,9 +180,9 @@ find_node ps n (x ∷ xs) h =
     (λ e. by_test n x.0 (λ d. Some (flat_entry x) ≡ option_map flat_node (if d then Some x.1 else find n xs)) (λ k. refl) (λ k. absurd (k (sym (own ∙ e)))))
     (λ e. by_test n x.0 (λ d. node_of (map flat_entry xs) n ≡ option_map flat_node (if d then Some x.1 else find n xs)) (λ k. absurd (e (sym (k ∙ own)))) (λ k. rest))
 
-module _ (engine : Engine) (w : List Frame) where
+module _ (engine : LoopOptions) (w : List NameFrame) where
   abbrev B : Type 0
-  B = Place engine bare
+  B = PathBlock engine bare
 
   -- The rows of a statement, in a place of these procedures.
   starts : (b : B) (n : ℕ) (r : ℕ) (f : Point → Row) (rs : List Routine) → if_some (start_of engine bare rs (n ∷ b.sites) (mark Entry (suc r) tt)) (λ d. Some (f (last_point d.code Entry))) ≡ if_some (body_end rs) (λ e. Some (f e))
@@ -251,12 +251,12 @@ module _ (engine : Engine) (w : List Frame) where
     turn_is k loops (Call n i q r) = refl
     turn_is k loops (Break n r) = refl
 
-    pub next_is : (k : ℕ) (loops : List ℕ) (c : Code) → next_row engine bare w k b M c ≡ next_at w engine b.scope.marks k (X loops c)
+    pub next_is : (k : ℕ) (loops : List ℕ) (c : Code) → next_row engine bare w k b M c ≡ next_at w engine b.scope.thresholds k (X loops c)
     next_is k loops Stop = refl
     next_is k loops (Simple n e r) = refl
     next_is k loops (If n g t e r) = refl
     next_is k loops (While n g c r) =
-        when_so (nat_lt k engine.budget) (Two (next_operation engine b.scope.marks k) (name w (iterate_point engine bare n p k)) (name (InLoop n k ∷ w) (last_point c Body))) ∙ rw (iterates n k) refl
+        when_so (nat_lt k engine.budget) (Two (next_operation engine b.scope.thresholds k) (name w (iterate_point engine bare n p k)) (name (InLoop n k ∷ w) (last_point c Body))) ∙ rw (iterates n k) refl
     next_is k loops (Call n i q r) = refl
     next_is k loops (Break n r) = refl
 
@@ -285,22 +285,22 @@ module _ (engine : Engine) (w : List Frame) where
   fix_is b p h loops (Call n i q r) = refl
   fix_is b p h loops (Break n r) = refl
 
-get_marks : (f : Routine → List ℤ) (ps : List Routine) (k : ℕ) (r : Routine) → slice_get ps k ≡ Some r → slice_get (map f ps) k ≡ Some (f r)
-get_marks f [] k r e = absurd cc
-get_marks f (x ∷ ps) zero r e = ap (λ c. Some (f c)) (same_Some x r e)
-get_marks f (x ∷ ps) (suc k) r e = get_marks f ps k r e
+get_thresholds : (f : Routine → List ℤ) (ps : List Routine) (k : ℕ) (r : Routine) → slice_get ps k ≡ Some r → slice_get (map f ps) k ≡ Some (f r)
+get_thresholds f [] k r e = absurd cc
+get_thresholds f (x ∷ ps) zero r e = ap (λ c. Some (f c)) (same_Some x r e)
+get_thresholds f (x ∷ ps) (suc k) r e = get_thresholds f ps k r e
 
 module _ (plan : Plan) where
   abbrev back : List Routine
   back = reverse plan.program
 
-  marks_are : (x : ℕ × Flat) → Stands back x → marks_at plan (length x.1.earlier) ≡ marks plan.engine.widening x.1.routine
-  marks_are x h =
-      ap or_no_marks (get_marks (marks plan.engine.widening) plan.program (length x.1.earlier) x.1.routine
+  thresholds_are : (x : ℕ × Flat) → Stands back x → thresholds_at plan (length x.1.earlier) ≡ thresholds plan.engine.widening x.1.routine
+  thresholds_are x h =
+      ap or_no_thresholds (get_thresholds (thresholds plan.engine.widening) plan.program (length x.1.earlier) x.1.routine
       (ap (λ ps. slice_get ps (length x.1.earlier)) (sym (reverse-reverse plan.program)) ∙ sym (look_get back (length x.1.earlier)) ∙ h.routine))
 
   -- Rows that agree at each statement of the table agree at its number.
-  at_number : (n : ℕ) (w : List Frame) (g : Place plan.engine bare → Mark (Unit {0}) → Code → Option Row) (f : Node → Option Row) →
+  at_number : (n : ℕ) (w : List NameFrame) (g : PathBlock plan.engine bare → Mark (Unit {0}) → Code → Option Row) (f : Node → Option Row) →
       ((u : Flat) → Stands back (n, u) → g (stand_in plan.engine back w u) (mark u.text.front 0 tt) u.text.code ≡ f (flat_node u)) →
       by_text plan.engine back w n g ≡ by_node plan n f
   at_number n w g f h =
@@ -310,34 +310,34 @@ module _ (plan : Plan) where
       go None e = refl
       go (Some u) e = h u ((all_stand back).at (n, u) (found_member n u (flat back) e))
 
-  abbrev E : Engine
+  abbrev E : LoopOptions
   E = plan.engine
 
-  abbrev place_in : List Frame → Flat → Place plan.engine bare
+  abbrev place_in : List NameFrame → Flat → PathBlock plan.engine bare
   place_in = stand_in plan.engine back
 
-  abbrev IsRow : List Frame → Point → Type 0
+  abbrev IsRow : List NameFrame → Point → Type 0
   IsRow w p = node_row plan w p ≡ flat_row plan.engine back w p
 
-  entries_tie : (w : List Frame) → IsRow w Entry
+  entries_tie : (w : List NameFrame) → IsRow w Entry
   entries_tie [] = refl
   entries_tie (InCall n ∷ w) =
       sym (at_number n w (λ b. enter_row E bare w b n) (enter_at w) (λ u h. subst (λ k. enter_row E bare w (place_in w u) k (mark u.text.front 0 tt) u.text.code ≡ enter_at w (flat_node u)) (sym h.number) (enter_is E w (place_in w u) u.text.front u.text.loops u.text.code)))
   entries_tie (InLoop n k ∷ w) = refl
 
-  bodies_tie : (w : List Frame) → IsRow w Body
+  bodies_tie : (w : List NameFrame) → IsRow w Body
   bodies_tie [] = refl
   bodies_tie (InCall n ∷ w) = refl
   bodies_tie (InLoop n k ∷ w) =
       sym (at_number n w (λ b. turn_row E bare w b n k) (turn_at w E k) (λ u h. subst (λ j. turn_row E bare w (place_in w u) j k (mark u.text.front 0 tt) u.text.code ≡ turn_at w E k (flat_node u)) (sym h.number) (turn_is E w (place_in w u) u.text.front k u.text.loops u.text.code)))
 
-  iterates_tie : (w : List Frame) (n k : ℕ) → IsRow w (Iterate n k)
+  iterates_tie : (w : List NameFrame) (n k : ℕ) → IsRow w (Iterate n k)
   iterates_tie w n zero = refl
   iterates_tie w n (suc k) =
-      sym (at_number n w (next_row E bare w k) (next_of plan w k) (λ u h. next_is E w (place_in w u) u.text.front k u.text.loops u.text.code ∙ ap (λ (ms : List ℤ). next_at w E ms k (flat_node u)) (sym (marks_are (n, u) h))))
+      sym (at_number n w (next_row E bare w k) (next_of plan w k) (λ u h. next_is E w (place_in w u) u.text.front k u.text.loops u.text.code ∙ ap (λ (ms : List ℤ). next_at w E ms k (flat_node u)) (sym (thresholds_are (n, u) h))))
 
   -- The rows by nodes are those of the program.
-  pub rows_tie : (w : List Frame) (p : Point) → IsRow w p
+  pub rows_tie : (w : List NameFrame) (p : Point) → IsRow w p
   rows_tie w Entry = entries_tie w
   rows_tie w Body = bodies_tie w
   rows_tie w (Then n) = sym (at_number n w (branch_row E bare w true) (branch_at w true) (λ u h. branch_is E w (place_in w u) u.text.front true u.text.loops u.text.code))

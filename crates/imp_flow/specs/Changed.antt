@@ -4,27 +4,27 @@ use Rattle.std.specs.List.{Contains}
 use Rattle.std.specs.List.Sorted.{IsStrictlyIncreasing}
 use Rattle.std.specs.Cmp.Lexicographic.{pointwise}
 use Rattle.std.specs.Ordering.{int_eq}
-use Rattle.plain_values.specs.Equal.{same}
+use Rattle.base_values.specs.Equal.{same}
 use Rattle.imp_slots.specs.Codes.{guard_code}
 use Rattle.imp_slots.specs.PartCodes.{invoke_code}
 use Rattle.imp_slots.specs.EnumCodes.{stmt_coded}
-use Rattle.batch_meaning.specs.Batch.{Engine}
-use Rattle.cell_names.specs.declared.frame.Frame.{Frame}
+use Rattle.batch_meaning.specs.Batch.{LoopOptions}
+use Rattle.cell_names.specs.declared.frame.NameFrame.{NameFrame}
 use Rattle.cell_names.specs.declared.frame.Point.{Point}
 use Rattle.cell_names.specs.declared.frame.Point.TheVariants.{Entry}
 use Rattle.cell_names.specs.contracts.frame.PointPartialEq.TheImpl as points
 use Rattle.cell_rows.specs.Rows.{Row}
 use Rattle.cell_rows.specs.Flat.{flat_row}
 use Rattle.imp_flow.specs.Owners.{owner}
-use Rattle.imp_flow.specs.declared.changed.Pair.{Pair}
-use Rattle.flow_rows.specs.declared.node.Leave.{Leave}
-use Rattle.flow_rows.specs.contracts.node.LeavePartialEq.TheImpl as leaves
-use Rattle.flow_rows.specs.Shapes.{Shape, Act, If, While, Call}
-use Rattle.imp_flow.specs.Plans.{Plan, marks_at}
+use Rattle.imp_flow.specs.declared.changed.ProcPair.{ProcPair}
+use Rattle.imp_flow_rows.specs.declared.node.Leave.{Leave}
+use Rattle.imp_flow_rows.specs.contracts.node.LeavePartialEq.TheImpl as leaves
+use Rattle.imp_flow_rows.specs.Shapes.{Shape, Act, If, While, Call}
+use Rattle.imp_flow.specs.Plans.{Plan, thresholds_at}
 
 -- A point of the statement that has a row in the old program, and not the same one in the new.
 pub record IsChanged (old new : Plan) (n : ℕ) : Type 0 where
-  pub path : List Frame
+  pub path : List NameFrame
   pub point : Point
   pub row : Row
   pub owned : owner path point ≡ n
@@ -38,14 +38,14 @@ pub record AreChanged (old new : Plan) (ns : List ℕ) : Type 0 where
   pub all : (n : ℕ) → IsChanged old new n → Contains ns n
 
 -- the start of main
-abbrev pub is_start : List Frame → Point → Bool
+abbrev pub is_start : List NameFrame → Point → Bool
 is_start [] Entry = true
 is_start _ _ = false
 
 -- Each point of the statement keeps its row, but for the start of main.
 abbrev pub Stays : Plan → Plan → ℕ → Type 0
 Stays old new n =
-    (w : List Frame) (p : Point) (r : Row) →
+    (w : List NameFrame) (p : Point) (r : Row) →
     owner w p ≡ n →
     is_start w p ≡ false →
     flat_row old.engine (reverse old.program) w p ≡ Some r →
@@ -72,23 +72,23 @@ same_leaves ls ks = same_ends (last_leave ls) (last_leave ks)
 
 -- The ends of two loops' bodies give the same rounds: there are rounds where the budget has any, and they are widened
 -- from the delay on.
-abbrev pub same_rounds : Engine → (same_marks : Bool) → Point → Point → Bool
-same_rounds engine same_marks p q = (engine.budget == 0) || (points.ghosts.eq p q && (nat_le engine.budget engine.widening.delay || same_marks))
+abbrev pub same_rounds : LoopOptions → (same_thresholds : Bool) → Point → Point → Bool
+same_rounds engine same_thresholds p q = (engine.budget == 0) || (points.ghosts.eq p q && (nat_le engine.budget engine.widening.delay || same_thresholds))
 
--- whether the procedures at these places have the same marks
-abbrev pub same_marks : (old new : Plan) → ℕ → ℕ → Bool
-same_marks old new p q = pointwise int_eq (marks_at old p) (marks_at new q)
+-- whether the procedures at these places have the same thresholds
+abbrev pub same_thresholds : (old new : Plan) → ℕ → ℕ → Bool
+same_thresholds old new p q = pointwise int_eq (thresholds_at old p) (thresholds_at new q)
 
 -- a pair of procedures says whether they have
-abbrev pub IsTold : (old new : Plan) → Pair → Type 0
-IsTold old new pair = pair.is_same ≡ same_marks old new pair.place pair.other
+abbrev pub IsTold : (old new : Plan) → ProcPair → Type 0
+IsTold old new pair = pair.is_same ≡ same_thresholds old new pair.place pair.other
 
-module _ (engine : Engine) (marks others : List ℤ) where
+module _ (engine : LoopOptions) (thresholds others : List ℤ) where
   -- Behind the same point two statements with these shapes have the same rows.
   abbrev pub same_shapes : Shape → Shape → Bool
   same_shapes (Act s) (Act t) = same stmt_coded s t
   same_shapes (If g t e) (If h u f) = same guard_code g h && points.ghosts.eq t u && points.ghosts.eq e f
-  same_shapes (While g p ls) (While h q ks) = same guard_code g h && same_leaves ls ks && same_rounds engine (pointwise int_eq marks others) p q
+  same_shapes (While g p ls) (While h q ks) = same guard_code g h && same_leaves ls ks && same_rounds engine (pointwise int_eq thresholds others) p q
   same_shapes (Call i c (Some p)) (Call j d (Some q)) = same invoke_code i j && points.ghosts.eq p q
   same_shapes _ _ = false
 

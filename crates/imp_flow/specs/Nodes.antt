@@ -7,9 +7,9 @@ use Rattle.batch_meaning.specs.Places.{from}
 use Rattle.cell_names.specs.declared.frame.Point.{Point}
 use Rattle.cell_names.specs.declared.frame.Point.TheVariants.{Entry, Then, Else, Body, Post}
 use Rattle.cell_rows.specs.Rows.{last_point}
-use Rattle.flow_rows.specs.declared.node.Leave.{Leave}
-use Rattle.flow_rows.specs.Shapes.{Node, Shape}
-use Rattle.flow_rows.specs.Shapes as shape
+use Rattle.imp_flow_rows.specs.declared.node.Leave.{Leave}
+use Rattle.imp_flow_rows.specs.Shapes.{Node, Shape}
+use Rattle.imp_flow_rows.specs.Shapes as shape
 
 -- The breaks that leave the loop around a block, in the order of the text, each with the point in front of it.
 abbrev pub leaving : Code → Point → List Leave

@@ -1,30 +1,30 @@
 -- A program's rows by its nodes.
 use Rattle.std.specs.Prelude.{ℕ, ℤ, List, reverse, Option, None, true, false}
 use Rattle.imp_slots.specs.Plain.{Routine}
-use Rattle.batch_meaning.specs.Batch.{Engine}
+use Rattle.batch_meaning.specs.Batch.{LoopOptions}
 use Rattle.batch_meaning.specs.Places.{if_some, main_layout}
 use Rattle.call_contexts.specs.Settings.{setting_of}
 use Rattle.call_contexts.specs.Settings as settings
-use Rattle.cell_names.specs.declared.frame.Frame.{Frame}
+use Rattle.cell_names.specs.declared.frame.NameFrame.{NameFrame}
 use Rattle.cell_names.specs.declared.frame.Point.{Point}
 use Rattle.cell_names.specs.declared.frame.Point.TheVariants.{Entry, Then, Else, Body, Post, Iterate, Fix, Exit, Leap}
 use Rattle.cell_rows.specs.Rows.{Row, Init}
 use Rattle.cell_rows.specs.Flat.{RowsAt, row_by}
-use Rattle.flow_rows.specs.Shapes.{Node}
+use Rattle.imp_flow_rows.specs.Shapes.{Node}
 use Rattle.imp_flow.specs.Nodes.{nodes_of, node_of}
-use Rattle.flow_rows.specs.NodeRows.{post_at, enter_at, branch_at, turn_at, next_at, fix_at, exit_at, leap_at}
+use Rattle.imp_flow_rows.specs.NodeRows.{post_at, enter_at, branch_at, turn_at, next_at, fix_at, exit_at, leap_at}
 
 -- A program, in the order of the text, and how its loops are interpreted.
 pub record Plan : Type 0 where
   pub program : List Routine
-  pub engine : Engine
+  pub engine : LoopOptions
 
-abbrev pub plan_of : List Routine → Engine → Plan
+abbrev pub plan_of : List Routine → LoopOptions → Plan
 plan_of program engine = record { program = program; engine = engine }
 
--- the marks of the procedure at a place
-abbrev pub marks_at : Plan → ℕ → List ℤ
-marks_at plan place = settings.marks_at (setting_of plan.engine plan.program) place
+-- the thresholds of the procedure at a place
+abbrev pub thresholds_at : Plan → ℕ → List ℤ
+thresholds_at plan place = settings.thresholds_at (setting_of plan.engine plan.program) place
 
 -- the loops of the procedure at a place
 abbrev pub loops_at : Plan → ℕ → List ℕ
@@ -34,7 +34,7 @@ abbrev pub plan_nodes : Plan → List Node
 plan_nodes plan = nodes_of (reverse plan.program)
 
 -- the row of a point of a statement, but for its iterates
-abbrev pub point_at : List Frame → Point → Node → Option Row
+abbrev pub point_at : List NameFrame → Point → Node → Option Row
 point_at w Entry x = None
 point_at w Body x = None
 point_at w (Then n) x = branch_at w true x
@@ -49,8 +49,8 @@ module _ (plan : Plan) where
   abbrev pub by_node : (n : ℕ) → (Node → Option Row) → Option Row
   by_node n f = if_some (node_of (plan_nodes plan) n) f
 
-  abbrev pub next_of : List Frame → (k : ℕ) → Node → Option Row
-  next_of w k x = next_at w plan.engine (marks_at plan x.place) k x
+  abbrev pub next_of : List NameFrame → (k : ℕ) → Node → Option Row
+  next_of w k x = next_at w plan.engine (thresholds_at plan x.place) k x
 
   abbrev pub rows_of_node : RowsAt (Node → Option Row)
   rows_of_node = record {
@@ -65,5 +65,5 @@ module _ (plan : Plan) where
   }
 
   -- The row of a name: by its last frame and the node of the statement of its point.
-  abbrev pub node_row : List Frame → Point → Option Row
+  abbrev pub node_row : List NameFrame → Point → Option Row
   node_row w p = row_by (Init (main_layout (reverse plan.program))) (λ w. by_node) rows_of_node w p

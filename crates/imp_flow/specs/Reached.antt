@@ -9,11 +9,11 @@ use Rattle.cell_names.specs.declared.frame.Point.TheVariants.{Entry, Post, Fix}
 use Rattle.cell_rows.specs.Rows.{last_point}
 use Rattle.cell_rows.specs.Targets.{to_point}
 use Rattle.cell_rows.specs.Targets as plain
-use Rattle.flow_rows.specs.Shapes.{Node, Shape, Act, If, While, Call}
-use Rattle.flow_rows.specs.declared.node.Node as whole
-use Rattle.flow_rows.specs.Entered.{loops_around}
-use Rattle.imp_flow.specs.declared.steps.Step.{Step}
-use Rattle.imp_flow.specs.declared.steps.Step.TheVariants.{Take, Go}
+use Rattle.imp_flow_rows.specs.Shapes.{Node, Shape, Act, If, While, Call}
+use Rattle.imp_flow_rows.specs.declared.node.Node as whole
+use Rattle.imp_flow_rows.specs.Entered.{loops_around}
+use Rattle.imp_flow.specs.declared.steps.TargetStep.{TargetStep}
+use Rattle.imp_flow.specs.declared.steps.TargetStep.TheVariants.{Take, Go}
 use Rattle.imp_flow.specs.declared.steps.Target.{Target}
 use Rattle.imp_flow.specs.declared.ways.Ending.{Ending}
 use Rattle.imp_flow.specs.declared.ways.Reached.{Reached}
@@ -21,7 +21,7 @@ use Rattle.imp_flow.specs.Nodes.{node_of}
 use Rattle.imp_flow.specs.Plans.{Plan, plan_nodes}
 
 -- Steps and targets as they are defined.
-abbrev pub step_of : Step → plain.Step
+abbrev pub step_of : TargetStep → plain.TargetStep
 step_of (Take n) = plain.Take n
 step_of (Go n) = plain.Go n
 
@@ -37,7 +37,7 @@ abbrev pub those_there : (List ℕ → Option plain.Target) → List (List ℕ) 
 those_there f [] = []
 those_there f (z ∷ zs) = with_one (f z) (those_there f zs)
 
-abbrev pub into_loops : List ℕ → List Step
+abbrev pub into_loops : List ℕ → List TargetStep
 into_loops ns = map Take ns
 
 -- a statement, if it stands in the procedure at a place
@@ -66,7 +66,7 @@ loops_of (Some x) = loops_around x
 abbrev pub ending_of : Ending → List ℕ × Point
 ending_of e = (loops_of e.around, e.point)
 
-abbrev pub reached : List Step → ℕ → Reached
+abbrev pub reached : List TargetStep → ℕ → Reached
 reached ss place = record { steps = ss; place = place }
 
 module _ (plan : Plan) where

@@ -7,12 +7,12 @@ use Rattle.imp_slots.specs.Fits.{IsChecked}
 use Rattle.imp_slots.specs.declared.actions.SlotStmt.TheVariants as act
 use Rattle.imp_check.specs.Parts.{ends_of}
 use Rattle.imp_check.specs.Entries.{entries_of, sites_in}
-use Rattle.program_table.specs.declared.change.Put.{Put}
+use Rattle.imp_table.specs.declared.change.Put.{Put}
 use Rattle.imp_check.specs.declared.entry.Entry.{Entry}
 use Rattle.imp_check.specs.declared.entry.SlotForm.{SlotForm}
 use Rattle.imp_check.specs.declared.entry.SlotForm.TheVariants as form
 use Rattle.batch_meaning.specs.Places.{main_layout}
-use Rattle.imp_flow.specs.Plans.{Plan, marks_at, loops_at}
+use Rattle.imp_flow.specs.Plans.{Plan, thresholds_at, loops_at}
 use Rattle.imp_flow.specs.Changed.{IsChanged, IsTold, Stays}
 use Rattle.imp_flow.specs.declared.search.Search.{Search}
 
@@ -68,6 +68,6 @@ module _ (old new : Plan) where
   abbrev pub AreCallersLooked : Search → (before after : List Procedure) → ℕ → Type 0
   AreCallersLooked s before after k = EndsAlike before after k ⊎ AllLooked s (sites_in (entries_of after) k)
 
-  -- at the loops of a procedure that has other marks
+  -- at the loops of a procedure that has other thresholds
   abbrev pub AreLoopsLooked : Search → ℕ → Type 0
-  AreLoopsLooked s k = (marks_at old k ≡ marks_at new k) ⊎ AllLooked s (loops_at new k)
+  AreLoopsLooked s k = (thresholds_at old k ≡ thresholds_at new k) ⊎ AllLooked s (loops_at new k)

@@ -4,8 +4,8 @@ use Rattle.imp_syntax.specs.Plain.{Procedure}
 use Rattle.imp_slots.specs.Plain.{Code, Stop, Simple, If, While, Call, Break, Routine, code_numbers}
 use Rattle.imp_slots.specs.Fits.{Absent, IsChecked}
 use Rattle.imp_check.specs.Slots.{routine_of, routines_of}
-use Rattle.batch_meaning.specs.Batch.{Engine}
-use Rattle.cell_names.specs.declared.frame.Frame.{Frame}
+use Rattle.batch_meaning.specs.Batch.{LoopOptions}
+use Rattle.cell_names.specs.declared.frame.NameFrame.{NameFrame}
 use Rattle.cell_names.specs.declared.frame.Point.{Point}
 use Rattle.cell_rows.specs.Rows.{Row}
 use Rattle.cell_rows.specs.Flat.{flat_row}
@@ -33,14 +33,14 @@ put_in k r program = take k program ++ r ∷ map (shift_routine k) (drop k progr
 
 -- What the rows of two programs are to each other, the new one with one more procedure: each row is a row of the new
 -- one; and a point that belongs to no statement of that procedure has the same row in both, or none in both.
-pub record KeepRows (engine : Engine) (old new : List Routine) (more : Routine) : Type 0 where
-  pub kept : (w : List Frame) (p : Point) (row : Row) → flat_row engine (reverse old) w p ≡ Some row → flat_row engine (reverse new) w p ≡ Some row
-  pub agree : (w : List Frame) (p : Point) (row other : Row) → flat_row engine (reverse old) w p ≡ Some row → flat_row engine (reverse new) w p ≡ Some other → row ≡ other
-  pub others : (w : List Frame) (p : Point) → Absent (owner w p) (code_numbers more.code) → flat_row engine (reverse new) w p ≡ flat_row engine (reverse old) w p
+pub record KeepRows (engine : LoopOptions) (old new : List Routine) (more : Routine) : Type 0 where
+  pub kept : (w : List NameFrame) (p : Point) (row : Row) → flat_row engine (reverse old) w p ≡ Some row → flat_row engine (reverse new) w p ≡ Some row
+  pub agree : (w : List NameFrame) (p : Point) (row other : Row) → flat_row engine (reverse old) w p ≡ Some row → flat_row engine (reverse new) w p ≡ Some other → row ≡ other
+  pub others : (w : List NameFrame) (p : Point) → Absent (owner w p) (code_numbers more.code) → flat_row engine (reverse new) w p ≡ flat_row engine (reverse old) w p
 
 -- A procedure that is put in before main changes no row of the others.
 abbrev pub RowsStay : Type 0
-RowsStay = (engine : Engine) (program : List Routine) (k : ℕ) (r : Routine) → k < length program → IsChecked (put_in k r program) → KeepRows engine program (put_in k r program) r
+RowsStay = (engine : LoopOptions) (program : List Routine) (k : ℕ) (r : Routine) → k < length program → IsChecked (put_in k r program) → KeepRows engine program (put_in k r program) r
 
 -- In slots, the program with one more procedure behind ps is the one without, with that procedure put in.
 abbrev pub PlacesShift : Type 0

@@ -1,20 +1,20 @@
 //! Whether a statement keeps its rows in another program.
 ghost use Rattle.std.specs.Prelude.{◌≡◌, ◌+◌, ◌<◌, drop, length, ◌&&◌, MatchBool, Some};
 ghost use Rattle.imp_slots.specs.Fits.{IsChecked};
-ghost use Rattle.flow_rows.specs.Entered.{leaves_now, shape_now};
-ghost use Rattle.flow_rows.specs.Shapes as plain;
-ghost use Rattle.imp_flow.specs.Changed.{IsTold, IsChanged, Stays, is_bare, same_leaves, same_marks, same_rounds, same_shapes};
+ghost use Rattle.imp_flow_rows.specs.Entered.{leaves_now, shape_now};
+ghost use Rattle.imp_flow_rows.specs.Shapes as plain;
+ghost use Rattle.imp_flow.specs.Changed.{IsTold, IsChanged, Stays, is_bare, same_leaves, same_thresholds, same_rounds, same_shapes};
 ghost use Rattle.imp_flow.specs.Nodes.{node_of};
-ghost use Rattle.imp_flow.specs.Plans.{marks_at, plan_nodes};
+ghost use Rattle.imp_flow.specs.Plans.{thresholds_at, plan_nodes};
 
 use crate::flow::Flow;
 use cell_names::Point;
-use flow_rows::{Leaves, Node, Shape};
+use imp_flow_rows::{Leaves, Node, Shape};
 use imp_syntax::{ProcId, StmtId};
 
-/// A procedure of the old program and one of the new, and whether they have the same marks.
+/// A procedure of the old program and one of the new, and whether they have the same thresholds.
 #[derive(Clone, Copy)]
-pub(crate) struct Pair {
+pub(crate) struct ProcPair {
     place: ProcId,
     other: ProcId,
     is_same: bool,
@@ -53,23 +53,23 @@ fn same_leaves(leaves: &Leaves<'_>, others: &Leaves<'_>) -> bool
     true
 }
 
-/// Compares the marks of two procedures.
-pub(crate) fn pair_of(old: &Flow<'_>, new: &Flow<'_>, place: ProcId, other: ProcId) -> Pair
+/// Compares the thresholds of two procedures.
+pub(crate) fn pair_of(old: &Flow<'_>, new: &Flow<'_>, place: ProcId, other: ProcId) -> ProcPair
     ensures told { IsTold old.now new.now result }
     ensures place { result.place ≡ place }
     ensures other { result.other ≡ other }
 {
-    let is_same = old.marks(place) == new.marks(other);
-    Pair {
+    let is_same = old.thresholds(place) == new.thresholds(other);
+    ProcPair {
         place,
         other,
         is_same,
     }
 }
 
-/// The procedures of a statement, where both programs have it, and else this pair. So marks are compared once while
+/// The procedures of a statement, where both programs have it, and else this pair. So thresholds are compared once while
 /// statements of one procedure follow each other.
-pub(crate) fn pair_at(old: &Flow<'_>, new: &Flow<'_>, pair: Pair, stmt: StmtId) -> Pair
+pub(crate) fn pair_at(old: &Flow<'_>, new: &Flow<'_>, pair: ProcPair, stmt: StmtId) -> ProcPair
     requires told { IsTold old.now new.now pair }
     ensures told { IsTold old.now new.now result }
     ensures places { (x y : plain.Node) → node_of (plan_nodes old.now) stmt ≡ Some x → node_of (plan_nodes new.now) stmt ≡ Some y → (result.place ≡ x.place) × (result.other ≡ y.place) }
@@ -84,36 +84,42 @@ pub(crate) fn pair_at(old: &Flow<'_>, new: &Flow<'_>, pair: Pair, stmt: StmtId) 
     }
 }
 
-/// Whether the procedures of two statements have the same marks.
-fn same_marks(old: &Flow<'_>, new: &Flow<'_>, pair: Pair, node: &Node<'_>, other: &Node<'_>) -> bool
+/// Whether the procedures of two statements have the same thresholds.
+fn same_thresholds(
+    old: &Flow<'_>,
+    new: &Flow<'_>,
+    pair: ProcPair,
+    node: &Node<'_>,
+    other: &Node<'_>,
+) -> bool
     requires told { IsTold old.now new.now pair }
-    ensures is { result ≡ same_marks old.now new.now node.now.place other.now.place }
+    ensures is { result ≡ same_thresholds old.now new.now node.now.place other.now.place }
 {
     if pair.place == node.place && pair.other == other.place {
         pair.is_same
     } else {
-        old.marks(node.place) == new.marks(other.place)
+        old.thresholds(node.place) == new.thresholds(other.place)
     }
 }
 
 /// Whether two loops, whose bodies end at these points, have the same rounds.
-fn same_rounds(flow: &Flow<'_>, same_marks: bool, end: Point, other: Point) -> bool
-    ensures is { result ≡ same_rounds flow.now.engine same_marks end other }
+fn same_rounds(flow: &Flow<'_>, same_thresholds: bool, end: Point, other: Point) -> bool
+    ensures is { result ≡ same_rounds flow.now.engine same_thresholds end other }
 {
     let budget = flow.budget();
-    budget == 0 || (end == other && (budget <= flow.widening().delay || same_marks))
+    budget == 0 || (end == other && (budget <= flow.widening().delay || same_thresholds))
 }
 
 /// Whether two statements have the same rows, where the points in front of them are the same.
 fn same_shapes(
     old: &Flow<'_>,
     new: &Flow<'_>,
-    pair: Pair,
+    pair: ProcPair,
     node: &Node<'_>,
     other: &Node<'_>,
 ) -> bool
     requires told { IsTold old.now new.now pair }
-    ensures is { result ≡ same_shapes old.now.engine (marks_at old.now node.now.place) (marks_at new.now other.now.place) (shape_now node.now.shape) (shape_now other.now.shape) }
+    ensures is { result ≡ same_shapes old.now.engine (thresholds_at old.now node.now.place) (thresholds_at new.now other.now.place) (shape_now node.now.shape) (shape_now other.now.shape) }
 {
     match (&node.shape, &other.shape) {
         (Shape::Act(a), Shape::Act(b)) => *a == *b,
@@ -125,7 +131,7 @@ fn same_shapes(
                 && same_leaves(leaves, others)
                 && same_rounds(
                     old,
-                    same_marks(old, new, pair, node, other),
+                    same_thresholds(old, new, pair, node, other),
                     *end,
                     *other_end,
                 )
@@ -145,7 +151,7 @@ fn is_bare(shape: &Shape<'_>) -> bool
 }
 
 /// Whether each point of a statement keeps its row.
-pub(crate) fn stays(old: &Flow<'_>, new: &Flow<'_>, pair: Pair, stmt: StmtId) -> bool
+pub(crate) fn stays(old: &Flow<'_>, new: &Flow<'_>, pair: ProcPair, stmt: StmtId) -> bool
     requires one { old.now.engine ≡ new.now.engine }
     requires old { IsChecked old.now.program }
     requires new { IsChecked new.now.program }

@@ -7,21 +7,21 @@ ghost use Rattle.call_contexts.specs.Settings.{setting_of};
 ghost use Rattle.cell_names.specs.declared.frame.Point.TheVariants.{Entry, Body, Iterate};
 ghost use Rattle.cell_rows.specs.Rows.{Init};
 ghost use Rattle.cell_rows.specs.Flat.{flat_row};
-ghost use Rattle.flow_rows.specs.Entered.{node_now};
-ghost use Rattle.flow_rows.specs.Near.{PathFrame, last_frame, row_in};
+ghost use Rattle.imp_flow_rows.specs.Entered.{node_now};
+ghost use Rattle.imp_flow_rows.specs.Near.{PathFrame, last_frame, row_in};
 ghost use Rattle.imp_flow.specs.Nodes.{node_of};
-ghost use Rattle.imp_flow.specs.Plans.{loops_at, marks_at, plan_nodes, plan_of, by_node, point_at, node_row};
+ghost use Rattle.imp_flow.specs.Plans.{loops_at, thresholds_at, plan_nodes, plan_of, by_node, point_at, node_row};
 
 use crate::nodes::node_of;
 use call_contexts::{Setting, main_place};
-use cell_names::{Frame, Point};
-use flow_rows::{
+use cell_names::{NameFrame, Point};
+use imp_chains::Widening;
+use imp_flow_rows::{
     Node, Row, branch_row, enter_row, exit_row, fix_row, leap_row, next_row, post_row, turn_row,
 };
 use imp_slots::Layout;
 use imp_syntax::{ProcId, StmtId};
-use program_chains::Widening;
-use program_table::View;
+use imp_table::View;
 use std::marker::Model;
 
 /// A program as it is read, and how its loops are interpreted.
@@ -99,12 +99,12 @@ impl<'a> Flow<'a> {
         node_of(&self.prog, stmt)
     }
 
-    /// The marks of a procedure.
+    /// The thresholds of a procedure.
     #[inline]
-    pub(crate) fn marks(&self, proc: ProcId) -> &[i64]
-        ensures is { result.now ≡ marks_at self.now proc }
+    pub(crate) fn thresholds(&self, proc: ProcId) -> &[i64]
+        ensures is { result.now ≡ thresholds_at self.now proc }
     {
-        self.setting.marks(proc.place() as usize)
+        self.setting.thresholds(proc.place() as usize)
     }
 
     /// The loops of a procedure, their numbers rising.
@@ -124,26 +124,26 @@ impl<'a> Flow<'a> {
 
     /// The start of a procedure's body.
     #[inline]
-    fn entry_row(&self, frame: Frame) -> Option<Row<'_>>
+    fn entry_row(&self, frame: NameFrame) -> Option<Row<'_>>
         ensures is { (w : List PathFrame) → option_map (row_in (frame ∷ w)) result ≡ node_row self.now (frame ∷ w) Entry }
     {
         match frame {
-            Frame::InCall(stmt) => match self.node(stmt) {
+            NameFrame::InCall(stmt) => match self.node(stmt) {
                 None => None,
                 Some(node) => enter_row(&node),
             },
-            Frame::InLoop(_, _) => None,
+            NameFrame::InLoop(_, _) => None,
         }
     }
 
     /// The start of a loop's body.
     #[inline]
-    fn body_row(&self, frame: Frame) -> Option<Row<'_>>
+    fn body_row(&self, frame: NameFrame) -> Option<Row<'_>>
         ensures is { (w : List PathFrame) → option_map (row_in (frame ∷ w)) result ≡ node_row self.now (frame ∷ w) Body }
     {
         match frame {
-            Frame::InCall(_) => None,
-            Frame::InLoop(stmt, index) => match self.node(stmt) {
+            NameFrame::InCall(_) => None,
+            NameFrame::InLoop(stmt, index) => match self.node(stmt) {
                 None => None,
                 Some(node) => turn_row(&node, self.budget(), self.widening(), index),
             },
@@ -152,7 +152,7 @@ impl<'a> Flow<'a> {
 
     /// The start of a procedure's body, or of main's.
     #[inline]
-    fn first_row(&self, frame: Option<Frame>) -> Option<Row<'_>>
+    fn first_row(&self, frame: Option<NameFrame>) -> Option<Row<'_>>
         ensures is { (w : List PathFrame) → last_frame w ≡ frame → option_map (row_in w) result ≡ node_row self.now w Entry }
     {
         match frame {
@@ -163,7 +163,7 @@ impl<'a> Flow<'a> {
 
     /// The start of a loop's body.
     #[inline]
-    fn turn_row(&self, frame: Option<Frame>) -> Option<Row<'_>>
+    fn turn_row(&self, frame: Option<NameFrame>) -> Option<Row<'_>>
         ensures is { (w : List PathFrame) → last_frame w ≡ frame → option_map (row_in w) result ≡ node_row self.now w Body }
     {
         match frame {
@@ -183,8 +183,8 @@ impl<'a> Flow<'a> {
         match self.node(stmt) {
             None => None,
             Some(node) => {
-                let marks = self.marks(node.place);
-                next_row(&node, marks, self.budget(), self.widening(), index - 1)
+                let thresholds = self.thresholds(node.place);
+                next_row(&node, thresholds, self.budget(), self.widening(), index - 1)
             }
         }
     }
@@ -209,7 +209,7 @@ impl<'a> Flow<'a> {
     }
 
     #[inline]
-    fn node_row(&self, frame: Option<Frame>, point: Point) -> Option<Row<'_>>
+    fn node_row(&self, frame: Option<NameFrame>, point: Point) -> Option<Row<'_>>
         ensures is { (w : List PathFrame) → last_frame w ≡ frame → option_map (row_in w) result ≡ node_row self.now w point }
     {
         match point {
@@ -231,7 +231,7 @@ impl<'a> Flow<'a> {
     /// takes time linear in the breaks of its loop.
     #[tactic(auto, using(crate::proofs::Ties::rows_tie))]
     #[inline]
-    pub fn row(&self, frame: Option<Frame>, point: Point) -> Option<Row<'_>>
+    pub fn row(&self, frame: Option<NameFrame>, point: Point) -> Option<Row<'_>>
         ensures is { (w : List PathFrame) → last_frame w ≡ frame → option_map (row_in w) result ≡ flat_row self.now.engine (reverse self.now.program) w point }
     {
         self.node_row(frame, point)

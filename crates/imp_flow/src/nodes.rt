@@ -1,15 +1,15 @@
 //! The statements of a program as nodes of its flow, and the loops around them.
 ghost use Rattle.std.specs.Prelude.{◌≡◌, ◌++◌, reverse, option_map, OnOk};
 ghost use Rattle.imp_check.specs.Slots.{routines_of};
-ghost use Rattle.flow_rows.specs.Entered.{known_in, head_of, loops_up, loops_around, node_now};
+ghost use Rattle.imp_flow_rows.specs.Entered.{known_in, head_of, loops_up, loops_around, node_now};
 ghost use Rattle.imp_flow.specs.Nodes.{nodes_of, node_of};
 ghost use Rattle.imp_flow.specs.Reached.{into_loops};
 
-use crate::steps::Step;
-use flow_rows::Node;
+use crate::steps::TargetStep;
+use base_values::{Items, Memory};
+use imp_flow_rows::Node;
 use imp_syntax::StmtId;
-use plain_values::{Items, Memory};
-use program_table::View;
+use imp_table::View;
 
 /// The innermost loop around a loop.
 fn head_of(prog: &View<'_>, stmt: StmtId) -> Option<StmtId>
@@ -27,7 +27,7 @@ fn enter_loops(
     prog: &View<'_>,
     most: u32,
     head: Option<StmtId>,
-    steps: &mut Items<Step>,
+    steps: &mut Items<TargetStep>,
 ) -> Result<(), Memory>
     ensures added { OnOk result (steps.new ≡ steps.old ++ into_loops (loops_up (known_in prog.now) most head)) }
 {
@@ -38,13 +38,16 @@ fn enter_loops(
         None => Ok(()),
         Some(stmt) => {
             enter_loops(prog, most - 1, head_of(prog, stmt), steps)?;
-            steps.push(Step::Take(stmt))
+            steps.push(TargetStep::Take(stmt))
         }
     }
 }
 
 /// Adds the steps into the loops around a statement, outermost first. It takes time linear in the blocks around it.
-pub(crate) fn enter_loops_around(node: &Node<'_>, steps: &mut Items<Step>) -> Result<(), Memory>
+pub(crate) fn enter_loops_around(
+    node: &Node<'_>,
+    steps: &mut Items<TargetStep>,
+) -> Result<(), Memory>
     ensures added { OnOk result (steps.new ≡ steps.old ++ into_loops (loops_around node.now)) }
 {
     let context = node.known.context;

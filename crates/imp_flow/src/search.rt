@@ -3,34 +3,34 @@ ghost use Rattle.std.specs.Prelude.{◌≡◌, ℕ, List, ◌<◌, ◌≤◌, �
 ghost use Rattle.std.specs.Bool.{OnTrue};
 ghost use Rattle.std.specs.BTreeSet.{contains};
 ghost use Rattle.std.specs.Ordering.{nat_cmp};
-ghost use Rattle.plain_values.specs.Equal.{same};
+ghost use Rattle.base_values.specs.Equal.{same};
 ghost use Rattle.imp_syntax.specs.Plain.{Procedure};
 ghost use Rattle.imp_slots.specs.Fits.{IsChecked};
 ghost use Rattle.imp_slots.specs.PartCodes.{layout_code};
 ghost use Rattle.imp_check.specs.Slots.{routines_of};
 ghost use Rattle.imp_check.specs.Fine.{IsFine};
-ghost use Rattle.program_table.specs.Changes.{AreFalling, Makes};
+ghost use Rattle.imp_table.specs.Changes.{AreFalling, Makes};
 ghost use Rattle.batch_meaning.specs.Places.{main_layout};
 ghost use Rattle.call_contexts.specs.Settings.{setting_of};
 ghost use Rattle.imp_flow.specs.Plans.{plan_of};
 ghost use Rattle.imp_flow.specs.Changed.{AreChanged};
 ghost use Rattle.imp_flow.specs.Searches.{left_by, EndsAlike, IsSearch, GoesOn, IsLooked, AllLooked, ArePutsLooked, AreCallersLooked, AreLoopsLooked};
 
-use crate::changed::{Pair, pair_at, pair_of, stays};
+use crate::changed::{ProcPair, pair_at, pair_of, stays};
 use crate::flow::{Flow, main_layout};
+use base_values::Memory;
 use call_contexts::{Setting, procedure_count};
-use imp_check::{Place, SlotForm};
+use imp_check::{SlotForm, TableSlot};
 use imp_slots::SlotStmt;
 use imp_syntax::{ProcId, StmtId};
-use plain_values::Memory;
-use program_table::{Change, Put, Table, View};
+use imp_table::{Change, Put, Table, View};
 use std::alloc::Global;
 use std::collections::BTreeSet;
 
-/// The touched statements that are found so far, with the procedures whose marks were compared last.
+/// The touched statements that are found so far, with the procedures whose thresholds were compared last.
 #[derive(Drop)]
 struct Search {
-    pair: Pair,
+    pair: ProcPair,
     changed: BTreeSet<u32>,
 }
 
@@ -95,7 +95,7 @@ fn look_at_all(
 }
 
 /// The loop that a statement leaves, if it is a break.
-fn left_by(place: &Place) -> Option<StmtId>
+fn left_by(place: &TableSlot) -> Option<StmtId>
     ensures is { result ≡ left_by place.now }
 {
     match place.entry() {
@@ -197,7 +197,7 @@ fn look_at_callers(
     Ok(())
 }
 
-/// Looks at the loops of a procedure, where it has other marks.
+/// Looks at the loops of a procedure, where it has other thresholds.
 fn look_at_loops_of(
     old: &Flow<'_>,
     new: &Flow<'_>,
@@ -208,14 +208,14 @@ fn look_at_loops_of(
     ensures on { OnOk result (GoesOn old.now new.now search.old search.new) }
     ensures looked { OnOk result (AreLoopsLooked old.now new.now search.new proc) }
 {
-    if old.marks(proc) == new.marks(proc) {
+    if old.thresholds(proc) == new.thresholds(proc) {
         return Ok(());
     }
     look_at_all(old, new, new.loops(proc), search)?;
     Ok(())
 }
 
-/// Looks at the loops of procedures that have other marks, where loops are widened.
+/// Looks at the loops of procedures that have other thresholds, where loops are widened.
 fn look_at_loops(
     old: &Flow<'_>,
     new: &Flow<'_>,
@@ -241,9 +241,9 @@ fn look_at_loops(
 /// statement is told by its number, so one that is gone is touched, and one that is new is not.
 ///
 /// It looks at the statements that come or go, at the loops that breaks among them leave, at the calls of procedures that
-/// end with another statement, and, where loops are widened, at the loops of procedures that have other marks. Each look
+/// end with another statement, and, where loops are widened, at the loops of procedures that have other thresholds. Each look
 /// takes time linear in what the statement uses, as conditions and breaks, times the logarithms of the change and of how
-/// many statements are touched. Beside these looks it takes time linear in the procedures and their marks.
+/// many statements are touched. Beside these looks it takes time linear in the procedures and their thresholds.
 ///
 /// # Errors
 ///

@@ -1,11 +1,11 @@
 //! Targets: what a query at a location demands.
+use base_values::Items;
 use cell_names::Point;
 use imp_syntax::StmtId;
-use plain_values::Items;
 
 /// A step on the way from the start of main to a location.
 #[derive(Clone, Copy, Debug, PartialEq, Eq, Drop)]
-pub enum Step {
+pub enum TargetStep {
     /// Into the last round of a loop, that of its fixed point's index.
     Take(StmtId),
     /// Into the procedure that a statement calls.
@@ -15,6 +15,6 @@ pub enum Step {
 /// The way to a location under a chain of calls: the steps from the start of main, in order, and the point there.
 #[derive(Debug, Drop)]
 pub struct Target {
-    pub steps: Items<Step>,
+    pub steps: Items<TargetStep>,
     pub last: Point,
 }

@@ -3,26 +3,26 @@ ghost use Rattle.std.specs.Option.{option_copied};
 ghost use Rattle.imp_check.specs.Entries.{heads_of};
 ghost use Rattle.std.specs.Prelude.{slice_get, ℕ, ◌≡◌, ◌++◌, [], map, reverse, option_map, Some, IfOk, OnOk};
 ghost use Rattle.imp_slots.specs.Fits.{IsChecked};
-ghost use Rattle.analysis_words.specs.declared.refusal.Refusal.{Refusal};
+ghost use Rattle.imp_words.specs.declared.refusal.QueryRefusal.{QueryRefusal};
 ghost use Rattle.batch_meaning.specs.Answers.{In, Misses, procedure_of};
 ghost use Rattle.cell_rows.specs.Targets.{target, targets};
-ghost use Rattle.flow_rows.specs.Entered.{node_now, shape_now};
+ghost use Rattle.imp_flow_rows.specs.Entered.{node_now, shape_now};
 ghost use Rattle.imp_flow.specs.Reached.{target_of, those_there, is_while, into_loops, loops_of, ending_of, reached, node_in_place, way_into, way_along, ending_at, target_from};
 
 use crate::flow::Flow;
 use crate::nodes::enter_loops_around;
-use crate::steps::{Step, Target};
+use crate::steps::{Target, TargetStep};
+use base_values::{Items, Memory, Text};
 use call_contexts::main_place;
 use cell_names::Point;
-use flow_rows::{Node, Shape, behind_or};
+use imp_flow_rows::{Node, Shape, behind_or};
 use imp_syntax::{Chain, Location, ProcId, StmtId};
-use plain_values::{Items, Memory, Text};
 use std::alloc::Global;
 
 /// The steps to a procedure, and its place.
 #[derive(Drop)]
 struct Reached {
-    steps: Items<Step>,
+    steps: Items<TargetStep>,
     place: ProcId,
 }
 
@@ -35,7 +35,7 @@ struct Ending<'a> {
 
 /// Adds the steps into the loops around an ending.
 #[tactic(auto, using(crate::proofs::EnteredLemmas::into_nothing))]
-fn enter_loops(around: &Option<Node<'_>>, steps: &mut Items<Step>) -> Result<(), Memory>
+fn enter_loops(around: &Option<Node<'_>>, steps: &mut Items<TargetStep>) -> Result<(), Memory>
     ensures added { OnOk result (steps.new ≡ steps.old ++ into_loops (loops_of around.now)) }
 {
     match around {
@@ -76,7 +76,7 @@ fn enter_call(flow: &Flow<'_>, caller: Reached, site: StmtId) -> Result<Option<R
     match &node.shape {
         Shape::Call(_, callee, Some(_)) => {
             enter_loops_around(&node, &mut steps)?;
-            steps.push(Step::Go(site))?;
+            steps.push(TargetStep::Go(site))?;
             Ok(Some(Reached {
                 steps,
                 place: *callee,
@@ -232,7 +232,7 @@ fn all_targets(
 
 /// The targets of a location, one for each chain that a call string selects, in the chains' order: by the text of the
 /// last calls first. The string has the outermost call first. There are none where the program has no such location.
-/// It takes the time of [`targets`](selected_chains::targets), and that of [`target`] for each chain.
+/// It takes the time of [`targets`](call_chains::targets), and that of [`target`] for each chain.
 ///
 /// # Errors
 ///
@@ -244,10 +244,10 @@ pub fn targets(
     string: &[u32],
 ) -> Result<Items<Target>, Memory>
     ensures are { IfOk result (λ ts. (p : ℕ) → procedure_of flow.now.program at.now ≡ In p → targets flow.now.program p at.now string.now ≡ Some (map target_of ts)) }
-    ensures none { IfOk result (λ ts. (r : Refusal) → procedure_of flow.now.program at.now ≡ Misses r → ts ≡ []) }
+    ensures none { IfOk result (λ ts. (r : QueryRefusal) → procedure_of flow.now.program at.now ≡ Misses r → ts ≡ []) }
 {
     let prog = flow.program();
     prog.procs();
-    let chains = selected_chains::targets(alloc, prog, at, string)?;
+    let chains = call_chains::targets(alloc, prog, at, string)?;
     all_targets(alloc, flow, at, chains.as_slice())
 }

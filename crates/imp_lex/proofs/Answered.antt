@@ -2,7 +2,7 @@
 use Rattle.std.proofs.Common.{◌≡◌, ℕ, zero, suc, ◌+◌, ◌<◌, List, [], ◌∷◌, ◌++◌, length, drop, refl, sym, ap, ◌∙◌, arith, append_assoc, length-drop}
 use Rattle.std.specs.Prelude.{Ok, Err}
 use Rattle.std.proofs.lemmas.List.{append-nil, drop-drop}
-use Rattle.imp_lex.specs.declared.token.Kind.{Kind}
+use Rattle.imp_lex.specs.declared.token.TokenKind.{TokenKind}
 use Rattle.imp_lex.specs.declared.token.Token.{Token}
 use Rattle.imp_lex.specs.declared.error.Fault.{Fault}
 use Rattle.imp_lex.specs.declared.front.Front.{Front}
@@ -73,7 +73,7 @@ has_skip : (at n : ℕ) (text : List ℕ) (answer : Answer) → front_of text �
 has_skip at n text (Ok tokens) e h = skip e h
 has_skip at n text (Err error) e h = (h.0, h.1, h.2, pass e h.3)
 
-has_word : (at n : ℕ) (kind : Kind) (text : List ℕ) (answer : Answer) → front_of text ≡ p.Takes n kind → Has (at + n) (drop n text) answer → Has at text (behind (token_at at n kind ∷ []) answer)
+has_word : (at n : ℕ) (kind : TokenKind) (text : List ℕ) (answer : Answer) → front_of text ≡ p.Takes n kind → Has (at + n) (drop n text) answer → Has at text (behind (token_at at n kind ∷ []) answer)
 has_word at n kind text (Ok tokens) e h = word e h
 has_word at n kind text (Err error) e h = (h.0, h.1, h.2, past e h.3)
 
@@ -111,7 +111,7 @@ begun text = behind_nothing (answer_of 0 text)
 pub skips : (text : List ℕ) (found : List Token) (at n : ℕ) → front_of (drop at text) ≡ p.Skip n → HasFound text found at → HasFound text found (at + n)
 skips text found at n e so_far = so_far ∙ ap (behind found) (stepped at (drop at text) (p.Skip n) e ∙ ap (answer_of (at + n)) (drop-drop n at text))
 
-pub takes : (text : List ℕ) (found : List Token) (at n : ℕ) (kind : Kind) → front_of (drop at text) ≡ p.Takes n kind → HasFound text found at → HasFound text (found ++ token_at at n kind ∷ []) (at + n)
+pub takes : (text : List ℕ) (found : List Token) (at n : ℕ) (kind : TokenKind) → front_of (drop at text) ≡ p.Takes n kind → HasFound text found at → HasFound text (found ++ token_at at n kind ∷ []) (at + n)
 takes text found at n kind e so_far =
     so_far ∙ ap (behind found) (stepped at (drop at text) (p.Takes n kind) e ∙ ap (λ rest. behind (token_at at n kind ∷ []) (answer_of (at + n) rest)) (drop-drop n at text)) ∙ behind_behind found (token_at at n kind) (answer_of (at + n) (drop (at + n) text))
 

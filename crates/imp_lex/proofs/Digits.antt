@@ -2,8 +2,8 @@
 use Rattle.std.proofs.Common.{◌≡◌, ℕ, ◌+◌, ◌-◌, ◌*◌, ◌/◌, ◌≤◌, ◌<◌, false, cond, List, [], ◌∷◌, length, drop, refl, sym, ap, ◌∙◌, arith, get_or, add-one, drop-cons}
 use Rattle.std.proofs.lemmas.Bool.Decides.{nat_tests}
 use Rattle.std.specs.Prelude.{Some, None, nat_le}
-use Rattle.imp_lex.specs.declared.token.Kind.TheVariants as k
-use Rattle.plain_values.specs.Numbers.{greatest}
+use Rattle.imp_lex.specs.declared.token.TokenKind.TheVariants as k
+use Rattle.base_values.specs.Numbers.{greatest}
 use Rattle.imp_lex.specs.Numbers.{value_on}
 use Rattle.imp_lex.specs.Kinds.{number_kind}
 

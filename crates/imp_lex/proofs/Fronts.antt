@@ -2,7 +2,7 @@
 use Rattle.std.proofs.Common.{ℕ, suc, ◌+◌, ◌≤◌, Bool, true, false, cond, List, [], ◌∷◌, length, take, refl, arith}
 use Rattle.std.specs.Prelude.{Option, Some, None}
 use Rattle.imp_lex.specs.declared.token.Mark.{Mark}
-use Rattle.imp_lex.specs.declared.token.Kind.{Kind}
+use Rattle.imp_lex.specs.declared.token.TokenKind.{TokenKind}
 use Rattle.imp_lex.specs.declared.error.Fault.{Fault}
 use Rattle.imp_lex.specs.declared.error.Fault.TheVariants as f
 use Rattle.imp_lex.specs.declared.front.Front.{Front}
@@ -13,7 +13,7 @@ run_within : (is : ℕ → Bool) (bs : List ℕ) → run is bs ≤ length bs
 run_within is [] = omega arith
 run_within is (b ∷ bs) = elim (is b) as (λ v. cond v (suc (run is bs)) 0 ≤ suc (length bs)) [ true ↦ omega (arith, run_within is bs) | false ↦ omega arith ]
 
-taken_bounded : (n most : ℕ) (o : Option Kind) (fault : Fault) → 1 ≤ n → n ≤ most → IsBounded most (taken n o fault)
+taken_bounded : (n most : ℕ) (o : Option TokenKind) (fault : Fault) → 1 ≤ n → n ≤ most → IsBounded most (taken n o fault)
 taken_bounded n most None fault some within = tt
 taken_bounded n most (Some kind) fault some within = (some, within)
 

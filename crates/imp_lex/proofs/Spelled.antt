@@ -8,14 +8,14 @@ use Rattle.std.proofs.lemmas.List.{drop-drop}
 use Rattle.std.proofs.lemmas.List.Elements.{All-nil, All-cons}
 use Rattle.imp_lex.specs.declared.token.Mark.{Mark}
 use Rattle.imp_lex.specs.declared.token.Word.{Word}
-use Rattle.imp_lex.specs.declared.token.Kind.{Kind}
-use Rattle.imp_lex.specs.declared.token.Kind.TheVariants as k
+use Rattle.imp_lex.specs.declared.token.TokenKind.{TokenKind}
+use Rattle.imp_lex.specs.declared.token.TokenKind.TheVariants as k
 use Rattle.imp_lex.specs.declared.token.Token.{Token}
 use Rattle.imp_lex.specs.declared.error.Fault.{Fault}
 use Rattle.imp_lex.specs.declared.error.Fault.TheVariants as f
 use Rattle.imp_lex.specs.declared.front.Front.{Front}
 use Rattle.imp_lex.specs.declared.front.Front.TheVariants as p
-use Rattle.plain_values.specs.Numbers.{greatest}
+use Rattle.base_values.specs.Numbers.{greatest}
 use Rattle.imp_lex.specs.Numbers.{value_on}
 use Rattle.imp_lex.specs.Kinds.{reserved_word, word_or_name, word_kind, number_kind, mark_of, most_name_bytes}
 use Rattle.imp_lex.specs.Front.{front_of, taken, longest, mark_front, run, is_blank, is_letter, is_digit, is_word, begins_comment, IsBounded}
@@ -30,7 +30,7 @@ IsFrontSpelled text (p.Takes n kind) = Spells (take n text) kind
 IsFrontSpelled text (p.Bad fault) = Unit {0}
 
 -- what the token is, if there is one, the bytes spell
-abbrev pub IsKindSpelled : List ℕ → Option Kind → Type 0
+abbrev pub IsKindSpelled : List ℕ → Option TokenKind → Type 0
 IsKindSpelled bytes None = Unit {0}
 IsKindSpelled bytes (Some kind) = Spells bytes kind
 
@@ -75,7 +75,7 @@ word_at_front b rest letter = subst (λ (bytes : List ℕ). IsKindSpelled bytes 
 number_at_front : (b : ℕ) (rest : List ℕ) → is_digit b ≡ true → IsKindSpelled (take (1 + run is_digit rest) (b ∷ rest)) (number_kind (take (1 + run is_digit rest) (b ∷ rest)))
 number_at_front b rest digit = subst (λ (bytes : List ℕ). IsKindSpelled bytes (number_kind bytes)) (run_behind is_digit b rest) (number_kind_spelled (b ∷ take (run is_digit rest) rest) (and_from (is_digit b) (list_all is_digit (take (run is_digit rest) rest)) digit (run_all is_digit rest)))
 
-taken_spelled : (n : ℕ) (text : List ℕ) (o : Option Kind) (fault : Fault) → IsKindSpelled (take n text) o → IsFrontSpelled text (taken n o fault)
+taken_spelled : (n : ℕ) (text : List ℕ) (o : Option TokenKind) (fault : Fault) → IsKindSpelled (take n text) o → IsFrontSpelled text (taken n o fault)
 taken_spelled n text None fault h = tt
 taken_spelled n text (Some kind) fault h = h
 

@@ -1,8 +1,8 @@
 -- What stands at the front of a text: the longest token, bytes to pass, or a fault.
 use Rattle.std.specs.Prelude.{◌≡◌, ℕ, suc, ◌+◌, ◌≤◌, Bool, false, not, ◌&&◌, ◌||◌, nat_le, nat_eq, List, [], ◌∷◌, take, Option, Some, None, if◌then◌else◌}
 use Rattle.imp_lex.specs.declared.token.Mark.{Mark}
-use Rattle.imp_lex.specs.declared.token.Kind.{Kind}
-use Rattle.imp_lex.specs.declared.token.Kind.TheVariants as k
+use Rattle.imp_lex.specs.declared.token.TokenKind.{TokenKind}
+use Rattle.imp_lex.specs.declared.token.TokenKind.TheVariants as k
 use Rattle.imp_lex.specs.declared.error.Fault.{Fault}
 use Rattle.imp_lex.specs.declared.error.Fault.TheVariants as f
 use Rattle.imp_lex.specs.declared.front.Front.{Front}
@@ -40,7 +40,7 @@ begins_comment b [] = false
 begins_comment b (c ∷ rest) = nat_eq b 47 && nat_eq c 47
 
 -- a token of so many bytes, or this fault where there is none
-abbrev pub taken : ℕ → Option Kind → Fault → Front
+abbrev pub taken : ℕ → Option TokenKind → Fault → Front
 taken n None fault = p.Bad fault
 taken n (Some kind) fault = p.Takes n kind
 

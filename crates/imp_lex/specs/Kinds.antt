@@ -5,9 +5,9 @@ use Rattle.imp_lex.specs.declared.token.Word.{Word}
 use Rattle.imp_lex.specs.declared.token.Word.TheVariants as w
 use Rattle.imp_lex.specs.declared.token.Mark.{Mark}
 use Rattle.imp_lex.specs.declared.token.Mark.TheVariants as m
-use Rattle.imp_lex.specs.declared.token.Kind.{Kind}
-use Rattle.imp_lex.specs.declared.token.Kind.TheVariants as k
-use Rattle.plain_values.specs.Numbers.{greatest}
+use Rattle.imp_lex.specs.declared.token.TokenKind.{TokenKind}
+use Rattle.imp_lex.specs.declared.token.TokenKind.TheVariants as k
+use Rattle.base_values.specs.Numbers.{greatest}
 use Rattle.imp_lex.specs.Numbers.{value_on}
 
 -- what stands beside a text in a table
@@ -31,19 +31,19 @@ abbrev pub most_name_bytes : ℕ
 most_name_bytes = 32
 
 -- a name, or nothing where the text is too long
-abbrev pub name_kind : List ℕ → Option Kind
+abbrev pub name_kind : List ℕ → Option TokenKind
 name_kind word = if nat_le (length word) most_name_bytes then Some (k.Name word) else None
 
-abbrev pub word_or_name : Option Word → List ℕ → Option Kind
+abbrev pub word_or_name : Option Word → List ℕ → Option TokenKind
 word_or_name (Some reserved) word = Some (k.Word reserved)
 word_or_name None word = name_kind word
 
 -- a reserved word, and else a name
-unfoldable pub word_kind : List ℕ → Option Kind
+unfoldable pub word_kind : List ℕ → Option TokenKind
 word_kind word = word_or_name (reserved_word word) word
 
 -- the number of these digits, or nothing where it is too big
-unfoldable pub number_kind : List ℕ → Option Kind
+unfoldable pub number_kind : List ℕ → Option TokenKind
 number_kind digits = if nat_le (value_on 0 digits) greatest then Some (k.Number (value_on 0 digits)) else None
 
 -- the marks of two bytes

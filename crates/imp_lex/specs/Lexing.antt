@@ -1,8 +1,8 @@
 -- The tokens of a text, or its first fault.
 use Rattle.std.specs.Prelude.{◌≡◌, ℕ, ◌+◌, ◌-◌, ◌≤◌, ◌<◌, Result, Ok, Err, List, [], ◌∷◌, length, take, drop, true, Some, None, ◌⊎◌}
 use Rattle.std.specs.List.{list_all}
-use Rattle.imp_lex.specs.declared.token.Kind.{Kind}
-use Rattle.imp_lex.specs.declared.token.Kind.TheVariants as k
+use Rattle.imp_lex.specs.declared.token.TokenKind.{TokenKind}
+use Rattle.imp_lex.specs.declared.token.TokenKind.TheVariants as k
 use Rattle.imp_lex.specs.declared.token.Token.{Token}
 use Rattle.imp_lex.specs.declared.error.Fault.{Fault}
 use Rattle.imp_lex.specs.declared.error.Fault.TheVariants as f
@@ -14,20 +14,20 @@ use Rattle.imp_lex.specs.Kinds.{reserved_word, mark_of, most_name_bytes}
 use Rattle.imp_lex.specs.Front.{front_of, is_letter, is_digit, is_word}
 
 -- a token of n bytes that begins here
-abbrev pub token_at : ℕ → ℕ → Kind → Token
+abbrev pub token_at : ℕ → ℕ → TokenKind → Token
 token_at at n kind = record { kind = kind; span = record { start = at; end = at + n } }
 
 -- the text, which stands from this place on, has these tokens
 pub data IsLexed : ℕ → List ℕ → List Token → Type 0 where
   done : {at : ℕ} {text : List ℕ} → front_of text ≡ p.End → IsLexed at text []
   skip : {at n : ℕ} {text : List ℕ} {tokens : List Token} → front_of text ≡ p.Skip n → IsLexed (at + n) (drop n text) tokens → IsLexed at text tokens
-  word : {at n : ℕ} {kind : Kind} {text : List ℕ} {tokens : List Token} → front_of text ≡ p.Takes n kind → IsLexed (at + n) (drop n text) tokens → IsLexed at text (token_at at n kind ∷ tokens)
+  word : {at n : ℕ} {kind : TokenKind} {text : List ℕ} {tokens : List Token} → front_of text ≡ p.Takes n kind → IsLexed (at + n) (drop n text) tokens → IsLexed at text (token_at at n kind ∷ tokens)
 
 -- the text, which stands from this place on, has this fault at that place first
 pub data IsFaulty : ℕ → List ℕ → Fault → ℕ → Type 0 where
   here : {at : ℕ} {fault : Fault} {text : List ℕ} → front_of text ≡ p.Bad fault → IsFaulty at text fault at
   pass : {at n place : ℕ} {fault : Fault} {text : List ℕ} → front_of text ≡ p.Skip n → IsFaulty (at + n) (drop n text) fault place → IsFaulty at text fault place
-  past : {at n place : ℕ} {kind : Kind} {fault : Fault} {text : List ℕ} → front_of text ≡ p.Takes n kind → IsFaulty (at + n) (drop n text) fault place → IsFaulty at text fault place
+  past : {at n place : ℕ} {kind : TokenKind} {fault : Fault} {text : List ℕ} → front_of text ≡ p.Takes n kind → IsFaulty (at + n) (drop n text) fault place → IsFaulty at text fault place
 
 -- a fault as an error
 abbrev pub error_at : Fault → ℕ → LexError
@@ -71,7 +71,7 @@ IsName [] = ⊥
 IsName (b ∷ rest) = (is_letter b ≡ true) × (list_all is_word rest ≡ true) × (reserved_word (b ∷ rest) ≡ None) × (length (b ∷ rest) ≤ most_name_bytes)
 
 -- the bytes are those of such a token
-abbrev pub Spells : List ℕ → Kind → Type 0
+abbrev pub Spells : List ℕ → TokenKind → Type 0
 Spells bytes (k.Word reserved) = reserved_word bytes ≡ Some reserved
 Spells bytes (k.Mark mark) = mark_of bytes ≡ Some mark
 Spells bytes (k.Name name) = (bytes ≡ name) × IsName bytes

@@ -3,7 +3,7 @@ ghost use Rattle.std.specs.Prelude.{◌≡◌};
 ghost use Rattle.imp_lex.specs.declared.error.LexError.TheVariants.{Memory as of_memory};
 ghost use Rattle.imp_lex.specs.Lexing.{error_at};
 
-use plain_values::Memory;
+use base_values::Memory;
 use thiserror::Error;
 
 /// Why a text has no tokens, and at which byte, counted from 0.

@@ -4,8 +4,8 @@ ghost use Rattle.imp_lex.specs.Front.{front_of, taken, mark_front, pair_at, begi
 
 use crate::error::Fault;
 use crate::kinds::{long_mark, number_kind, short_mark, word_kind};
-use crate::{Kind, Mark};
-use plain_values::Memory;
+use crate::{Mark, TokenKind};
+use base_values::Memory;
 use std::alloc::Global;
 
 /// What stands at the front: nothing, bytes to pass, a token of so many bytes, or a fault.
@@ -13,7 +13,7 @@ use std::alloc::Global;
 pub(crate) enum Front {
     End,
     Skip(usize),
-    Takes(usize, Kind),
+    Takes(usize, TokenKind),
     Bad(Fault),
 }
 
@@ -44,7 +44,7 @@ pub(crate) fn front_at(alloc: Global, text: &[u8]) -> Result<Front, Memory>
     }
 }
 
-fn taken(n: usize, kind: Option<Kind>, fault: Fault) -> Front
+fn taken(n: usize, kind: Option<TokenKind>, fault: Fault) -> Front
     ensures is { result ≡ taken n kind fault }
 {
     match kind {
@@ -60,11 +60,11 @@ fn mark_front(b: u8, rest: &[u8]) -> Front
 {
     if let [c, ..] = rest {
         if let Some(mark) = long_mark(b, *c) {
-            return Front::Takes(2, Kind::Mark(mark));
+            return Front::Takes(2, TokenKind::Mark(mark));
         }
     }
     match short_mark(b) {
-        Some(mark) => Front::Takes(1, Kind::Mark(mark)),
+        Some(mark) => Front::Takes(1, TokenKind::Mark(mark)),
         None => Front::Bad(Fault::BadByte),
     }
 }

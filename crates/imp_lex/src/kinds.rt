@@ -3,8 +3,8 @@ ghost use Rattle.std.specs.Prelude.{◌≡◌, [], ◌∷◌, IfOk};
 ghost use Rattle.std.specs.Str.{bytes_eq};
 ghost use Rattle.imp_lex.specs.Kinds.{reserved_word, word_kind, number_kind, mark_of};
 
-use crate::{Kind, Mark, Word};
-use plain_values::{Memory, Number, Text};
+use crate::{Mark, TokenKind, Word};
+use base_values::{Memory, Number, Text};
 use std::alloc::Global;
 
 /// The most bytes of a name.
@@ -15,17 +15,17 @@ const GREATEST: u64 = 9_223_372_036_854_775_807;
 
 /// The word: a reserved word, a name, or none where it is too long.
 #[tactic(auto, unfolding(crate::specs::Kinds::word_kind))]
-pub(crate) fn word_kind(alloc: Global, word: &[u8]) -> Result<Option<Kind>, Memory>
+pub(crate) fn word_kind(alloc: Global, word: &[u8]) -> Result<Option<TokenKind>, Memory>
     ensures is { IfOk result (λ kind. kind ≡ word_kind word.now) }
 {
     if let Some(reserved) = reserved_word(word) {
-        return Ok(Some(Kind::Word(reserved)));
+        return Ok(Some(TokenKind::Word(reserved)));
     }
     if word.len() > MOST_NAME_BYTES {
         return Ok(None);
     }
     let name = Text::from_slice(alloc, word)?;
-    Ok(Some(Kind::Name(name)))
+    Ok(Some(TokenKind::Name(name)))
 }
 
 #[tactic(auto, unfolding(crate::specs::Kinds::reserved_word))]
@@ -81,7 +81,7 @@ fn is(word: &[u8], text: &[u8]) -> bool
 
 /// The number that the digits write, or none where it is too big.
 #[tactic(auto, unfolding(crate::specs::Kinds::number_kind))]
-pub(crate) fn number_kind(digits: &[u8]) -> Option<Kind>
+pub(crate) fn number_kind(digits: &[u8]) -> Option<TokenKind>
     ensures is { result ≡ number_kind digits.now }
 {
     let mut value: u64 = 0;
@@ -92,7 +92,7 @@ pub(crate) fn number_kind(digits: &[u8]) -> Option<Kind>
         }
         value = value * 10 + digit;
     }
-    Some(Kind::Number(Number::new(value)))
+    Some(TokenKind::Number(Number::new(value)))
 }
 
 /// The mark of two bytes.

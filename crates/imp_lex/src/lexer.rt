@@ -5,7 +5,7 @@ ghost use Rattle.imp_lex.specs.Lexing.{IsLexed, IsFault, IsOnlyAnswer, AreInOrde
 
 use crate::front::{Front, front_at};
 use crate::{LexError, Span, Token};
-use plain_values::Items;
+use base_values::Items;
 use std::alloc::Global;
 
 /// The tokens of a text, or its first fault in the order of the bytes.

@@ -24,7 +24,7 @@ mod token;
 pub use error::LexError;
 pub use lexer::tokens;
 pub use names::is_name;
-pub use token::{Kind, Mark, Span, Token, Word};
+pub use token::{Mark, Span, Token, TokenKind, Word};
 
 /// A text has its tokens or a fault, one answer and no other.
 pub fn each_text_has_one_answer()

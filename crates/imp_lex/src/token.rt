@@ -1,10 +1,10 @@
 //! Tokens, their kinds and their spans: what `tokens` gives.
-use plain_values::{Number, Text};
+use base_values::{Number, Text};
 
 /// A token: its kind, and where it stands.
 #[derive(Debug, Drop)]
 pub struct Token {
-    pub kind: Kind,
+    pub kind: TokenKind,
     pub span: Span,
 }
 
@@ -17,7 +17,7 @@ pub struct Span {
 
 /// What a token is.
 #[derive(Debug, Drop)]
-pub enum Kind {
+pub enum TokenKind {
     /// A reserved word.
     Word(Word),
     /// A mark of one byte or two.

@@ -2,8 +2,8 @@
 use Rattle.std.proofs.Common.{◌≡◌, ℕ, ◌<◌, false, List, [], ◌∷◌, ◌++◌, length, refl, ap, subst, arith}
 use Rattle.imp_lex.specs.declared.token.Mark.TheVariants as m
 use Rattle.imp_lex.specs.declared.token.Word.TheVariants as word
-use Rattle.imp_lex.specs.declared.token.Kind.{Kind}
-use Rattle.imp_lex.specs.declared.token.Kind.TheVariants as k
+use Rattle.imp_lex.specs.declared.token.TokenKind.{TokenKind}
+use Rattle.imp_lex.specs.declared.token.TokenKind.TheVariants as k
 use Rattle.imp_syntax.specs.Plain.{Operand, Null}
 use Rattle.imp_syntax.specs.declared.expr.Side.{Side}
 use Rattle.imp_syntax.specs.Views.{operand_of}
@@ -23,23 +23,23 @@ use Rattle.imp_parse.proofs.Conditions.{side_exact, side_some}
 
 -- ---- arguments
 
-pub many_to : (w : List Kind) (es : List Operand) → IsCommas IsSide IsSides w es → IsSides w es
+pub many_to : (w : List TokenKind) (es : List Operand) → IsCommas IsSide IsSides w es → IsSides w es
 many_to w es no_more = sides_end
 many_to w es (one_more g h) = sides_more g h
 
-pub many_from : (w : List Kind) (es : List Operand) → IsSides w es → IsCommas IsSide IsSides w es
+pub many_from : (w : List TokenKind) (es : List Operand) → IsSides w es → IsCommas IsSide IsSides w es
 many_from w es sides_end = no_more
 many_from w es (sides_more g h) = one_more g h
 
-pub all_to : (w : List Kind) (es : List Operand) → IsListed IsSide IsSides w es → IsArguments w es
+pub all_to : (w : List TokenKind) (es : List Operand) → IsListed IsSide IsSides w es → IsArguments w es
 all_to w es none = no_arguments
 all_to w es (some g h) = arguments g h
 
-pub all_from : (w : List Kind) (es : List Operand) → IsArguments w es → IsListed IsSide IsSides w es
+pub all_from : (w : List TokenKind) (es : List Operand) → IsArguments w es → IsListed IsSide IsSides w es
 all_from w es no_arguments = none
 all_from w es (arguments g h) = some g h
 
-pub side_front : (v : List Kind) (e : Operand) → IsSide v e → (rest : List Kind) → begun is_close (v ++ rest) ≡ false
+pub side_front : (v : List TokenKind) (e : Operand) → IsSide v e → (rest : List TokenKind) → begun is_close (v ++ rest) ≡ false
 side_front v e null rest = refl
 side_front v e (value (sum (product (negative g) h) l)) rest = refl
 side_front v e (value (sum (product number h) l)) rest = refl
@@ -66,20 +66,20 @@ sides = record {
 abbrev pub invoke_pack : Strict alone (List ℕ × List Operand) never
 invoke_pack = next a_name (λ f. loose (next (a_mark m.OpenParenthesis) (λ z. loose (give (listed sides) (λ es. (f, es))))))
 
-pub invoke_to : (w : List Kind) (i : List ℕ × List Operand) → invoke_pack.lang w i → IsInvoke w i
+pub invoke_to : (w : List TokenKind) (i : List ℕ × List Operand) → invoke_pack.lang w i → IsInvoke w i
 invoke_to w i (both {a = f} named (both {w = u} mark g)) = let q = made_of (λ es. (f, es)) IsArguments u i g in subst (IsInvoke (k.Name f ∷ k.Mark m.OpenParenthesis ∷ u)) q.2 (invoke q.1)
 
-pub invoke_from : (w : List Kind) (i : List ℕ × List Operand) → IsInvoke w i → invoke_pack.lang w i
+pub invoke_from : (w : List TokenKind) (i : List ℕ × List Operand) → IsInvoke w i → invoke_pack.lang w i
 invoke_from w i (invoke {f = f} {w = u} {es = es} g) = both named (both mark (made (λ es. (f, es)) IsArguments u es g))
 
-pub invoke_is : (ts : List Kind) → invoke_at ts ≡ invoke_pack.reader no_calls ts
+pub invoke_is : (ts : List TokenKind) → invoke_at ts ≡ invoke_pack.reader no_calls ts
 unfolding invoke_at
 invoke_is ts = refl
 
 pub invoke_exact : (n : ℕ) → Exact n IsInvoke never invoke_at
 invoke_exact n = alone_exact invoke_pack IsInvoke invoke_at invoke_to invoke_from invoke_is n
 
-pub invoke_some : (w : List Kind) (i : List ℕ × List Operand) → IsInvoke w i → 0 < length w
+pub invoke_some : (w : List TokenKind) (i : List ℕ × List Operand) → IsInvoke w i → 0 < length w
 invoke_some w i (invoke g) = omega arith
 
 abbrev pub a_call : {L : Layer} → Strict L (List ℕ × List Operand) never

@@ -4,8 +4,8 @@ use Rattle.std.specs.Prelude.{is_some, ◌||◌}
 use Rattle.std.proofs.lemmas.List.{append-nil}
 use Rattle.imp_lex.specs.declared.token.Mark.TheVariants as m
 use Rattle.imp_lex.specs.declared.token.Word.TheVariants as word
-use Rattle.imp_lex.specs.declared.token.Kind.{Kind}
-use Rattle.imp_lex.specs.declared.token.Kind.TheVariants as k
+use Rattle.imp_lex.specs.declared.token.TokenKind.{TokenKind}
+use Rattle.imp_lex.specs.declared.token.TokenKind.TheVariants as k
 use Rattle.imp_syntax.specs.declared.words.Relation.{Relation}
 use Rattle.imp_syntax.specs.declared.words.Relation.TheVariants as r
 use Rattle.imp_syntax.specs.Plain.{Expression, Literal, Operand, Null, Value, Condition, Compare, Not, And, Or}
@@ -23,7 +23,7 @@ use Rattle.imp_parse.proofs.Expressions.{operator_on, expression_exact}
 
 -- ---- a side
 
-pub expression_some : {w : List Kind} {e : Expression} → IsExpression w e → 0 < length w
+pub expression_some : {w : List TokenKind} {e : Expression} → IsExpression w e → 0 < length w
 expression_some (sum (product (negative g) h) l) = omega arith
 expression_some (sum (product number h) l) = omega arith
 expression_some (sum (product name h) l) = omega arith
@@ -39,7 +39,7 @@ an_expression = read IsExpression operator_on expression_at expression_exact num
 abbrev pub value_pack : {L : Layer} → Strict L Operand operator_on
 value_pack = then an_expression (λ e. loose (done operator_on (Value e))) (λ e. nothing_follows operator_on (Value e))
 
-abbrev pub side_arm : {L : Layer} → Kind → Arm L Operand operator_on
+abbrev pub side_arm : {L : Layer} → TokenKind → Arm L Operand operator_on
 side_arm (k.Word word.Null) = Live (loose (done operator_on Null))
 side_arm t = Other
 
@@ -48,23 +48,23 @@ side_pack = choose side_arm value_pack (strict_stops side_arm value_pack) (k.Wor
 
 -- ---- what a side spells
 
-side_to : (w : List Kind) (a : Operand) → (side_pack {L = alone}).lang w a → IsSide w a
+side_to : (w : List TokenKind) (a : Operand) → (side_pack {L = alone}).lang w a → IsSide w a
 side_to w a (live {t = k.Word word.Null} nothing) = null
 side_to w a (live {t = t} g) = absurd g
-side_to w a (other o (both {v = v} {a = e} g nothing)) = subst (λ (q : List Kind). IsSide q (Value e)) (sym (append-nil v)) (value g)
+side_to w a (other o (both {v = v} {a = e} g nothing)) = subst (λ (q : List TokenKind). IsSide q (Value e)) (sym (append-nil v)) (value g)
 
-expression_other : {w : List Kind} {e : Expression} → IsExpression w e → IsOther (side_arm {L = alone}) w
+expression_other : {w : List TokenKind} {e : Expression} → IsExpression w e → IsOther (side_arm {L = alone}) w
 expression_other (sum (product (negative g) h) l) = refl
 expression_other (sum (product number h) l) = refl
 expression_other (sum (product name h) l) = refl
 expression_other (sum (product length_of h) l) = refl
 expression_other (sum (product (group g) h) l) = refl
 
-side_from : (w : List Kind) (a : Operand) → IsSide w a → (side_pack {L = alone}).lang w a
+side_from : (w : List TokenKind) (a : Operand) → IsSide w a → (side_pack {L = alone}).lang w a
 side_from w a null = live {t = k.Word word.Null} nothing
-side_from w a (value {u = u} {e = e} g) = other (expression_other g) (subst (λ (q : List Kind). Both IsExpression (λ x. Nothing (Value x)) q (Value e)) (append-nil u) (both g nothing))
+side_from w a (value {u = u} {e = e} g) = other (expression_other g) (subst (λ (q : List TokenKind). Both IsExpression (λ x. Nothing (Value x)) q (Value e)) (append-nil u) (both g nothing))
 
-side_is : (ts : List Kind) → side_at ts ≡ (side_pack {L = alone}).reader no_calls ts
+side_is : (ts : List TokenKind) → side_at ts ≡ (side_pack {L = alone}).reader no_calls ts
 side_is [] = refl
 side_is (k.Word word.Null ∷ rest) = refl
 side_is (t ∷ rest) = refl
@@ -72,7 +72,7 @@ side_is (t ∷ rest) = refl
 pub side_exact : (n : ℕ) → Exact n IsSide operator_on side_at
 side_exact n = alone_exact side_pack IsSide side_at side_to side_from side_is n
 
-pub side_some : {w : List Kind} {a : Operand} → IsSide w a → 0 < length w
+pub side_some : {w : List TokenKind} {a : Operand} → IsSide w a → 0 < length w
 side_some null = omega arith
 side_some (value g) = expression_some g
 
@@ -81,41 +81,41 @@ a_side = read IsSide operator_on side_at side_exact (k.Word word.Null ∷ [], Nu
 
 -- ---- the languages of chains
 
-pub whole_from : (w : List Kind) (a : Condition) → IsCondition w a → Both IsConjunction IsOr w a
+pub whole_from : (w : List TokenKind) (a : Condition) → IsCondition w a → Both IsConjunction IsOr w a
 whole_from w a (disjunction g h) = both g h
 
-pub whole_to : (w : List Kind) (a : Condition) → Both IsConjunction IsOr w a → IsCondition w a
+pub whole_to : (w : List TokenKind) (a : Condition) → Both IsConjunction IsOr w a → IsCondition w a
 whole_to w a (both g h) = disjunction g h
 
-pub part_from : (w : List Kind) (a : Condition) → IsConjunction w a → Both IsUnit IsAnd w a
+pub part_from : (w : List TokenKind) (a : Condition) → IsConjunction w a → Both IsUnit IsAnd w a
 part_from w a (conjunction g h) = both g h
 
-pub part_to : (w : List Kind) (a : Condition) → Both IsUnit IsAnd w a → IsConjunction w a
+pub part_to : (w : List TokenKind) (a : Condition) → Both IsUnit IsAnd w a → IsConjunction w a
 part_to w a (both g h) = conjunction g h
 
-pub low_from : (a : Condition) (w : List Kind) (e : Condition) → IsOr a w e → Tail or_of (λ u. Or) IsConjunction IsOr a w e
+pub low_from : (a : Condition) (w : List TokenKind) (e : Condition) → IsOr a w e → Tail or_of (λ u. Or) IsConjunction IsOr a w e
 low_from a w e or_ends = ends
 low_from a w e (or_more g h) = more {op = tt} {t = k.Mark m.Or} refl g h
 
-pub low_to : (a : Condition) (w : List Kind) (e : Condition) → Tail or_of (λ u. Or) IsConjunction IsOr a w e → IsOr a w e
+pub low_to : (a : Condition) (w : List TokenKind) (e : Condition) → Tail or_of (λ u. Or) IsConjunction IsOr a w e → IsOr a w e
 low_to a w e ends = or_ends
 low_to a w e (more {t = k.Mark m.Or} is g h) = or_more g h
 low_to a w e (more {t = t} is g h) = absurd cc
 
-pub high_from : (a : Condition) (w : List Kind) (e : Condition) → IsAnd a w e → Tail and_of (λ u. And) IsUnit IsAnd a w e
+pub high_from : (a : Condition) (w : List TokenKind) (e : Condition) → IsAnd a w e → Tail and_of (λ u. And) IsUnit IsAnd a w e
 high_from a w e and_ends = ends
 high_from a w e (and_more g h) = more {op = tt} {t = k.Mark m.And} refl g h
 
-pub high_to : (a : Condition) (w : List Kind) (e : Condition) → Tail and_of (λ u. And) IsUnit IsAnd a w e → IsAnd a w e
+pub high_to : (a : Condition) (w : List TokenKind) (e : Condition) → Tail and_of (λ u. And) IsUnit IsAnd a w e → IsAnd a w e
 high_to a w e ends = and_ends
 high_to a w e (more {t = k.Mark m.And} is g h) = and_more g h
 high_to a w e (more {t = t} is g h) = absurd cc
 
-pub high_apart : (t : Kind) (op : Unit {0}) → and_of t ≡ Some op → operator_on t ≡ false
+pub high_apart : (t : TokenKind) (op : Unit {0}) → and_of t ≡ Some op → operator_on t ≡ false
 high_apart (k.Mark m.And) op e = refl
 high_apart t op e = absurd cc
 
-pub low_apart : (t : Kind) (op : Unit {0}) → or_of t ≡ Some op → (is_some (and_of t) || operator_on t) ≡ false
+pub low_apart : (t : TokenKind) (op : Unit {0}) → or_of t ≡ Some op → (is_some (and_of t) || operator_on t) ≡ false
 low_apart (k.Mark m.Or) op e = refl
 low_apart t op e = absurd cc
 
@@ -146,18 +146,18 @@ abbrev pub conditions : Layer
 conditions = layer and_of or_of (λ u. And) (λ u. Or) operator_on chains
 
 -- goes on with an operator, && or ||
-abbrev pub junction_on : Kind → Bool
+abbrev pub junction_on : TokenKind → Bool
 junction_on = low_on chains
 
 -- ---- a unit
 
-pub close_follows : (a : Condition) (w : List Kind) (e : Condition) (rest : List Kind) → Both (IsMark m.CloseParenthesis) (λ z. Nothing a) w e → Free operator_on rest → Free junction_on (w ++ rest)
+pub close_follows : (a : Condition) (w : List TokenKind) (e : Condition) (rest : List TokenKind) → Both (IsMark m.CloseParenthesis) (λ z. Nothing a) w e → Free operator_on rest → Free junction_on (w ++ rest)
 close_follows a w e rest (both mark h) free = refl
 
 abbrev pub grouped_pack : (Condition → Condition) → Loose conditions Condition operator_on
 grouped_pack made = then (call {L = conditions} Whole) (λ c. loose (next (a_mark m.CloseParenthesis) (λ z. loose (done operator_on (made c))))) (λ c. close_follows (made c))
 
-pub relation_stops : (t : Kind) (x : Relation) → relation_of t ≡ Some x → operator_on t ≡ false
+pub relation_stops : (t : TokenKind) (x : Relation) → relation_of t ≡ Some x → operator_on t ≡ false
 relation_stops (k.Mark m.EqualTo) x e = refl
 relation_stops (k.Mark m.NotEqualTo) x e = refl
 relation_stops (k.Mark m.Less) x e = refl
@@ -172,12 +172,12 @@ relation_follows H w a rest (both {a = x} (picked_as t is) h) free = relation_st
 abbrev pub compare_pack : Strict conditions Condition operator_on
 compare_pack = then a_side (λ a. loose (next a_relation (λ r. loose (then a_side (λ b. loose (done operator_on (Compare r a b))) (λ b. nothing_follows operator_on (Compare r a b)))))) (λ a. relation_follows _)
 
-abbrev pub unit_arm : Kind → Arm conditions Condition operator_on
+abbrev pub unit_arm : TokenKind → Arm conditions Condition operator_on
 unit_arm (k.Mark m.Not) = Live (loose (next (a_mark m.OpenParenthesis) (λ z. grouped_pack (λ c. Not c))))
 unit_arm (k.Mark m.OpenParenthesis) = Live (grouped_pack (λ c. c))
 unit_arm t = Other
 
-pub side_other : {v : List Kind} {a : Operand} → IsSide v a → begins_group v ≡ false → (rest : List Kind) → IsOther unit_arm (v ++ rest)
+pub side_other : {v : List TokenKind} {a : Operand} → IsSide v a → begins_group v ≡ false → (rest : List TokenKind) → IsOther unit_arm (v ++ rest)
 side_other null closed rest = refl
 side_other (value (sum (product (negative g) h) l)) closed rest = refl
 side_other (value (sum (product number h) l)) closed rest = refl
@@ -188,23 +188,23 @@ side_other (value (sum (product (group g) h) l)) closed rest = absurd cc
 abbrev pub unit_pack : Strict conditions Condition operator_on
 unit_pack = choose unit_arm compare_pack (strict_stops unit_arm compare_pack) (k.Word word.Null ∷ k.Mark m.Less ∷ k.Word word.Null ∷ [], Compare r.Less Null Null, other refl (both null (both (picked_as (k.Mark m.Less) refl) (both null nothing))))
 
-closed_of : (v rest : List Kind) → IsOther unit_arm (v ++ rest) → begins_group v ≡ false
+closed_of : (v rest : List TokenKind) → IsOther unit_arm (v ++ rest) → begins_group v ≡ false
 closed_of [] rest o = refl
 closed_of (k.Mark m.OpenParenthesis ∷ v) rest o = absurd cc
 closed_of (t ∷ v) rest o = refl
 
-pub unit_to : (w : List Kind) (c : Condition) → unit_pack.lang w c → IsUnit w c
+pub unit_to : (w : List TokenKind) (c : Condition) → unit_pack.lang w c → IsUnit w c
 unit_to w c (live {t = k.Mark m.Not} (both mark (both g (both mark nothing)))) = opposite g
 unit_to w c (live {t = k.Mark m.OpenParenthesis} (both g (both mark nothing))) = grouped g
 unit_to w c (live {t = t} g) = absurd g
-unit_to w c (other o (both {v = v} {a = a} g (both {a = x} (picked_as t is) (both {v = u} {a = b} h nothing)))) = subst (λ (q : List Kind). IsUnit (v ++ t ∷ q) (Compare x a b)) (sym (append-nil u)) (compare t g (closed_of v (t ∷ (u ++ [])) o) is h)
+unit_to w c (other o (both {v = v} {a = a} g (both {a = x} (picked_as t is) (both {v = u} {a = b} h nothing)))) = subst (λ (q : List TokenKind). IsUnit (v ++ t ∷ q) (Compare x a b)) (sym (append-nil u)) (compare t g (closed_of v (t ∷ (u ++ [])) o) is h)
 
-pub unit_from : (w : List Kind) (c : Condition) → IsUnit w c → unit_pack.lang w c
+pub unit_from : (w : List TokenKind) (c : Condition) → IsUnit w c → unit_pack.lang w c
 unit_from w c (opposite g) = live {t = k.Mark m.Not} (both mark (both g (both mark nothing)))
 unit_from w c (grouped g) = live {t = k.Mark m.OpenParenthesis} (both g (both mark nothing))
-unit_from w c (compare {v = v} {w = u} t {a = a} {b = b} {r = x} g closed is h) = other (side_other g closed (t ∷ u)) (both g (both (picked_as t is) (subst (λ (q : List Kind). Both IsSide (λ y. Nothing (Compare x a y)) q (Compare x a b)) (append-nil u) (both h nothing))))
+unit_from w c (compare {v = v} {w = u} t {a = a} {b = b} {r = x} g closed is h) = other (side_other g closed (t ∷ u)) (both g (both (picked_as t is) (subst (λ (q : List TokenKind). Both IsSide (λ y. Nothing (Compare x a y)) q (Compare x a b)) (append-nil u) (both h nothing))))
 
-pub unit_is : (f : Parts Condition) (ts : List Kind) → unit_by f ts ≡ unit_pack.reader f ts
+pub unit_is : (f : Parts Condition) (ts : List TokenKind) → unit_by f ts ≡ unit_pack.reader f ts
 unfolding same_mark
 unit_is f [] = refl
 unit_is f (k.Mark m.Not ∷ rest) = refl
@@ -223,12 +223,12 @@ condition_exact n = layer_exact conditions condition_step turns n Whole
 pub condition_spells : Opens IsCondition []
 condition_spells = conditions.some Whole
 
-unit_length : {w : List Kind} {c : Condition} → IsUnit w c → 0 < length w
+unit_length : {w : List TokenKind} {c : Condition} → IsUnit w c → 0 < length w
 unit_length (opposite g) = omega arith
 unit_length (grouped g) = omega arith
 unit_length (compare {v = v} {w = u} t g closed is h) = omega (arith, side_some g, length-append v (t ∷ u))
 
-pub condition_length : {w : List Kind} {c : Condition} → IsCondition w c → 0 < length w
+pub condition_length : {w : List TokenKind} {c : Condition} → IsCondition w c → 0 < length w
 condition_length (disjunction {v = vw} {w = u2} (conjunction {v = v} {w = u} g h) l) = omega (arith, unit_length g, length-append v u, length-append vw u2)
 
 abbrev pub a_condition : {L : Layer} → Strict L Condition junction_on
@@ -236,18 +236,18 @@ a_condition = read IsCondition junction_on condition_at condition_exact conditio
 
 -- ---- the equations of the readers
 
-pub condition_eq : (ts : List Kind) → fix condition_step Whole ts ≡ (fix condition_step Inner ts >>= λ x. fix condition_step (High x.0) x.1) >>= λ x. fix condition_step (Low x.0) x.1
+pub condition_eq : (ts : List TokenKind) → fix condition_step Whole ts ≡ (fix condition_step Inner ts >>= λ x. fix condition_step (High x.0) x.1) >>= λ x. fix condition_step (Low x.0) x.1
 unfolding condition_step
 condition_eq ts = whole_eq and_of or_of (λ u. And) (λ u. Or) operator_on chains unit_pack unit_to unit_from unit_by unit_is ts
 
-pub unit_eq : (ts : List Kind) → fix condition_step Inner ts ≡ unit_by (fix condition_step) ts
+pub unit_eq : (ts : List TokenKind) → fix condition_step Inner ts ≡ unit_by (fix condition_step) ts
 unfolding condition_step
 unit_eq ts = layer_eq conditions condition_step turns Inner ts
 
-pub and_eq : (a : Condition) (ts : List Kind) → fix condition_step (High a) ts ≡ and_by a ts
+pub and_eq : (a : Condition) (ts : List TokenKind) → fix condition_step (High a) ts ≡ and_by a ts
 unfolding condition_step
 and_eq a ts = high_eq and_of or_of (λ u. And) (λ u. Or) operator_on chains unit_pack unit_to unit_from unit_by unit_is a ts
 
-pub or_eq : (a : Condition) (ts : List Kind) → fix condition_step (Low a) ts ≡ or_by a ts
+pub or_eq : (a : Condition) (ts : List TokenKind) → fix condition_step (Low a) ts ≡ or_by a ts
 unfolding condition_step
 or_eq a ts = low_eq and_of or_of (λ u. And) (λ u. Or) operator_on chains unit_pack unit_to unit_from unit_by unit_is a ts

@@ -2,16 +2,16 @@
 use Rattle.std.proofs.Common.{◌≡◌, ℕ, zero, suc, ◌<◌, ◌≤◌, List, length, Err, refl, sym, ap, ◌∙◌, arith, inl, inr}
 use Rattle.std.proofs.lemmas.Bool.{cases_lt, lt-ltb, le-ltb}
 use std.Path.{fun_ext}
-use Rattle.imp_lex.specs.declared.token.Kind.{Kind}
+use Rattle.imp_lex.specs.declared.token.TokenKind.{TokenKind}
 use Rattle.imp_parse.specs.Reader.{Out, Read, within, bounded, Steps, turns, fix}
 
-pub within_fewer : {A : Type 0} (ts : List Kind) (read : List Kind → Read A) (rest : List Kind) → length rest < length ts → within ts read rest ≡ read rest
+pub within_fewer : {A : Type 0} (ts : List TokenKind) (read : List TokenKind → Read A) (rest : List TokenKind) → length rest < length ts → within ts read rest ≡ read rest
 within_fewer ts read rest lt = rw (lt-ltb (length rest) (length ts) lt) refl
 
-within_more : {A : Type 0} (ts : List Kind) (read : List Kind → Read A) (rest : List Kind) → length ts ≤ length rest → within ts read rest ≡ Err Out
+within_more : {A : Type 0} (ts : List TokenKind) (read : List TokenKind → Read A) (rest : List TokenKind) → length ts ≤ length rest → within ts read rest ≡ Err Out
 within_more ts read rest le = rw (le-ltb (length rest) (length ts) le) refl
 
-enough : {I A : Type 0} (F : Steps I A) (n m : ℕ) (i : I) (ts : List Kind) → length ts < n → length ts < m → turns F n i ts ≡ turns F m i ts
+enough : {I A : Type 0} (F : Steps I A) (n m : ℕ) (i : I) (ts : List TokenKind) → length ts < n → length ts < m → turns F n i ts ≡ turns F m i ts
 unfolding turns
 enough F zero m i ts h k = absurd (omega arith)
 enough F (suc n) zero i ts h k = absurd (omega arith)
@@ -23,7 +23,7 @@ enough F (suc n) (suc m) i ts h k =
     ])) in
     ap (λ g. F g i ts) same
 
-pub fix_eq : {I A : Type 0} (F : Steps I A) (i : I) (ts : List Kind) → fix F i ts ≡ F (bounded ts (fix F)) i ts
+pub fix_eq : {I A : Type 0} (F : Steps I A) (i : I) (ts : List TokenKind) → fix F i ts ≡ F (bounded ts (fix F)) i ts
 unfolding turns fix
 fix_eq F i ts =
     let same : bounded ts (turns F (length ts)) ≡ bounded ts (fix F) = fun_ext (λ j. fun_ext (λ rest.

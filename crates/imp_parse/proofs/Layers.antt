@@ -1,7 +1,7 @@
 -- A layer of readers that call one another is exact, and is what its step makes of it.
 use Rattle.std.proofs.Common.{◌≡◌, ℕ, zero, suc, Bool, true, false, cond, ltb, List, length, Err, sym, ◌∙◌, subst, arith}
 use std.Path.{fun_ext}
-use Rattle.imp_lex.specs.declared.token.Kind.{Kind}
+use Rattle.imp_lex.specs.declared.token.TokenKind.{TokenKind}
 use Rattle.imp_parse.specs.Language.{Language}
 use Rattle.imp_parse.specs.Reader.{Out, bounded, Steps, turns, fix}
 use Rattle.imp_parse.proofs.Fix.{fix_eq, within_fewer}
@@ -12,18 +12,18 @@ use Rattle.imp_parse.proofs.Pack.{Layer, Calls, Below, Keeps, Agree, Good, stric
 pub record Turn (L : Layer) (F : Steps L.Call L.Value) (i : L.Call) : Type 1 where
   pub up : ℕ → ℕ
   pub pack : Pack L L.Value up strictly (L.on i)
-  pub is : (f : Calls L) (ts : List Kind) → F f i ts ≡ pack.reader f ts
-  pub to : (w : List Kind) (a : L.Value) → pack.lang w a → L.lang i w a
-  pub from : (w : List Kind) (a : L.Value) → L.lang i w a → pack.lang w a
+  pub is : (f : Calls L) (ts : List TokenKind) → F f i ts ≡ pack.reader f ts
+  pub to : (w : List TokenKind) (a : L.Value) → pack.lang w a → L.lang i w a
+  pub from : (w : List TokenKind) (a : L.Value) → L.lang i w a → pack.lang w a
 
 module _ (L : Layer) (F : Steps L.Call L.Value) (turn : (i : L.Call) → Turn L F i) where
   step_keeps : (f : Calls L) → Keeps L f → Keeps L (F f)
   step_keeps f kf k i ts lt = let t = turn i in subst (Below k) (sym (t.is f ts)) (t.pack.keeps f kf k ts (omega (arith, t.pack.high k)))
 
-  step_same : (f g : Calls L) → Keeps L f → (i : L.Call) (ts : List Kind) → Agree L (length ts) f g → F f i ts ≡ F g i ts
+  step_same : (f g : Calls L) → Keeps L f → (i : L.Call) (ts : List TokenKind) → Agree L (length ts) f g → F f i ts ≡ F g i ts
   step_same f g kf i ts h = let t = turn i in t.is f ts ∙ t.pack.same f g kf (length ts) h ts (omega arith) ∙ sym (t.is g ts)
 
-  bounded_keeps : (ts : List Kind) (f : Calls L) → Keeps L f → Keeps L (bounded ts f)
+  bounded_keeps : (ts : List TokenKind) (f : Calls L) → Keeps L f → Keeps L (bounded ts f)
   bounded_keeps ts f kf k i rest lt = elim (ltb (length rest) (length ts)) as (λ b. Below k (cond b (f i rest) (Err Out))) [ true ↦ kf k i rest lt | false ↦ tt ]
 
   turns_keep : (m : ℕ) → Keeps L (turns F m)
@@ -35,7 +35,7 @@ module _ (L : Layer) (F : Steps L.Call L.Value) (turn : (i : L.Call) → Turn L 
   unfolding fix
   layer_keeps k i ts lt = turns_keep (suc (length ts)) k i ts lt
 
-  pub layer_eq : (i : L.Call) (ts : List Kind) → fix F i ts ≡ F (fix F) i ts
+  pub layer_eq : (i : L.Call) (ts : List TokenKind) → fix F i ts ≡ F (fix F) i ts
   layer_eq i ts = fix_eq F i ts ∙ step_same (bounded ts (fix F)) (fix F) (bounded_keeps ts (fix F) layer_keeps) i ts (λ j rest lt. within_fewer ts (fix F j) rest lt)
 
   pub layer_exact : (n : ℕ) → Good L n (fix F)
@@ -53,7 +53,7 @@ alone = record { Call = ⊥; Value = Unit {0}; lang = λ i w a. absurd i; on = �
 abbrev pub no_calls : Calls alone
 no_calls i ts = absurd i
 
-pub alone_exact : {A : Type 0} {on : Kind → Bool} {up at : ℕ → ℕ} (p : Pack alone A up at on) (G : Language A) (r : Reader A) → ((w : List Kind) (a : A) → p.lang w a → G w a) → ((w : List Kind) (a : A) → G w a → p.lang w a) → ((ts : List Kind) → r ts ≡ p.reader no_calls ts) → (n : ℕ) → Exact n G on r
+pub alone_exact : {A : Type 0} {on : TokenKind → Bool} {up at : ℕ → ℕ} (p : Pack alone A up at on) (G : Language A) (r : Reader A) → ((w : List TokenKind) (a : A) → p.lang w a → G w a) → ((w : List TokenKind) (a : A) → G w a → p.lang w a) → ((ts : List TokenKind) → r ts ≡ p.reader no_calls ts) → (n : ℕ) → Exact n G on r
 alone_exact {on = on} p G r to from is n =
     let same : p.reader no_calls ≡ r = fun_ext (λ ts. sym (is ts)) in
     subst (Exact n G on) same (another n p.lang G on (p.reader no_calls) to from (fewer _ n p.lang on (p.reader no_calls) (p.tight n) (p.exact no_calls n (λ i. absurd i))))

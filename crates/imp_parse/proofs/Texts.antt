@@ -3,7 +3,7 @@ use Rattle.std.proofs.Common.{◌≡◌, ◌⊎◌, ℕ, zero, suc, ◌+◌, ◌
 use Rattle.std.specs.Prelude.{IfOk, IfErr}
 use Rattle.std.proofs.lemmas.List.{length-map}
 use Rattle.imp_lex.specs.declared.token.Token.{Token}
-use Rattle.imp_lex.specs.declared.token.Kind.{Kind}
+use Rattle.imp_lex.specs.declared.token.TokenKind.{TokenKind}
 use Rattle.imp_lex.specs.declared.error.LexError.{LexError}
 use Rattle.imp_lex.specs.declared.error.LexError.TheVariants as lex
 use Rattle.imp_lex.specs.Lexing as lexing
@@ -11,7 +11,7 @@ use Rattle.imp_parse.specs.declared.error.Stopped.{Stopped}
 use Rattle.imp_parse.specs.declared.error.Stopped.TheVariants as s
 use Rattle.imp_parse.specs.declared.error.ParseError.{ParseError}
 use Rattle.imp_parse.specs.declared.error.ParseError.TheVariants as e
-use Rattle.imp_parse.specs.declared.limits.Place.{Place}
+use Rattle.imp_parse.specs.declared.limits.Nesting.{Nesting}
 use Rattle.imp_parse.specs.Kinds.{kinds}
 use Rattle.imp_parse.specs.Language.{Language}
 use Rattle.imp_parse.specs.Reader.{Stop, Unexpected, Out}
@@ -32,11 +32,11 @@ few_tokens from most (t ∷ tokens) order le =
 pub kinds_take : (n : ℕ) (tokens : List Token) → kinds (take n tokens) ≡ take n (kinds tokens)
 kinds_take zero tokens = refl
 kinds_take (suc n) [] = refl
-kinds_take (suc n) (t ∷ tokens) = ap (λ (q : List Kind). t.kind ∷ q) (kinds_take n tokens)
+kinds_take (suc n) (t ∷ tokens) = ap (λ (q : List TokenKind). t.kind ∷ q) (kinds_take n tokens)
 
 -- ---- what a function answers
 
-pub record Answers {A : Type 0} (G : Language A) (p : Place) (text : List ℕ) (result : Result A ParseError) : Type 0 where
+pub record Answers {A : Type 0} (G : Language A) (p : Nesting) (text : List ℕ) (result : Result A ParseError) : Type 0 where
   pub parsed : IfOk result (HasTree G p text)
   pub faulty : IfErr result (IsFault G p text)
   pub only : IsOnlyAnswer G p text result
@@ -53,7 +53,7 @@ no_fault text tokens sole fault is = elim (sole (Err fault) is) [
   | inr wrong ↦ absurd cc
 ]
 
-module _ {A : Type 0} (G : Language A) (p : Place) (one : (ts : List Kind) (a b : A) → G ts a → G ts b → a ≡ b) where
+module _ {A : Type 0} (G : Language A) (p : Nesting) (one : (ts : List TokenKind) (a b : A) → G ts a → G ts b → a ≡ b) where
   of_tokens : (text : List ℕ) (tokens : List Token) → lexing.IsLexed 0 text tokens → (answer : Result A ParseError) → IsTokenAnswer G p (kinds tokens) answer → IsAnswer G p text answer
   of_tokens text tokens lexed (Ok x) g = (tokens, lexed, g)
   of_tokens text tokens lexed (Err (e.Unexpected i)) g = (tokens, lexed, g)
@@ -99,13 +99,13 @@ module _ {A : Type 0} (G : Language A) (p : Place) (one : (ts : List Kind) (a b 
   lex_answer text (lex.NumberTooBig at) is sole = right_one text (Err (e.Lex (lex.NumberTooBig at))) is (fault_alone text (lex.NumberTooBig at) sole (λ h. cc))
   lex_answer text (lex.NameTooLong at) is sole = right_one text (Err (e.Lex (lex.NameTooLong at))) is (fault_alone text (lex.NameTooLong at) sole (λ h. cc))
 
-module _ {A : Type 0} (G : Language A) (on : Kind → Bool) (r : Reader A) (exact : (n : ℕ) → Exact n G on r) (p : Place) where
+module _ {A : Type 0} (G : Language A) (on : TokenKind → Bool) (r : Reader A) (exact : (n : ℕ) → Exact n G on r) (p : Nesting) where
   -- an answer by the reader, where the budgets were scanned
-  pub text_answer : (text : List ℕ) (tokens : List Token) → lexing.IsLexed 0 text tokens → lexing.IsOnlyAnswer text (Ok tokens) → (slice : List Token) → slice ≡ tokens → (start : Place) → start ≡ p
-      → (deep : Option ℕ) → deep ≡ too_deep start (kinds slice) → (upto : List Kind) → upto ≡ cut deep (kinds slice)
+  pub text_answer : (text : List ℕ) (tokens : List Token) → lexing.IsLexed 0 text tokens → lexing.IsOnlyAnswer text (Ok tokens) → (slice : List Token) → slice ≡ tokens → (start : Nesting) → start ≡ p
+      → (deep : Option ℕ) → deep ≡ too_deep start (kinds slice) → (upto : List TokenKind) → upto ≡ cut deep (kinds slice)
       → (read : Result A Stopped) → Gives (λ x. x) read (finished (r upto)) → (result : Result A ParseError) → result ≡ judged deep (length slice) read → Answers G p text result
   text_answer text tokens lexed sole slice whole start here deep is upto cuts read gives result judge =
-      let ts : List Kind = kinds tokens in
+      let ts : List TokenKind = kinds tokens in
       let whole_kinds : kinds slice ≡ ts = ap kinds whole in
       let first : deep ≡ too_deep p ts = is ∙ ap (λ q. too_deep q (kinds slice)) here ∙ ap (too_deep p) whole_kinds in
       let len : length slice ≡ length ts = ap length whole ∙ sym (simp length-map) in
@@ -134,7 +134,7 @@ module _ {A : Type 0} (G : Language A) (on : Kind → Bool) (r : Reader A) (exac
   not_memory None total (Err Out) h m = h refl
   not_memory (Some i) total (Err Out) h m = h refl
 
-  pub some_answer : (ts : List Kind) → (answer : Result A ParseError) × IsTokenAnswer G p ts answer
+  pub some_answer : (ts : List TokenKind) → (answer : Result A ParseError) × IsTokenAnswer G p ts answer
   some_answer ts =
       let deep = too_deep p ts in
       let x : Result A Stop = finished (r (cut deep ts)) in

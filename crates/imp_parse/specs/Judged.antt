@@ -1,6 +1,6 @@
 -- From what a reader answers to what the text is.
 use Rattle.std.specs.Prelude.{◌≡◌, ℕ, zero, suc, ◌+◌, ◌-◌, List, [], ◌∷◌, length, take, Option, Some, None, Result, Ok, Err}
-use Rattle.imp_lex.specs.declared.token.Kind.{Kind}
+use Rattle.imp_lex.specs.declared.token.TokenKind.{TokenKind}
 use Rattle.imp_lex.specs.declared.error.LexError.{LexError}
 use Rattle.imp_lex.specs.declared.error.LexError.TheVariants as lex
 use Rattle.imp_parse.specs.declared.error.Stopped.{Stopped}
@@ -26,7 +26,7 @@ finished (Ok (a, t ∷ rest)) = Err (Unexpected (suc (length rest)))
 finished (Err stop) = Err stop
 
 -- all tokens up to the first that is too deep, with it
-abbrev pub cut : Option ℕ → List Kind → List Kind
+abbrev pub cut : Option ℕ → List TokenKind → List TokenKind
 cut None ts = ts
 cut (Some i) ts = take (i + 1) ts
 

@@ -12,9 +12,9 @@ use crate::call::invoke;
 use crate::error::Stopped;
 use crate::expression::{expression, product_tail, sum_tail};
 use crate::marks::{front, mark};
-use imp_lex::{Kind, Mark, Token, Word};
+use base_values::Text;
+use imp_lex::{Mark, Token, TokenKind, Word};
 use imp_syntax::{Action, Call, Expr, ExprNode, Stmt, StmtId, StmtNode};
-use plain_values::Text;
 use std::alloc::Global;
 
 /// The statement of this number and outermost part, and the tokens behind it.
@@ -86,10 +86,10 @@ fn field_rhs(
     ensures shorter { IfOk result (λ x. length x.1.now < length tokens.now) }
 {
     match front(tokens) {
-        Some((Kind::Word(Word::Next), rest)) => {
+        Some((TokenKind::Word(Word::Next), rest)) => {
             of_action(alloc, number, Action::ReadNext(target, link), rest)
         }
-        Some((Kind::Word(Word::Item), rest)) => {
+        Some((TokenKind::Word(Word::Item), rest)) => {
             of_action(alloc, number, Action::ReadItem(target, link), rest)
         }
         _ => Err(Stopped::Unexpected(tokens.len())),
@@ -130,8 +130,8 @@ fn named_rhs(
     ensures shorter { IfOk result (λ x. length x.1.now ≤ length tokens.now) }
 {
     match front(tokens) {
-        Some((Kind::Mark(Mark::Dot), rest)) => field_rhs(alloc, number, target, source, rest),
-        Some((Kind::Mark(Mark::OpenBracket), rest)) => {
+        Some((TokenKind::Mark(Mark::Dot), rest)) => field_rhs(alloc, number, target, source, rest),
+        Some((TokenKind::Mark(Mark::OpenBracket), rest)) => {
             element_rhs(alloc, number, target, source, rest)
         }
         _ => variable_rhs(alloc, number, target, source, tokens),
@@ -183,18 +183,18 @@ pub(crate) fn rhs(
     ensures shorter { IfOk result (λ x. length x.1.now < length tokens.now) }
 {
     match front(tokens) {
-        Some((Kind::Word(Word::Input), rest)) => {
+        Some((TokenKind::Word(Word::Input), rest)) => {
             of_action(alloc, number, Action::Input(target), rest)
         }
-        Some((Kind::Word(Word::Array), rest)) => array_rhs(alloc, number, target, rest),
-        Some((Kind::Word(Word::Null), rest)) => {
+        Some((TokenKind::Word(Word::Array), rest)) => array_rhs(alloc, number, target, rest),
+        Some((TokenKind::Word(Word::Null), rest)) => {
             of_action(alloc, number, Action::SetNull(target), rest)
         }
-        Some((Kind::Word(Word::New), rest)) => {
+        Some((TokenKind::Word(Word::New), rest)) => {
             of_action(alloc, number, Action::MakeCell(target), rest)
         }
-        Some((Kind::Word(Word::Call), rest)) => call_rhs(alloc, number, target, rest),
-        Some((Kind::Name(source), rest)) => {
+        Some((TokenKind::Word(Word::Call), rest)) => call_rhs(alloc, number, target, rest),
+        Some((TokenKind::Name(source), rest)) => {
             let source = source.clone()?;
             named_rhs(alloc, number, target, source, rest)
         }

@@ -13,16 +13,16 @@ ghost use Rattle.imp_parse.specs.Reader.{fix};
 use crate::condition::side;
 use crate::error::Stopped;
 use crate::marks::{front, mark, name};
-use imp_lex::{Kind, Mark, Token};
+use base_values::{Items, Text};
+use imp_lex::{Mark, Token, TokenKind};
 use imp_syntax::Side;
-use plain_values::{Items, Text};
 use std::alloc::Global;
 
 /// Whether a comma is the first token.
 pub(crate) fn begins_with_comma(tokens: &[Token]) -> bool
     ensures is { result ≡ begun is_comma (kinds tokens.now) }
 {
-    matches!(front(tokens), Some((Kind::Mark(Mark::Comma), _)))
+    matches!(front(tokens), Some((TokenKind::Mark(Mark::Comma), _)))
 }
 
 /// A comma and a side, and the tokens behind them.
@@ -67,7 +67,7 @@ fn arguments(alloc: Global, tokens: &[Token]) -> Result<(Items<Side>, &[Token]),
     ensures shorter { IfOk result (λ x. length x.1.now < length tokens.now) }
 {
     match front(tokens) {
-        Some((Kind::Mark(Mark::CloseParenthesis), rest)) => Ok((Items::new(alloc), rest)),
+        Some((TokenKind::Mark(Mark::CloseParenthesis), rest)) => Ok((Items::new(alloc), rest)),
         _ => some_arguments(alloc, tokens),
     }
 }

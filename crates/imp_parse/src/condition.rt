@@ -11,7 +11,7 @@ ghost use Rattle.imp_parse.specs.Reading.{side_at, compare_at, unit_at, conditio
 use crate::error::Stopped;
 use crate::expression::expression;
 use crate::marks::{front, mark, relation};
-use imp_lex::{Kind, Mark, Token, Word};
+use imp_lex::{Mark, Token, TokenKind, Word};
 use imp_syntax::{Cond, CondNode, Side};
 use std::alloc::Global;
 
@@ -21,7 +21,7 @@ pub(crate) fn side(alloc: Global, tokens: &[Token]) -> Result<(Side, &[Token]), 
     ensures shorter { IfOk result (λ x. length x.1.now < length tokens.now) }
 {
     match front(tokens) {
-        Some((Kind::Word(Word::Null), rest)) => Ok((Side::Null, rest)),
+        Some((TokenKind::Word(Word::Null), rest)) => Ok((Side::Null, rest)),
         _ => {
             let (value, rest) = expression(alloc, tokens)?;
             Ok((Side::Expr(value), rest))
@@ -84,7 +84,7 @@ fn or_tail(alloc: Global, left: Cond, tokens: &[Token]) -> Result<(Cond, &[Token
     ensures read { Gives (λ x. (x.0, kinds x.1.now)) result (or_at left (kinds tokens.now)) }
     ensures shorter { IfOk result (λ x. length x.1.now ≤ length tokens.now) }
 {
-    let Some((Kind::Mark(Mark::Or), rest)) = front(tokens) else {
+    let Some((TokenKind::Mark(Mark::Or), rest)) = front(tokens) else {
         return Ok((left, tokens));
     };
     let (right, rest) = conjunction(alloc, rest)?;
@@ -108,7 +108,7 @@ fn and_tail(alloc: Global, left: Cond, tokens: &[Token]) -> Result<(Cond, &[Toke
     ensures read { Gives (λ x. (x.0, kinds x.1.now)) result (and_at left (kinds tokens.now)) }
     ensures shorter { IfOk result (λ x. length x.1.now ≤ length tokens.now) }
 {
-    let Some((Kind::Mark(Mark::And), rest)) = front(tokens) else {
+    let Some((TokenKind::Mark(Mark::And), rest)) = front(tokens) else {
         return Ok((left, tokens));
     };
     let (right, rest) = unit(alloc, rest)?;
@@ -123,12 +123,12 @@ fn unit(alloc: Global, tokens: &[Token]) -> Result<(Cond, &[Token]), Stopped>
     ensures shorter { IfOk result (λ x. length x.1.now < length tokens.now) }
 {
     match front(tokens) {
-        Some((Kind::Mark(Mark::Not), rest)) => {
+        Some((TokenKind::Mark(Mark::Not), rest)) => {
             let rest = mark(Mark::OpenParenthesis, rest)?;
             let (inner, rest) = condition(alloc, rest)?;
             closed_not(alloc, inner, rest)
         }
-        Some((Kind::Mark(Mark::OpenParenthesis), rest)) => {
+        Some((TokenKind::Mark(Mark::OpenParenthesis), rest)) => {
             let (inner, rest) = condition(alloc, rest)?;
             closed(inner, rest)
         }

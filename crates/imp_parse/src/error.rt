@@ -3,8 +3,8 @@ ghost use Rattle.std.specs.Prelude.{◌≡◌};
 ghost use Rattle.imp_parse.specs.Judged.{of_lex};
 ghost use Rattle.imp_parse.specs.declared.error.Stopped.TheVariants.{Memory as no_memory};
 
+use base_values::Memory;
 use imp_lex::LexError;
-use plain_values::Memory;
 use std::alloc::AllocError;
 use thiserror::Error;
 

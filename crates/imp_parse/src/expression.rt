@@ -10,7 +10,7 @@ ghost use Rattle.imp_parse.specs.Tables.{additive, multiplicative};
 
 use crate::error::Stopped;
 use crate::marks::{front, mark, name};
-use imp_lex::{Kind, Mark, Token, Word};
+use imp_lex::{Mark, Token, TokenKind, Word};
 use imp_syntax::{Expr, ExprNode, Operator};
 use std::alloc::Global;
 
@@ -121,14 +121,14 @@ fn factor(alloc: Global, tokens: &[Token]) -> Result<(Expr, &[Token]), Stopped>
     ensures shorter { IfOk result (λ x. length x.1.now < length tokens.now) }
 {
     match front(tokens) {
-        Some((Kind::Number(n), rest)) => made(alloc, ExprNode::Literal(*n), rest),
-        Some((Kind::Name(_), _)) => variable(alloc, tokens),
-        Some((Kind::Word(Word::Len), rest)) => measured(alloc, rest),
-        Some((Kind::Mark(Mark::Minus), rest)) => {
+        Some((TokenKind::Number(n), rest)) => made(alloc, ExprNode::Literal(*n), rest),
+        Some((TokenKind::Name(_), _)) => variable(alloc, tokens),
+        Some((TokenKind::Word(Word::Len), rest)) => measured(alloc, rest),
+        Some((TokenKind::Mark(Mark::Minus), rest)) => {
             let (inner, rest) = factor(alloc, rest)?;
             made(alloc, ExprNode::Negative(inner), rest)
         }
-        Some((Kind::Mark(Mark::OpenParenthesis), rest)) => {
+        Some((TokenKind::Mark(Mark::OpenParenthesis), rest)) => {
             let (inner, rest) = expression(alloc, rest)?;
             closed(inner, rest)
         }
@@ -136,23 +136,23 @@ fn factor(alloc: Global, tokens: &[Token]) -> Result<(Expr, &[Token]), Stopped>
     }
 }
 
-fn additive(kind: &Kind) -> Option<Operator>
+fn additive(kind: &TokenKind) -> Option<Operator>
     ensures is { result ≡ additive kind.now }
 {
     match kind {
-        Kind::Mark(Mark::Plus) => Some(Operator::Add),
-        Kind::Mark(Mark::Minus) => Some(Operator::Subtract),
+        TokenKind::Mark(Mark::Plus) => Some(Operator::Add),
+        TokenKind::Mark(Mark::Minus) => Some(Operator::Subtract),
         _ => None,
     }
 }
 
-fn multiplicative(kind: &Kind) -> Option<Operator>
+fn multiplicative(kind: &TokenKind) -> Option<Operator>
     ensures is { result ≡ multiplicative kind.now }
 {
     match kind {
-        Kind::Mark(Mark::Star) => Some(Operator::Multiply),
-        Kind::Mark(Mark::Slash) => Some(Operator::Divide),
-        Kind::Mark(Mark::Percent) => Some(Operator::Remainder),
+        TokenKind::Mark(Mark::Star) => Some(Operator::Multiply),
+        TokenKind::Mark(Mark::Slash) => Some(Operator::Divide),
+        TokenKind::Mark(Mark::Percent) => Some(Operator::Remainder),
         _ => None,
     }
 }

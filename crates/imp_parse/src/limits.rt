@@ -1,17 +1,17 @@
 //! The two budgets: nested blocks, and operators of one expression or condition.
 ghost use Rattle.std.specs.Prelude.{◌≡◌, ◌<◌, length, IfSome, false};
-ghost use Rattle.imp_lex.specs.declared.token.Kind.TheVariants as k;
+ghost use Rattle.imp_lex.specs.declared.token.TokenKind.TheVariants as k;
 ghost use Rattle.imp_parse.specs.Kinds.{kinds};
 ghost use Rattle.imp_parse.specs.Limits.{IsRoom, role_of, next, exceeds, too_deep, place};
 
-use imp_lex::{Kind, Mark, Token, Word};
+use imp_lex::{Mark, Token, TokenKind, Word};
 
 /// How deep blocks nest, and how many operators an outermost expression or condition has, at most.
 const MOST: u32 = 32;
 
 /// Where one stands between tokens.
 #[derive(Clone, Copy)]
-pub(crate) struct Place {
+pub(crate) struct Nesting {
     /// How many braces are open.
     pub(crate) depth: u32,
     /// The operators so far of an expression or condition.
@@ -32,12 +32,12 @@ pub(crate) enum Role {
     Plain,
 }
 
-impl Place {
+impl Nesting {
     /// Where so many braces are open, and no expression has begun.
-    pub(crate) fn new(depth: u32) -> Place
+    pub(crate) fn new(depth: u32) -> Nesting
         ensures is { result ≡ place depth 0 false }
     {
-        Place {
+        Nesting {
             depth,
             used: 0,
             heads: false,
@@ -60,25 +60,25 @@ impl Place {
     }
 
     /// Where one stands behind a token of this role.
-    fn next(self, role: Role) -> Place
+    fn next(self, role: Role) -> Nesting
         requires room { IsRoom self }
         ensures is { result ≡ next self role }
     {
         match role {
-            Role::Parenthesis => Place {
+            Role::Parenthesis => Nesting {
                 depth: self.depth,
                 used: if self.heads { 0 } else { self.used + 1 },
                 heads: false,
             },
-            Role::Opening => Place::new(self.depth + 1),
-            Role::Closing => Place::new(self.depth.saturating_sub(1)),
-            Role::Operator => Place {
+            Role::Opening => Nesting::new(self.depth + 1),
+            Role::Closing => Nesting::new(self.depth.saturating_sub(1)),
+            Role::Operator => Nesting {
                 depth: self.depth,
                 used: self.used + 1,
                 heads: false,
             },
-            Role::Separator => Place::new(self.depth),
-            Role::Head => Place {
+            Role::Separator => Nesting::new(self.depth),
+            Role::Head => Nesting {
                 depth: self.depth,
                 used: 0,
                 heads: true,
@@ -89,14 +89,14 @@ impl Place {
 }
 
 #[tactic(auto, unfolding(crate::specs::Limits::role_of))]
-fn role_of(kind: &Kind) -> Role
+fn role_of(kind: &TokenKind) -> Role
     ensures is { result ≡ role_of kind.now }
 {
     match kind {
-        Kind::Mark(mark) => mark_role(*mark),
-        Kind::Word(word) => word_role(*word),
-        Kind::Name(_) => Role::Plain,
-        Kind::Number(_) => Role::Plain,
+        TokenKind::Mark(mark) => mark_role(*mark),
+        TokenKind::Word(word) => word_role(*word),
+        TokenKind::Name(_) => Role::Plain,
+        TokenKind::Number(_) => Role::Plain,
     }
 }
 
@@ -129,7 +129,7 @@ fn word_role(word: Word) -> Role
 }
 
 /// The first token that is too deep, counted from 0.
-pub(crate) fn first_too_deep(start: Place, tokens: &[Token]) -> Option<usize>
+pub(crate) fn first_too_deep(start: Nesting, tokens: &[Token]) -> Option<usize>
     requires room { IsRoom start }
     ensures is { result ≡ too_deep start (kinds tokens.now) }
     ensures within { IfSome result (λ i. i < length tokens.now) }

@@ -7,12 +7,12 @@ ghost use Rattle.imp_parse.specs.ProgramReading.{kind_at};
 ghost use Rattle.imp_parse.specs.Tables.{relation_of, kind_of};
 
 use crate::error::Stopped;
-use imp_lex::{Kind, Mark, Token, Word};
-use imp_syntax::{Kind as VariableKind, Relation};
-use plain_values::Text;
+use base_values::Text;
+use imp_lex::{Mark, Token, TokenKind, Word};
+use imp_syntax::{Relation, VariableKind as VariableKind};
 
 /// The kind of the first token, and the tokens behind it.
-pub(crate) fn front(tokens: &[Token]) -> Option<(&Kind, &[Token])>
+pub(crate) fn front(tokens: &[Token]) -> Option<(&TokenKind, &[Token])>
     ensures is { kinds tokens.now ≡ joined result }
     ensures shorter { IfSome result (λ x. length x.1.now < length tokens.now) }
 {
@@ -29,7 +29,7 @@ pub(crate) fn mark(wanted: Mark, tokens: &[Token]) -> Result<&[Token], Stopped>
     ensures shorter { IfOk result (λ r. length r.now < length tokens.now) }
 {
     match front(tokens) {
-        Some((Kind::Mark(found), rest)) => {
+        Some((TokenKind::Mark(found), rest)) => {
             if *found == wanted {
                 Ok(rest)
             } else {
@@ -46,7 +46,7 @@ pub(crate) fn name(tokens: &[Token]) -> Result<(Text, &[Token]), Stopped>
     ensures shorter { IfOk result (λ x. length x.1.now < length tokens.now) }
 {
     match front(tokens) {
-        Some((Kind::Name(name), rest)) => {
+        Some((TokenKind::Name(name), rest)) => {
             let name = name.clone()?;
             Ok((name, rest))
         }
@@ -68,16 +68,16 @@ pub(crate) fn relation(tokens: &[Token]) -> Result<(Relation, &[Token]), Stopped
     }
 }
 
-fn relation_of(kind: &Kind) -> Option<Relation>
+fn relation_of(kind: &TokenKind) -> Option<Relation>
     ensures is { result ≡ relation_of kind.now }
 {
     match kind {
-        Kind::Mark(Mark::EqualTo) => Some(Relation::Equal),
-        Kind::Mark(Mark::NotEqualTo) => Some(Relation::NotEqual),
-        Kind::Mark(Mark::Less) => Some(Relation::Less),
-        Kind::Mark(Mark::AtMost) => Some(Relation::AtMost),
-        Kind::Mark(Mark::Greater) => Some(Relation::Greater),
-        Kind::Mark(Mark::AtLeast) => Some(Relation::AtLeast),
+        TokenKind::Mark(Mark::EqualTo) => Some(Relation::Equal),
+        TokenKind::Mark(Mark::NotEqualTo) => Some(Relation::NotEqual),
+        TokenKind::Mark(Mark::Less) => Some(Relation::Less),
+        TokenKind::Mark(Mark::AtMost) => Some(Relation::AtMost),
+        TokenKind::Mark(Mark::Greater) => Some(Relation::Greater),
+        TokenKind::Mark(Mark::AtLeast) => Some(Relation::AtLeast),
         _ => None,
     }
 }
@@ -96,13 +96,13 @@ pub(crate) fn variable_kind(tokens: &[Token]) -> Result<(VariableKind, &[Token])
     }
 }
 
-fn kind_of(kind: &Kind) -> Option<VariableKind>
+fn kind_of(kind: &TokenKind) -> Option<VariableKind>
     ensures is { result ≡ kind_of kind.now }
 {
     match kind {
-        Kind::Word(Word::Int) => Some(VariableKind::Int),
-        Kind::Word(Word::Array) => Some(VariableKind::Array),
-        Kind::Word(Word::List) => Some(VariableKind::List),
+        TokenKind::Word(Word::Int) => Some(VariableKind::Int),
+        TokenKind::Word(Word::Array) => Some(VariableKind::Array),
+        TokenKind::Word(Word::List) => Some(VariableKind::List),
         _ => None,
     }
 }

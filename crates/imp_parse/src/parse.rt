@@ -11,7 +11,7 @@ ghost use Rattle.imp_parse.specs.StatementReading.{numbered_at, body_at};
 
 use crate::condition::condition;
 use crate::error::{ParseError, Stopped};
-use crate::limits::{Place, first_too_deep};
+use crate::limits::{Nesting, first_too_deep};
 use crate::procedure::{procedure, program};
 use crate::statement::{numbered, statements};
 use imp_lex::{Token, each_text_has_one_answer as tokens_have_one_answer, tokens};
@@ -124,7 +124,7 @@ pub fn parse_program(alloc: Global, text: &[u8]) -> Result<Program, ParseError>
 {
     let found = tokens(alloc, text)?;
     let tokens = found.as_slice();
-    let deep = first_too_deep(Place::new(0), tokens);
+    let deep = first_too_deep(Nesting::new(0), tokens);
     let read = whole_program(alloc, up_to(deep, tokens));
     judge(deep, tokens.len(), read)
 }
@@ -144,7 +144,7 @@ pub fn parse_proc(alloc: Global, text: &[u8], next: u32) -> Result<(Proc, u32), 
 {
     let found = tokens(alloc, text)?;
     let tokens = found.as_slice();
-    let deep = first_too_deep(Place::new(0), tokens);
+    let deep = first_too_deep(Nesting::new(0), tokens);
     let read = whole_procedure(alloc, next, up_to(deep, tokens));
     judge(deep, tokens.len(), read)
 }
@@ -164,7 +164,7 @@ pub fn parse_stmts(alloc: Global, text: &[u8], next: u32) -> Result<(Block, u32)
 {
     let found = tokens(alloc, text)?;
     let tokens = found.as_slice();
-    let deep = first_too_deep(Place::new(1), tokens);
+    let deep = first_too_deep(Nesting::new(1), tokens);
     let read = whole_body(alloc, next, up_to(deep, tokens));
     judge(deep, tokens.len(), read)
 }
@@ -183,7 +183,7 @@ pub fn parse_simple(alloc: Global, text: &[u8], next: u32) -> Result<(Stmt, u32)
 {
     let found = tokens(alloc, text)?;
     let tokens = found.as_slice();
-    let deep = first_too_deep(Place::new(1), tokens);
+    let deep = first_too_deep(Nesting::new(1), tokens);
     let read = whole_simple(alloc, next, up_to(deep, tokens));
     judge(deep, tokens.len(), read)
 }
@@ -201,7 +201,7 @@ pub fn parse_cond(alloc: Global, text: &[u8]) -> Result<Cond, ParseError>
 {
     let found = tokens(alloc, text)?;
     let tokens = found.as_slice();
-    let deep = first_too_deep(Place::new(1), tokens);
+    let deep = first_too_deep(Nesting::new(1), tokens);
     let read = whole_condition(alloc, up_to(deep, tokens));
     judge(deep, tokens.len(), read)
 }

@@ -13,9 +13,9 @@ use crate::call::begins_with_comma;
 use crate::error::Stopped;
 use crate::marks::{front, mark, name, variable_kind};
 use crate::statement::statements;
-use imp_lex::{Kind, Mark, Token, Word};
+use base_values::{Items, Memory, Text};
+use imp_lex::{Mark, Token, TokenKind, Word};
 use imp_syntax::{Block, Declaration, Proc, Program, Stmt};
-use plain_values::{Items, Memory, Text};
 use std::alloc::Global;
 
 /// A name and its kind, and the tokens behind them.
@@ -77,7 +77,7 @@ fn parameters(alloc: Global, tokens: &[Token]) -> Result<(Items<Declaration>, &[
     ensures shorter { IfOk result (λ x. length x.1.now < length tokens.now) }
 {
     match front(tokens) {
-        Some((Kind::Mark(Mark::CloseParenthesis), rest)) => Ok((Items::new(alloc), rest)),
+        Some((TokenKind::Mark(Mark::CloseParenthesis), rest)) => Ok((Items::new(alloc), rest)),
         _ => some_parameters(alloc, tokens),
     }
 }
@@ -89,7 +89,7 @@ fn outcome(tokens: &[Token]) -> Result<(Option<Declaration>, &[Token]), Stopped>
     ensures shorter { IfOk result (λ x. length x.1.now ≤ length tokens.now) }
 {
     match front(tokens) {
-        Some((Kind::Mark(Mark::Arrow), rest)) => {
+        Some((TokenKind::Mark(Mark::Arrow), rest)) => {
             let (outcome, rest) = declaration(rest)?;
             Ok((Some(outcome), rest))
         }
@@ -101,7 +101,7 @@ fn outcome(tokens: &[Token]) -> Result<(Option<Declaration>, &[Token]), Stopped>
 fn begins_local(tokens: &[Token]) -> bool
     ensures is { result ≡ begun begins_local (kinds tokens.now) }
 {
-    matches!(front(tokens), Some((Kind::Word(Word::Var), _)))
+    matches!(front(tokens), Some((TokenKind::Word(Word::Var), _)))
 }
 
 /// A local variable from `var` on, and the tokens behind it.
@@ -110,7 +110,7 @@ fn local(tokens: &[Token]) -> Result<(Declaration, &[Token]), Stopped>
     ensures shorter { IfOk result (λ x. length x.1.now < length tokens.now) }
 {
     match front(tokens) {
-        Some((Kind::Word(Word::Var), rest)) => {
+        Some((TokenKind::Word(Word::Var), rest)) => {
             let (declaration, rest) = declaration(rest)?;
             let rest = mark(Mark::Semicolon, rest)?;
             Ok((declaration, rest))
@@ -136,7 +136,7 @@ fn locals(alloc: Global, tokens: &[Token]) -> Result<(Items<Declaration>, &[Toke
 
 /// What heads a procedure.
 #[derive(Drop)]
-struct Head {
+struct Signature {
     name: Text,
     parameters: Items<Declaration>,
     outcome: Option<Declaration>,
@@ -145,7 +145,7 @@ struct Head {
 /// The procedure of these parts.
 fn assembled(
     alloc: Global,
-    head: Head,
+    head: Signature,
     locals: Items<Declaration>,
     stmts: Items<Stmt>,
 ) -> Result<Proc, Memory>
@@ -166,7 +166,7 @@ fn assembled(
 fn behind_locals(
     alloc: Global,
     number: u32,
-    head: Head,
+    head: Signature,
     locals: Items<Declaration>,
     tokens: &[Token],
 ) -> Result<(Proc, u32, &[Token]), Stopped>
@@ -185,7 +185,7 @@ fn behind_locals(
 fn behind_head(
     alloc: Global,
     number: u32,
-    head: Head,
+    head: Signature,
     tokens: &[Token],
 ) -> Result<(Proc, u32, &[Token]), Stopped>
     requires room { number + length tokens.now < 2 ^ 32 }
@@ -212,7 +212,7 @@ fn behind_parenthesis(
 {
     let (parameters, rest) = parameters(alloc, tokens)?;
     let (outcome, rest) = outcome(rest)?;
-    let head = Head {
+    let head = Signature {
         name,
         parameters,
         outcome,
@@ -249,7 +249,7 @@ pub(crate) fn procedure(
     ensures numbers { IfOk result (λ x. x.1 + length x.2.now ≤ number + length tokens.now) }
 {
     match front(tokens) {
-        Some((Kind::Word(Word::Proc), rest)) => procedure_behind_word(alloc, number, rest),
+        Some((TokenKind::Word(Word::Proc), rest)) => procedure_behind_word(alloc, number, rest),
         _ => Err(Stopped::Unexpected(tokens.len())),
     }
 }
@@ -258,7 +258,7 @@ pub(crate) fn procedure(
 fn begins_procedure(tokens: &[Token]) -> bool
     ensures is { result ≡ begun begins_procedure (kinds tokens.now) }
 {
-    matches!(front(tokens), Some((Kind::Word(Word::Proc), _)))
+    matches!(front(tokens), Some((TokenKind::Word(Word::Proc), _)))
 }
 
 /// The first procedure and those behind it, the next number, and the tokens behind them.

@@ -11,9 +11,9 @@ use crate::condition::condition;
 use crate::error::Stopped;
 use crate::expression::expression;
 use crate::marks::{front, mark, name};
-use imp_lex::{Kind, Mark, Token, Word};
+use base_values::Text;
+use imp_lex::{Mark, Token, TokenKind, Word};
 use imp_syntax::{Action, Call, Expr, Stmt, StmtNode};
-use plain_values::Text;
 use std::alloc::Global;
 
 /// What is assigned to the `next` of this variable.
@@ -59,8 +59,8 @@ fn field(
     ensures shorter { IfOk result (λ x. length x.1.now < length tokens.now) }
 {
     match front(tokens) {
-        Some((Kind::Word(Word::Next), rest)) => write_next(alloc, number, link, rest),
-        Some((Kind::Word(Word::Item), rest)) => write_item(alloc, number, link, rest),
+        Some((TokenKind::Word(Word::Next), rest)) => write_next(alloc, number, link, rest),
+        Some((TokenKind::Word(Word::Item), rest)) => write_item(alloc, number, link, rest),
         _ => Err(Stopped::Unexpected(tokens.len())),
     }
 }
@@ -129,9 +129,9 @@ fn named(
     ensures shorter { IfOk result (λ x. length x.1.now < length tokens.now) }
 {
     match front(tokens) {
-        Some((Kind::Mark(Mark::Equals), rest)) => assignment(alloc, number, target, rest),
-        Some((Kind::Mark(Mark::OpenBracket), rest)) => element(alloc, number, target, rest),
-        Some((Kind::Mark(Mark::Dot), rest)) => field(alloc, number, target, rest),
+        Some((TokenKind::Mark(Mark::Equals), rest)) => assignment(alloc, number, target, rest),
+        Some((TokenKind::Mark(Mark::OpenBracket), rest)) => element(alloc, number, target, rest),
+        Some((TokenKind::Mark(Mark::Dot), rest)) => field(alloc, number, target, rest),
         _ => Err(Stopped::Unexpected(tokens.len())),
     }
 }
@@ -172,17 +172,17 @@ pub(crate) fn simple(
     ensures shorter { IfOk result (λ x. length x.1.now < length tokens.now) }
 {
     match front(tokens) {
-        Some((Kind::Word(Word::Skip), rest)) => {
+        Some((TokenKind::Word(Word::Skip), rest)) => {
             let rest = mark(Mark::Semicolon, rest)?;
             of_action(alloc, number, Action::Skip, rest)
         }
-        Some((Kind::Word(Word::Break), rest)) => {
+        Some((TokenKind::Word(Word::Break), rest)) => {
             let rest = mark(Mark::Semicolon, rest)?;
             made(alloc, number, StmtNode::Break, rest)
         }
-        Some((Kind::Word(Word::Assert), rest)) => assertion(alloc, number, rest),
-        Some((Kind::Word(Word::Call), rest)) => plain_call(alloc, number, rest),
-        Some((Kind::Name(target), rest)) => {
+        Some((TokenKind::Word(Word::Assert), rest)) => assertion(alloc, number, rest),
+        Some((TokenKind::Word(Word::Call), rest)) => plain_call(alloc, number, rest),
+        Some((TokenKind::Name(target), rest)) => {
             let target = target.clone()?;
             named(alloc, number, target, rest)
         }

@@ -12,9 +12,9 @@ use crate::condition::condition;
 use crate::error::Stopped;
 use crate::marks::{front, mark};
 use crate::simple::simple;
-use imp_lex::{Kind, Mark, Token, Word};
+use base_values::Items;
+use imp_lex::{Mark, Token, TokenKind, Word};
 use imp_syntax::{Block, Stmt, StmtId, StmtNode};
-use plain_values::Items;
 use std::alloc::Global;
 
 /// Whether a statement begins with the first token.
@@ -27,17 +27,17 @@ fn begins_statement(tokens: &[Token]) -> bool
     }
 }
 
-fn begins(kind: &Kind) -> bool
+fn begins(kind: &TokenKind) -> bool
     ensures is { result ≡ begins_statement kind.now }
 {
     match kind {
-        Kind::Name(_) => true,
-        Kind::Word(Word::Skip) => true,
-        Kind::Word(Word::Break) => true,
-        Kind::Word(Word::Assert) => true,
-        Kind::Word(Word::Call) => true,
-        Kind::Word(Word::If) => true,
-        Kind::Word(Word::While) => true,
+        TokenKind::Name(_) => true,
+        TokenKind::Word(Word::Skip) => true,
+        TokenKind::Word(Word::Break) => true,
+        TokenKind::Word(Word::Assert) => true,
+        TokenKind::Word(Word::Call) => true,
+        TokenKind::Word(Word::If) => true,
+        TokenKind::Word(Word::While) => true,
         _ => false,
     }
 }
@@ -99,8 +99,8 @@ fn statement(alloc: Global, number: u32, tokens: &[Token]) -> Result<(Stmt, u32,
     ensures numbers { IfOk result (λ x. x.1 + length x.2.now ≤ number + length tokens.now) }
 {
     match front(tokens) {
-        Some((Kind::Word(Word::If), rest)) => if_stmt(alloc, number, rest),
-        Some((Kind::Word(Word::While), rest)) => while_stmt(alloc, number, rest),
+        Some((TokenKind::Word(Word::If), rest)) => if_stmt(alloc, number, rest),
+        Some((TokenKind::Word(Word::While), rest)) => while_stmt(alloc, number, rest),
         _ => numbered(alloc, number, tokens),
     }
 }
@@ -168,7 +168,7 @@ fn else_block(
     ensures numbers { IfOk result (λ x. x.1 + length x.2.now ≤ number + length tokens.now) }
 {
     match front(tokens) {
-        Some((Kind::Word(Word::Else), rest)) => block(alloc, number, rest),
+        Some((TokenKind::Word(Word::Else), rest)) => block(alloc, number, rest),
         _ => Ok((Block::empty(), number, tokens)),
     }
 }

@@ -1,12 +1,12 @@
 -- The texts of procedures and programs.
 use Rattle.std.specs.Prelude.{ℕ, Bool, List, [], ◌∷◌, ◌++◌, Option, Some, None, codes}
 use Rattle.imp_syntax.specs.Plain.{Procedure}
-use Rattle.imp_syntax.specs.declared.words.Kind as kinds
-use Rattle.imp_syntax.specs.declared.words.Kind.TheVariants as v
+use Rattle.imp_syntax.specs.declared.words.VariableKind as kinds
+use Rattle.imp_syntax.specs.declared.words.VariableKind.TheVariants as v
 use Rattle.imp_syntax.specs.declared.words.Declaration.{Declaration}
 use Rattle.imp_print.specs.Statements.{line, block_text}
 
-abbrev pub kind_text : kinds.Kind → List ℕ
+abbrev pub kind_text : kinds.VariableKind → List ℕ
 kind_text v.Int = codes "int"
 kind_text v.Array = codes "array"
 kind_text v.List = codes "list"

@@ -4,16 +4,16 @@ ghost use Rattle.imp_print.specs.Statements.{line};
 ghost use Rattle.imp_print.specs.Programs.{kind_text, declaration_text, more_declarations_text, declarations_text, outcome_text, locals_text};
 
 use crate::statements::begin_line;
-use imp_syntax::{Declaration, Kind, Proc};
-use plain_values::{Memory, Text};
+use base_values::{Memory, Text};
+use imp_syntax::{Declaration, Proc, VariableKind};
 
-fn kind_text(kind: Kind) -> &'static [u8]
+fn kind_text(kind: VariableKind) -> &'static [u8]
     ensures is { result.now ≡ kind_text kind }
 {
     match kind {
-        Kind::Int => b"int",
-        Kind::Array => b"array",
-        Kind::List => b"list",
+        VariableKind::Int => b"int",
+        VariableKind::Array => b"array",
+        VariableKind::List => b"list",
     }
 }
 

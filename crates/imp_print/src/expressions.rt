@@ -4,9 +4,9 @@ ghost use Rattle.std.specs.Fmt.{decimal};
 ghost use Rattle.imp_syntax.specs.Views.{operand_of};
 ghost use Rattle.imp_print.specs.Expressions.{operator_text, operator_rank, relation_text, expression_rank, expression_text, operand_text, side_text, condition_rank, condition_text, part_text};
 
+use base_values::{Memory, Text};
 use imp_syntax::{Cond, CondNode, Expr, ExprNode, Operator, Relation, Side};
 use itoa::Buffer;
-use plain_values::{Memory, Text};
 
 /// Adds a number in decimal.
 pub(crate) fn put_number(text: &mut Text, number: u64) -> Result<(), Memory>

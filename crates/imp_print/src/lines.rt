@@ -5,9 +5,9 @@ ghost use Rattle.imp_print.specs.Expressions.{expression_text};
 ghost use Rattle.imp_print.specs.Statements.{action_text, more_sides_text, sides_text, target_text, call_text, spaces, margin};
 
 use crate::expressions::{put_cond, put_expr, put_number, put_side};
+use base_values::{Memory, Text};
 use imp_syntax::{Action, Call, Expr, Side};
 use itoa::Buffer;
-use plain_values::{Memory, Text};
 
 /// Adds a name and what stands behind it.
 fn put_name(text: &mut Text, name: &Text, more: &[u8]) -> Result<(), Memory>

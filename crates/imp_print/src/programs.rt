@@ -7,8 +7,8 @@ ghost use Rattle.imp_print.specs.Statements.{line, spaces, statement_text};
 use crate::declarations::{put_declarations, put_locals, put_outcome};
 use crate::lines::put_spaces;
 use crate::statements::{begin_line, put_block, put_line, put_stmt};
+use base_values::{Memory, Text};
 use imp_syntax::{Proc, Program, Stmt};
-use plain_values::{Memory, Text};
 use std::alloc::Global;
 
 /// Adds a procedure's name and parameters.

@@ -7,8 +7,8 @@ ghost use Rattle.imp_print.specs.Statements.{action_text, call_text, margin, lin
 
 use crate::expressions::put_cond;
 use crate::lines::{put_action, put_call, put_margin};
+use base_values::{Memory, Text};
 use imp_syntax::{Action, Block, Call, Cond, Stmt, StmtNode};
-use plain_values::{Memory, Text};
 
 /// Adds what stands in front of a line, and how far it stands to the right.
 pub(crate) fn begin_line(

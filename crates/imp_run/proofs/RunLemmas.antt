@@ -7,8 +7,8 @@ use Rattle.concrete_sem.specs.Steps as steps
 use Rattle.concrete_sem.specs.Runs.{Run, ends, counted, run_from}
 use Rattle.imp_run.specs.declared.machine.Stepped.{Stepped}
 use Rattle.imp_run.specs.declared.machine.Stepped.TheVariants.{Next, Fault, NoInput, Ended}
-use Rattle.analysis_words.specs.declared.run_end.RunEnd.{RunEnd}
-use Rattle.analysis_words.specs.declared.run_end.RunEnd.TheVariants as e
+use Rattle.imp_words.specs.declared.run_end.RunEnd.{RunEnd}
+use Rattle.imp_words.specs.declared.run_end.RunEnd.TheVariants as e
 use Rattle.imp_run.specs.Machine.{step_of}
 use Rattle.imp_run.specs.Outcome.{IsEndAfter, after_more, bit}
 use Rattle.std.proofs.lemmas.Option.{same_Some}

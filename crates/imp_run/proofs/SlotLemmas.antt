@@ -6,27 +6,27 @@ use Rattle.std.proofs.lemmas.List.{map-set}
 use Rattle.concrete_sem.specs.Values.{Number, Variables, array_at, as_array, with_number}
 use Rattle.concrete_sem.specs.Values as v
 use Rattle.concrete_sem.specs.Passing.{over}
-use Rattle.imp_run.specs.declared.slots.Held.{Held}
-use Rattle.imp_run.specs.declared.slots.Held.TheVariants.{Int, Array}
+use Rattle.imp_run.specs.declared.slots.SlotValue.{SlotValue}
+use Rattle.imp_run.specs.declared.slots.SlotValue.TheVariants.{Int, Array}
 use Rattle.imp_run.specs.Slots.{number_of, elements_of}
 
 abbrev variables : List Number → List (Option ℕ) → Variables
 variables numbers links = record { numbers = numbers; links = links }
 
 -- a place of the list is set, and so is the slot
-pub set-slot : (xs : List Held) (links : List (Option ℕ)) (w : Variables) → variables (map number_of xs) links ≡ w → (x : ℕ) (h : Held) → variables (map number_of (slice_set xs x h)) links ≡ with_number w x (number_of h)
+pub set-slot : (xs : List SlotValue) (links : List (Option ℕ)) (w : Variables) → variables (map number_of xs) links ≡ w → (x : ℕ) (h : SlotValue) → variables (map number_of (slice_set xs x h)) links ≡ with_number w x (number_of h)
 set-slot xs links w is x h =
     subst (λ u. variables (map number_of (slice_set xs x h)) links ≡ with_number u x (number_of h)) is
     (ap (λ ns. variables ns links) (map-set number_of xs x h))
 
-held-elements : (xs : List Held) (a : ℕ) → elements_of (slice_get xs a) ≡ as_array (slice_index_or (map number_of xs) a (v.Int (pos 0)))
+held-elements : (xs : List SlotValue) (a : ℕ) → elements_of (slice_get xs a) ≡ as_array (slice_index_or (map number_of xs) a (v.Int (pos 0)))
 held-elements [] a = refl
 held-elements (Int z ∷ xs) zero = refl
 held-elements (Array zs ∷ xs) zero = refl
 held-elements (x ∷ xs) (suc a) = held-elements xs a
 
 -- what is taken out of a slot
-pub taken-elements : (xs : List Held) (links : List (Option ℕ)) (w : Variables) → variables (map number_of xs) links ≡ w → (a : ℕ) → elements_of (slice_get xs a) ≡ array_at w a
+pub taken-elements : (xs : List SlotValue) (links : List (Option ℕ)) (w : Variables) → variables (map number_of xs) links ≡ w → (a : ℕ) → elements_of (slice_get xs a) ≡ array_at w a
 taken-elements xs links w is a = held-elements xs a ∙ ap (λ u. array_at u a) is
 
 twice : {A : Type 0} (xs : List A) (x : ℕ) (y z : A) → slice_set (slice_set xs x y) x z ≡ slice_set xs x z

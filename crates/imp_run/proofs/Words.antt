@@ -4,7 +4,7 @@ use Rattle.std.specs.Int.{w64}
 use Rattle.std.proofs.Common.{refl, arith}
 use Rattle.std.proofs.lemmas.Bool.Decides.{nat_tests}
 use Rattle.std.proofs.lemmas.Bool.{false_from_ne_true, ltb-true}
-use Rattle.analysis_words.specs.declared.fault.FaultKind.TheVariants.{Overflow}
+use Rattle.imp_words.specs.declared.fault.FaultKind.TheVariants.{Overflow}
 use Rattle.concrete_sem.specs.Values.{Gives, Faults, is_word}
 use Rattle.concrete_sem.specs.Evaluation.{word}
 

@@ -1,6 +1,6 @@
 -- What an evaluation in code comes to.
 use Rattle.std.specs.Prelude.{◌≡◌, ℕ, Result, Ok, Err}
-use Rattle.analysis_words.specs.declared.fault.FaultKind.{FaultKind}
+use Rattle.imp_words.specs.declared.fault.FaultKind.{FaultKind}
 use Rattle.concrete_sem.specs.Values.{Attempt, Gives, Faults, LacksInput, Cell}
 use Rattle.imp_run.specs.declared.store.ListCell.{ListCell}
 use Rattle.imp_run.specs.Store.{cell_of}

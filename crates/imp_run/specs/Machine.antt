@@ -7,7 +7,7 @@ use Rattle.concrete_sem.specs.Steps as plain
 use Rattle.imp_run.specs.declared.work.Item.{Item}
 use Rattle.imp_run.specs.Work.{work_on}
 use Rattle.imp_run.specs.declared.machine.Activation.{Activation}
-use Rattle.imp_run.specs.declared.machine.Machine.{Machine}
+use Rattle.imp_run.specs.declared.machine.RunState.{RunState}
 use Rattle.imp_run.specs.declared.machine.Stepped.{Stepped}
 use Rattle.imp_run.specs.declared.machine.Stepped.TheVariants as s
 
@@ -35,18 +35,18 @@ StepsTo s h v work h2 v2 work2 =
     (program : List Routine) (below : List Frame) (p : ℕ) → step_frame program p below h v (work (Ret p)) ≡ step_of s (goes_on p below h2 v2 (work2 (Ret p)))
 
 -- the frames, the last one first
-abbrev pub frames_of : Machine → List Frame
+abbrev pub frames_of : RunState → List Frame
 frames_of m = frame_of m.last ∷ frames_on [] m.below.items
 
-abbrev pub config_of : Machine → Config
+abbrev pub config_of : RunState → Config
 config_of m = record { heap = m.store; frames = frames_of m }
 
 -- This code, on top of the last frame's work, begins: whatever the program is, the step from there comes to this machine.
-abbrev pub BeginsSo : Code → Machine → Stepped → Machine → Type 0
+abbrev pub BeginsSo : Code → RunState → Stepped → RunState → Type 0
 BeginsSo code before s after =
     (program : List Routine) → step_frame program before.last.place (frames_on [] before.below.items) before.store before.last.slots (plain.Do code (work_of before.last.place before.last.work.items)) ≡ step_of s (config_of after)
 
 -- the same of a loop whose condition is tested
-abbrev pub TestsSo : ℕ → Guard → Code → Machine → Stepped → Machine → Type 0
+abbrev pub TestsSo : ℕ → Guard → Code → RunState → Stepped → RunState → Type 0
 TestsSo n cond body before s after =
     (program : List Routine) → step_frame program before.last.place (frames_on [] before.below.items) before.store before.last.slots (plain.Test n cond body (work_of before.last.place before.last.work.items)) ≡ step_of s (config_of after)

@@ -10,13 +10,13 @@ use Rattle.concrete_sem.specs.Runs.{Run}
 use Rattle.imp_slots.specs.BlockViews.{number_of}
 use Rattle.imp_run.specs.declared.work.Item.{Item}
 use Rattle.imp_run.specs.declared.work.Item.TheVariants.{Do, Done, Test}
-use Rattle.imp_run.specs.declared.machine.Machine.{Machine}
+use Rattle.imp_run.specs.declared.machine.RunState.{RunState}
 use Rattle.imp_run.specs.declared.machine.Stepped.{Stepped}
 use Rattle.imp_run.specs.declared.machine.Stepped.TheVariants as s
 use Rattle.imp_run.specs.Machine.{config_of}
-use Rattle.analysis_words.specs.declared.run_end.RunEnd.{RunEnd}
-use Rattle.analysis_words.specs.declared.run_end.RunEnd.TheVariants as e
-use Rattle.imp_run.specs.declared.running.Outcome.{Outcome}
+use Rattle.imp_words.specs.declared.run_end.RunEnd.{RunEnd}
+use Rattle.imp_words.specs.declared.run_end.RunEnd.TheVariants as e
+use Rattle.imp_run.specs.declared.running.RunResult.{RunResult}
 
 -- whether a location is this one
 abbrev pub same_location : Option Location → Location → Bool
@@ -32,7 +32,7 @@ abbrev pub stands_at : List Routine → Option Location → Config → Bool
 stands_at program None c = false
 stands_at program (Some l) c = same_location (standing program c.frames) l
 
-abbrev pub run_of : Outcome → Run
+abbrev pub run_of : RunResult → Run
 run_of o = record { end = o.end; reached = o.reached }
 
 -- the run, with so many configurations more in front
@@ -54,7 +54,7 @@ end_location None = None
 end_location (Some r) = Some (End r.name)
 
 -- the configuration of a machine; without one there are no frames
-abbrev pub config_or_none : Option Machine → List ℤ → Config
+abbrev pub config_or_none : Option RunState → List ℤ → Config
 config_or_none None inputs = record { heap = record { cells = []; inputs = inputs }; frames = [] }
 config_or_none (Some m) inputs = config_of m
 

@@ -9,7 +9,7 @@ ghost use Rattle.imp_run.specs.Attempts.{Comes, placed_of};
 use crate::elements::Elements;
 use crate::evaluation::{truth_of, value_of};
 use crate::halt::Halt;
-use crate::slots::{Held, Slots};
+use crate::slots::{SlotValue, Slots};
 use crate::store::{ListCell, Store};
 use concrete_sem::FaultKind;
 use imp_slots::{SlotAction, SlotCond, SlotExpr};
@@ -32,7 +32,7 @@ fn set_int(store: &Store<'_>, slots: &mut Slots, x: u32, expr: &SlotExpr) -> Res
 {
     match value_of(slots, expr) {
         Ok(value) => {
-            slots.set_number(x, Held::Int(value));
+            slots.set_number(x, SlotValue::Int(value));
             Ok(())
         }
         Err(fault) => Err(Halt::Fault(fault)),
@@ -45,7 +45,7 @@ fn input(store: &mut Store<'_>, slots: &mut Slots, x: u32) -> Result<(), Halt>
 {
     match store.take_input() {
         Some(value) => {
-            slots.set_number(x, Held::Int(value));
+            slots.set_number(x, SlotValue::Int(value));
             Ok(())
         }
         None => Err(Halt::NoInput),
@@ -58,7 +58,7 @@ fn read_item(store: &Store<'_>, slots: &mut Slots, x: u32, q: u32) -> Result<(),
 {
     match cell_of(store, slots.link_at(q)) {
         Ok((_, cell)) => {
-            slots.set_number(x, Held::Int(cell.item));
+            slots.set_number(x, SlotValue::Int(cell.item));
             Ok(())
         }
         Err(fault) => Err(Halt::Fault(fault)),
@@ -129,7 +129,7 @@ fn make_array(
         return Err(Halt::Fault(FaultKind::Length));
     }
     let zeros = Elements::zeros(alloc, count as usize)?;
-    slots.set_number(a, Held::Array(zeros));
+    slots.set_number(a, SlotValue::Array(zeros));
     Ok(())
 }
 
@@ -138,7 +138,7 @@ fn copy_array(store: &Store<'_>, slots: &mut Slots, a: u32, b: u32) -> Result<()
     ensures is { Comes result (effect_of (plain.CopyArray a b) store.now slots.old) (store.now, slots.new) }
 {
     let elements = slots.share_array(b)?;
-    slots.set_number(a, Held::Array(elements));
+    slots.set_number(a, SlotValue::Array(elements));
     Ok(())
 }
 
@@ -167,7 +167,7 @@ fn read_element(
     };
     match element(slots, a, index) {
         Some(value) => {
-            slots.set_number(x, Held::Int(value));
+            slots.set_number(x, SlotValue::Int(value));
             Ok(())
         }
         None => Err(Halt::Fault(FaultKind::Index)),

@@ -1,7 +1,7 @@
 //! The elements of arrays, shared until written.
 ghost use Rattle.std.specs.Prelude.{◌≡◌, ◌<◌, ◌≤◌, ℤ, pos, [], length, replicate, slice_get, slice_set, IfOk};
 
-use plain_values::Memory;
+use base_values::Memory;
 use std::alloc::Global;
 use std::marker::Model;
 use std::rc::Rc;

@@ -1,8 +1,8 @@
 //! Why an action does not come to its end.
 ghost use Rattle.std.specs.Prelude.{◌≡◌};
 
+use base_values::Memory;
 use concrete_sem::FaultKind;
-use plain_values::Memory;
 
 /// Why an action does not come to its end.
 #[derive(Clone, Copy, Debug, PartialEq, Eq)]

@@ -21,5 +21,5 @@ mod slots;
 mod store;
 mod work;
 
-pub use analysis_words::RunEnd;
-pub use running::{Outcome, run};
+pub use imp_words::RunEnd;
+pub use running::{RunResult, run};

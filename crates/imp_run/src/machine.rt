@@ -18,9 +18,9 @@ use crate::passing::{pass, take_back};
 use crate::slots::Slots;
 use crate::store::Store;
 use crate::work::{Item, leave_loop, pop_item, push_block, push_item};
+use base_values::Memory;
 use concrete_sem::FaultKind;
 use imp_slots::{Routine, SlotAction, SlotBlock, SlotCall, SlotCond, SlotNode};
-use plain_values::Memory;
 use std::alloc::Global;
 use std::mem::replace;
 
@@ -171,7 +171,7 @@ fn do_call<'a>(
 
 /// The heap, the last frame, and the frames below it.
 #[derive(Drop)]
-pub(crate) struct Machine<'a> {
+pub(crate) struct RunState<'a> {
     pub(crate) store: Store<'a>,
     pub(crate) last: Activation<'a>,
     pub(crate) below: Vec<Activation<'a>>,
@@ -180,7 +180,7 @@ pub(crate) struct Machine<'a> {
 /// The frame of a callee is put on the others.
 #[tactic(auto, using(crate::proofs::WorkLemmas::frames_on_push))]
 fn enter<'a>(
-    machine: &mut Machine<'a>,
+    machine: &mut RunState<'a>,
     place: u32,
     slots: Slots,
     body: &'a [SlotNode],
@@ -199,7 +199,7 @@ fn enter<'a>(
 
 /// The last frame is removed, and its caller takes the result.
 #[tactic(auto, using(crate::proofs::WorkLemmas::frames_on_push))]
-fn leave(machine: &mut Machine<'_>) -> Result<Stepped, Memory>
+fn leave(machine: &mut RunState<'_>) -> Result<Stepped, Memory>
     ensures is { IfOk result (λ s. steps.returns_to machine.old.store machine.old.last.slots (frames_on [] machine.old.below.items) ≡ step_of s (config_of machine.new)) }
 {
     let Some(mut caller) = machine.below.pop() else {
@@ -223,7 +223,7 @@ fn leave(machine: &mut Machine<'_>) -> Result<Stepped, Memory>
 fn begin_call<'a>(
     alloc: Global,
     program: &'a [Routine],
-    machine: &mut Machine<'a>,
+    machine: &mut RunState<'a>,
     number: u32,
     call: &'a SlotCall,
     place: u32,
@@ -248,7 +248,7 @@ fn begin_call<'a>(
 
 fn begin_simple<'a>(
     alloc: Global,
-    machine: &mut Machine<'a>,
+    machine: &mut RunState<'a>,
     number: u32,
     action: &SlotAction,
     rest: &'a [SlotNode],
@@ -269,7 +269,7 @@ fn begin_simple<'a>(
 }
 
 fn begin_if<'a>(
-    machine: &mut Machine<'a>,
+    machine: &mut RunState<'a>,
     number: u32,
     cond: &SlotCond,
     blocks: (&'a SlotBlock, &'a SlotBlock),
@@ -291,7 +291,7 @@ fn begin_if<'a>(
 }
 
 fn begin_while<'a>(
-    machine: &mut Machine<'a>,
+    machine: &mut RunState<'a>,
     number: u32,
     cond: &'a SlotCond,
     body: &'a SlotBlock,
@@ -313,7 +313,7 @@ fn begin_while<'a>(
 }
 
 fn begin_break<'a>(
-    machine: &mut Machine<'a>,
+    machine: &mut RunState<'a>,
     number: u32,
     rest: &'a [SlotNode],
 ) -> Result<Stepped, Memory>
@@ -325,7 +325,7 @@ fn begin_break<'a>(
 }
 
 fn begin_test<'a>(
-    machine: &mut Machine<'a>,
+    machine: &mut RunState<'a>,
     number: u32,
     cond: &'a SlotCond,
     body: &'a SlotBlock,
@@ -348,7 +348,7 @@ fn begin_test<'a>(
 fn begin<'a>(
     alloc: Global,
     program: &'a [Routine],
-    machine: &mut Machine<'a>,
+    machine: &mut RunState<'a>,
     node: &'a SlotNode,
     rest: &'a [SlotNode],
 ) -> Result<Stepped, Memory>
@@ -381,7 +381,7 @@ fn begin<'a>(
 pub(crate) fn step<'a>(
     alloc: Global,
     program: &'a [Routine],
-    machine: &mut Machine<'a>,
+    machine: &mut RunState<'a>,
 ) -> Result<Stepped, Memory>
     ensures is { IfOk result (λ s. steps.step program.now (config_of machine.old) ≡ step_of s (config_of machine.new)) }
 {

@@ -7,9 +7,9 @@ ghost use Rattle.imp_run.specs.Passes.{Passes};
 
 use crate::evaluation::{side_at, value_of};
 use crate::halt::Halt;
-use crate::slots::{Held, Slots};
+use crate::slots::{SlotValue, Slots};
+use base_values::Memory;
 use imp_slots::{Argument, Entering, Layout, Returning};
-use plain_values::Memory;
 use std::alloc::Global;
 
 /// The variables with which a procedure starts: 0, arrays without elements, null.
@@ -29,14 +29,14 @@ fn add_argument(slots: &mut Slots, caller: &Slots, argument: &Argument) -> Resul
     match argument {
         Argument::Int(expr) => match value_of(caller, expr) {
             Ok(value) => {
-                slots.add_number(Held::Int(value))?;
+                slots.add_number(SlotValue::Int(value))?;
                 Ok(())
             }
             Err(fault) => Err(Halt::Fault(fault)),
         },
         Argument::Array(a) => {
             let elements = caller.share_array(*a)?;
-            slots.add_number(Held::Array(elements))?;
+            slots.add_number(SlotValue::Array(elements))?;
             Ok(())
         }
         Argument::Link(side) => {

@@ -7,19 +7,19 @@ ghost use Rattle.imp_run.specs.Machine.{config_of, work_of};
 ghost use Rattle.imp_run.specs.Outcome.{run_of, stands_at, same_location, is_name_of, item_location, end_location, config_or_none, IsEndAfter, bit};
 ghost use Rattle.concrete_sem.specs.Reach.{location_of};
 
-use crate::machine::{Activation, Machine, Stepped, step};
+use crate::machine::{Activation, RunState, Stepped, step};
 use crate::passing::first_slots;
 use crate::store::Store;
 use crate::work::{Item, push_block};
-use analysis_words::RunEnd;
+use base_values::{Memory, Text};
 use imp_slots::{Routine, SlotNode};
 use imp_syntax::{Location, StmtId};
-use plain_values::{Memory, Text};
+use imp_words::RunEnd;
 use std::alloc::Global;
 
 /// What a run comes to.
 #[derive(Clone, Copy, Debug, PartialEq, Eq, Hash)]
-pub struct Outcome {
+pub struct RunResult {
     /// How it ends.
     pub end: RunEnd,
     /// How many of its configurations, the first and the last included, stood at the location.
@@ -27,7 +27,7 @@ pub struct Outcome {
 }
 
 /// The location of the last frame is this one.
-fn stands_at(program: &[Routine], machine: &Machine<'_>, at: Option<&Location>) -> bool
+fn stands_at(program: &[Routine], machine: &RunState<'_>, at: Option<&Location>) -> bool
     ensures is { result ≡ stands_at program.now (option_copied at.entry) (config_of machine.now) }
 {
     match at {
@@ -122,7 +122,7 @@ fn first_machine<'a>(
     alloc: Global,
     program: &'a [Routine],
     inputs: &'a [i64],
-) -> Result<Option<Machine<'a>>, Memory>
+) -> Result<Option<RunState<'a>>, Memory>
     requires few { length program.now < 2 ^ 32 }
     ensures is { IfOk result (λ machine. config_or_none machine inputs.now ≡ start program.now inputs.now) }
 {
@@ -137,7 +137,7 @@ fn first_machine<'a>(
         slots,
         work,
     };
-    Ok(Some(Machine {
+    Ok(Some(RunState {
         store: Store::new(alloc, inputs),
         last,
         below: Vec::new(alloc),
@@ -186,10 +186,10 @@ fn counted(reached: u64, here: bool) -> u64
 fn run_machine<'a>(
     alloc: Global,
     program: &'a [Routine],
-    machine: &mut Machine<'a>,
+    machine: &mut RunState<'a>,
     fuel: u64,
     at: Option<&Location>,
-) -> Result<Outcome, Memory>
+) -> Result<RunResult, Memory>
     requires room { fuel < 2 ^ 64 - 1 }
     ensures outcome { IfOk result (λ o. run_of o ≡ run_from program.now (stands_at program.now (option_copied at.entry)) fuel (config_of machine.old)) }
 {
@@ -200,7 +200,7 @@ fn run_machine<'a>(
         reached = counted(reached, here);
         let stepped = step(alloc, program, machine)?;
         if let Some(end) = end_after(stepped, left) {
-            return Ok(Outcome { end, reached });
+            return Ok(RunResult { end, reached });
         }
         left -= 1;
     }
@@ -218,14 +218,14 @@ pub fn run(
     inputs: &[i64],
     fuel: u64,
     at: Option<&Location>,
-) -> Result<Outcome, Memory>
+) -> Result<RunResult, Memory>
     requires few { length program.now < 2 ^ 32 }
     requires room { fuel < 2 ^ 64 - 1 }
     ensures outcome { IfOk result (λ o. run_of o ≡ run_from program.now (stands_at program.now (option_copied at.entry)) fuel (start program.now inputs.now)) }
 {
     match first_machine(alloc, program, inputs)? {
         Some(mut machine) => run_machine(alloc, program, &mut machine, fuel, at),
-        None => Ok(Outcome {
+        None => Ok(RunResult {
             end: RunEnd::Ended,
             reached: 0,
         }),

@@ -5,15 +5,15 @@ ghost use Rattle.concrete_sem.specs.Passing.{first_number, first_link, over};
 ghost use Rattle.imp_run.specs.Slots.{number_of, elements_of};
 
 use crate::elements::Elements;
+use base_values::{Memory, Text};
 use imp_slots::{Layout, NumericSlot};
-use plain_values::{Memory, Text};
 use std::alloc::Global;
 use std::marker::Model;
 use std::mem::replace;
 
 /// What a numeric slot holds.
 #[derive(Drop)]
-pub(crate) enum Held {
+pub(crate) enum SlotValue {
     Int(i64),
     Array(Elements),
 }
@@ -21,7 +21,7 @@ pub(crate) enum Held {
 /// The variables of a frame, by slots.
 #[derive(Drop)]
 pub(crate) struct Slots {
-    numbers: Vec<Held>,
+    numbers: Vec<SlotValue>,
     links: Vec<Option<usize>>,
 }
 
@@ -49,7 +49,7 @@ impl Slots {
     }
 
     /// Adds a numeric slot behind the others.
-    pub(crate) fn add_number(&mut self, held: Held) -> Result<(), Memory>
+    pub(crate) fn add_number(&mut self, held: SlotValue) -> Result<(), Memory>
         ensures numbers { OnOk result (self.new.numbers ≡ self.old.numbers ++ number_of held ∷ []) }
         ensures links { self.new.links ≡ self.old.links }
     {
@@ -81,8 +81,8 @@ impl Slots {
         ensures is { result ≡ int_at self.now x }
     {
         match self.numbers.get(x as usize) {
-            Some(Held::Int(z)) => *z,
-            Some(Held::Array(_)) => 0,
+            Some(SlotValue::Int(z)) => *z,
+            Some(SlotValue::Array(_)) => 0,
             None => 0,
         }
     }
@@ -92,8 +92,8 @@ impl Slots {
         ensures is { result ≡ pos (length (array_at self.now a)) }
     {
         match self.numbers.get(a as usize) {
-            Some(Held::Int(_)) => 0,
-            Some(Held::Array(elements)) => elements.len() as i64,
+            Some(SlotValue::Int(_)) => 0,
+            Some(SlotValue::Array(elements)) => elements.len() as i64,
             None => 0,
         }
     }
@@ -113,8 +113,8 @@ impl Slots {
         ensures is { IfOk result (λ e. e ≡ array_at self.now a) }
     {
         match self.numbers.get(a as usize) {
-            Some(Held::Int(_)) => Ok(Elements::none()),
-            Some(Held::Array(elements)) => elements.share(),
+            Some(SlotValue::Int(_)) => Ok(Elements::none()),
+            Some(SlotValue::Array(elements)) => elements.share(),
             None => Ok(Elements::none()),
         }
     }
@@ -124,14 +124,14 @@ impl Slots {
         ensures is { result ≡ slice_get (array_at self.now a) at }
     {
         match self.numbers.get(a as usize) {
-            Some(Held::Int(_)) => None,
-            Some(Held::Array(elements)) => elements.get(at),
+            Some(SlotValue::Int(_)) => None,
+            Some(SlotValue::Array(elements)) => elements.get(at),
             None => None,
         }
     }
 
     /// Sets a numeric slot, where it is there.
-    pub(crate) fn set_number(&mut self, x: u32, held: Held)
+    pub(crate) fn set_number(&mut self, x: u32, held: SlotValue)
         ensures is { self.new ≡ with_number self.old x (number_of held) }
     {
         put(&mut self.numbers, x as usize, held);
@@ -148,13 +148,13 @@ impl Slots {
     }
 
     /// What a numeric slot holds, shared; 0 where it is not there.
-    pub(crate) fn share_number(&self, x: u32) -> Result<Held, Memory>
+    pub(crate) fn share_number(&self, x: u32) -> Result<SlotValue, Memory>
         ensures is { IfOk result (λ h. number_of h ≡ number_at self.now x) }
     {
         match self.numbers.get(x as usize) {
-            Some(Held::Int(z)) => Ok(Held::Int(*z)),
-            Some(Held::Array(elements)) => Ok(Held::Array(elements.share()?)),
-            None => Ok(Held::Int(0)),
+            Some(SlotValue::Int(z)) => Ok(SlotValue::Int(*z)),
+            Some(SlotValue::Array(elements)) => Ok(SlotValue::Array(elements.share()?)),
+            None => Ok(SlotValue::Int(0)),
         }
     }
 
@@ -181,24 +181,24 @@ impl Slots {
     {
         let taken = self.take_array(a);
         let elements = taken.with(alloc, at, value)?;
-        self.set_number(a, Held::Array(elements));
+        self.set_number(a, SlotValue::Array(elements));
         Ok(())
     }
 }
 
 /// The elements of an array, none where it is none.
-fn elements_of(held: Option<Held>) -> Elements
+fn elements_of(held: Option<SlotValue>) -> Elements
     ensures is { result ≡ elements_of held }
 {
     match held {
-        Some(Held::Array(elements)) => elements,
-        Some(Held::Int(_)) => Elements::none(),
+        Some(SlotValue::Array(elements)) => elements,
+        Some(SlotValue::Int(_)) => Elements::none(),
         None => Elements::none(),
     }
 }
 
 /// Puts something in a place of a list, where it is there.
-fn put(numbers: &mut Vec<Held>, at: usize, held: Held)
+fn put(numbers: &mut Vec<SlotValue>, at: usize, held: SlotValue)
     ensures is { numbers.new.items ≡ slice_set numbers.old.items at held }
 {
     if at < numbers.len() {
@@ -207,29 +207,29 @@ fn put(numbers: &mut Vec<Held>, at: usize, held: Held)
 }
 
 /// Takes what is in a place of a list, where it is there, and leaves an int.
-fn take(numbers: &mut Vec<Held>, at: usize) -> Option<Held>
+fn take(numbers: &mut Vec<SlotValue>, at: usize) -> Option<SlotValue>
     ensures is { result ≡ slice_get numbers.old.items at }
-    ensures left { numbers.new.items ≡ slice_set numbers.old.items at (Held.Int (pos 0)) }
+    ensures left { numbers.new.items ≡ slice_set numbers.old.items at (SlotValue.Int (pos 0)) }
 {
     if at < numbers.len() {
-        Some(replace(&mut numbers[at], Held::Int(0)))
+        Some(replace(&mut numbers[at], SlotValue::Int(0)))
     } else {
         None
     }
 }
 
 /// What a numeric slot starts with.
-fn first_held(slot: &NumericSlot) -> Held
+fn first_held(slot: &NumericSlot) -> SlotValue
     ensures is { number_of result ≡ first_number slot.now }
 {
     if slot.is_array() {
-        Held::Array(Elements::none())
+        SlotValue::Array(Elements::none())
     } else {
-        Held::Int(0)
+        SlotValue::Int(0)
     }
 }
 
-fn fill_numbers(numbers: &mut Vec<Held>, layout: &[NumericSlot]) -> Result<(), Memory>
+fn fill_numbers(numbers: &mut Vec<SlotValue>, layout: &[NumericSlot]) -> Result<(), Memory>
     ensures is { OnOk result (map number_of numbers.new.items ≡ over (map number_of numbers.old.items) (map first_number layout.now)) }
 {
     numbers.truncate(layout.len());

@@ -3,7 +3,7 @@ ghost use Rattle.std.specs.Prelude.{◌≡◌, ◌∷◌, [], ◌++◌, ◌<◌,
 ghost use Rattle.concrete_sem.specs.Values.{Cell, Heap};
 ghost use Rattle.imp_run.specs.Store.{cell_of, cell_at};
 
-use plain_values::Memory;
+use base_values::Memory;
 use std::alloc::Global;
 use std::marker::Model;
 

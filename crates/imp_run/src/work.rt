@@ -5,8 +5,8 @@ ghost use Rattle.imp_slots.specs.BlockViews.{code_of};
 ghost use Rattle.concrete_sem.specs.Steps.{Work, push};
 ghost use Rattle.imp_run.specs.Work.{put, work_on, Leaves};
 
+use base_values::Memory;
 use imp_slots::{SlotBlock, SlotCall, SlotCond, SlotNode};
-use plain_values::Memory;
 
 /// An item of work. Under the last one of a frame stands the return from its procedure.
 #[derive(Clone, Copy)]

@@ -1,7 +1,7 @@
 -- Lists in which each item stands once.
 use Rattle.std.specs.Prelude.{List, [], ◌∷◌, ◌++◌, ◌≢◌}
 use Rattle.std.proofs.Common.{refl, subst}
-use Rattle.plain_values.proofs.Members.{Member, here, there, in_right}
+use Rattle.base_values.proofs.Members.{Member, here, there, in_right}
 use Rattle.imp_slots.specs.Fits.{Absent, Distinct}
 
 pub not_in : {A : Type 0} (x : A) (xs : List A) → Absent x xs → Member x xs → ⊥

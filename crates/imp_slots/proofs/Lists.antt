@@ -2,7 +2,7 @@
 use Rattle.std.proofs.Common.{◌≡◌, List, ℕ, map, ◌∙◌}
 use Rattle.std.specs.Cmp.Lexicographic.{pointwise}
 use Rattle.std.specs.Str.{bytes_eq}
-use Rattle.plain_values.specs.Equal.{code_same, list_to, list_same, text_to, text_same}
+use Rattle.base_values.specs.Equal.{code_same, list_to, list_same, text_to, text_same}
 use Rattle.imp_slots.specs.ListCodes.{list_to-map}
 use Rattle.imp_slots.specs.CallViews.{argument_of}
 use Rattle.imp_slots.specs.PartCodes.{argument_to}

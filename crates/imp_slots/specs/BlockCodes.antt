@@ -3,7 +3,7 @@ use Rattle.std.specs.Prelude.{zero, suc, [], ◌≡◌, refl}
 use base.Stored.{Coded, Gv, gnil, gnum, gcons}
 use Rattle.std.specs.Coded.{code_by}
 use denote.Struct.Codes.{itself}
-use Rattle.plain_values.specs.Equal.{text_to, text_from, text_from_to}
+use Rattle.base_values.specs.Equal.{text_to, text_from, text_from_to}
 use Rattle.imp_slots.specs.Codes.{guard_to, guard_from, guard_from_to}
 use Rattle.imp_slots.specs.PartCodes.{effect_to, effect_from, effect_from_to, layout_to, layout_from, layout_from_to, invoke_to, invoke_from, invoke_from_to}
 use Rattle.imp_slots.specs.Plain.{Code, Stop, Simple, If, While, Call, Break, Routine}

@@ -3,7 +3,7 @@ use Rattle.std.specs.Prelude.{ℕ, zero, suc, Bool, true, false, List, [], ◌�
 use base.Stored.{Coded, Gv, gnil, gnum, gcons}
 use Rattle.std.specs.Coded.{code_by}
 use denote.Struct.Codes.{itself}
-use Rattle.plain_values.specs.Equal.{list_to}
+use Rattle.base_values.specs.Equal.{list_to}
 use Rattle.imp_syntax.specs.declared.words.Operator.{Operator}
 use Rattle.imp_syntax.specs.declared.words.Operator.TheVariants.{Add, Subtract, Multiply, Divide, Remainder}
 use Rattle.imp_syntax.specs.declared.words.Relation.{Relation}

@@ -2,7 +2,7 @@
 use Rattle.std.specs.Prelude.{List, [], ◌∷◌, map, ◌≡◌, refl}
 use Rattle.std.proofs.Common.{ap}
 use base.Stored.{Gv, gcons}
-use Rattle.plain_values.specs.Equal.{list_to}
+use Rattle.base_values.specs.Equal.{list_to}
 
 -- the code of a mapped list is that of the list by the code of what is mapped
 pub list_to-map : {A B : Type 0} (to : B → Gv) (f : A → B) (xs : List A) → list_to (λ x. to (f x)) xs ≡ list_to to (map f xs)

@@ -3,7 +3,7 @@ use Rattle.std.specs.Prelude.{ℕ, zero, suc, [], Option, Some, None, ◌≡◌,
 use base.Stored.{Coded, Gv, gnil, gnum, gcons}
 use Rattle.std.specs.Coded.{code_by}
 use denote.Struct.Codes.{itself}
-use Rattle.plain_values.specs.Equal.{list_to, text_to, text_from, text_from_to}
+use Rattle.base_values.specs.Equal.{list_to, text_to, text_from, text_from_to}
 use Rattle.imp_slots.specs.Codes.{list_from, list_from_to, bool_to, bool_from, bool_from_to, slot_to, slot_from, slot_from_to, term_to, term_from, term_from_to, guard_to, guard_from, guard_from_to}
 use Rattle.imp_slots.specs.Plain.{Numeric, Layout, Effect, Skip, Assert, SetInt, Input, ReadElement, ReadItem, MakeArray, CopyArray, WriteElement, SetNull, MakeCell, CopyLink, ReadNext, WriteNext, WriteItem, Act, DoBreak, Does, Argument, IntArgument, ArrayArgument, LinkArgument, Entering, Returning, NumericResult, LinkResult, Invoke}
 

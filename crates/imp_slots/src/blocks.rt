@@ -3,7 +3,7 @@ ghost use Rattle.std.specs.Prelude.{◌≡◌, IfOk};
 ghost use Rattle.imp_slots.specs.BlockViews.{code_of, number_of};
 
 use crate::{Layout, SlotAction, SlotCall, SlotCond};
-use plain_values::{Memory, Text};
+use base_values::{Memory, Text};
 use std::alloc::{AllocError, Global};
 use std::marker::Model;
 use std::rc::Rc;

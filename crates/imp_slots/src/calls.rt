@@ -3,7 +3,7 @@ ghost use Rattle.std.specs.Prelude.{◌≡◌, IfOk, map};
 ghost use Rattle.imp_slots.specs.CallViews.{argument_of, taken_of};
 
 use crate::{Layout, SlotExpr};
-use plain_values::{Items, Memory};
+use base_values::{Items, Memory};
 use std::alloc::{AllocError, Global};
 use std::marker::Model;
 use std::rc::Rc;

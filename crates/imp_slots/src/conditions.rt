@@ -3,8 +3,8 @@ ghost use Rattle.std.specs.Prelude.{◌≡◌, IfOk};
 ghost use Rattle.imp_slots.specs.CondViews.{guard_of};
 
 use crate::SlotExpr;
+use base_values::Memory;
 use imp_syntax::Relation;
-use plain_values::Memory;
 use std::alloc::{AllocError, Global};
 use std::marker::Model;
 use std::rc::Rc;

@@ -1,6 +1,6 @@
 //! Equality of slot forms. It says whether two are the same plain data.
 ghost use Rattle.std.specs.Prelude.{◌≡◌, ◌&&◌, map};
-ghost use Rattle.plain_values.specs.Equal.{same, same_equiv, same_per, code_same, text_to, list_to};
+ghost use Rattle.base_values.specs.Equal.{same, same_equiv, same_per, code_same, text_to, list_to};
 ghost use Rattle.imp_slots.specs.CallViews.{taken_of, argument_of};
 ghost use Rattle.imp_slots.specs.Codes.{term_code, guard_code};
 ghost use Rattle.imp_slots.specs.PartCodes.{numeric_code, numeric_to, layout_code, entering_code, argument_to, returning_to, invoke_code};
@@ -10,7 +10,7 @@ use crate::{
     Argument, Entering, Layout, NumericSlot, Returning, SlotAction, SlotCall, SlotCond,
     SlotCondNode, SlotExpr, SlotExprNode, SlotStmt,
 };
-use plain_values::Text;
+use base_values::Text;
 
 impl PartialEq for SlotExpr {
     ghost eq = { same term_code };

@@ -2,8 +2,8 @@
 ghost use Rattle.std.specs.Prelude.{◌≡◌, IfOk};
 ghost use Rattle.imp_slots.specs.ExprViews.{term_of};
 
+use base_values::{Memory, Number};
 use imp_syntax::Operator;
-use plain_values::{Memory, Number};
 use std::alloc::{AllocError, Global};
 use std::marker::Model;
 use std::rc::Rc;

@@ -1,7 +1,7 @@
 //! Hashes of slot forms. Equal ones feed a hasher the same.
 ghost use Rattle.std.specs.Prelude.{◌≡◌, ◌++◌, fold, map};
 ghost use Rattle.std.specs.Hash as fed;
-ghost use Rattle.plain_values.specs.Equal.{same_fed};
+ghost use Rattle.base_values.specs.Equal.{same_fed};
 ghost use Rattle.imp_slots.specs.CallViews.{argument_of};
 ghost use Rattle.imp_slots.specs.Codes.{term_code, guard_code};
 ghost use Rattle.imp_slots.specs.PartCodes.{numeric_code, layout_code, entering_code};

@@ -1,7 +1,7 @@
 //! The variables of procedures.
 ghost use Rattle.std.specs.Prelude.{◌≡◌, IfOk};
 
-use plain_values::{Items, Memory, Text};
+use base_values::{Items, Memory, Text};
 use std::alloc::{AllocError, Global};
 use std::marker::Model;
 use std::rc::Rc;

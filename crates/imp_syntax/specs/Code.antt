@@ -1,7 +1,7 @@
 -- The codes of plain programs, by which their equality is decided.
 use Rattle.std.specs.Prelude.{ℕ, zero, suc, List, [], ◌∷◌, ◌≡◌, refl}
 use Rattle.std.specs.Coded.{code_by}
-use Rattle.plain_values.specs.Equal.{list_to, text_to, text_from, text_from_to}
+use Rattle.base_values.specs.Equal.{list_to, text_to, text_from, text_from_to}
 use Rattle.imp_syntax.specs.Plain.{Expression, Literal, Variable, Length, Negative, Binary, Operand, Null, Value, Condition, Compare, Not, And, Or}
 use Rattle.imp_syntax.specs.declared.words.Operator.{Operator}
 use Rattle.imp_syntax.specs.declared.words.Operator.TheVariants.{Add, Subtract, Multiply, Divide, Remainder}

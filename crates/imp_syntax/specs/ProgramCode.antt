@@ -1,27 +1,27 @@
 -- The codes of plain procedures and programs.
 use Rattle.std.specs.Prelude.{ℕ, zero, suc, List, ◌≡◌, refl, Option, Some, None}
 use Rattle.std.specs.Coded.{code_by}
-use Rattle.plain_values.specs.Equal.{list_to, text_to, text_from, text_from_to}
+use Rattle.base_values.specs.Equal.{list_to, text_to, text_from, text_from_to}
 use Rattle.imp_syntax.specs.Plain.{Procedure}
 use Rattle.imp_syntax.specs.Code.{left, right, list_from, list_back, number_from}
 use Rattle.imp_syntax.specs.StmtCode.{block_to, block_from, block_back}
 use Rattle.imp_syntax.specs.declared.words.Declaration.{Declaration}
-use Rattle.imp_syntax.specs.declared.words.Kind.{Kind}
-use Rattle.imp_syntax.specs.declared.words.Kind.TheVariants.{Int, Array, List as OfLinks}
+use Rattle.imp_syntax.specs.declared.words.VariableKind.{VariableKind}
+use Rattle.imp_syntax.specs.declared.words.VariableKind.TheVariants.{Int, Array, List as OfLinks}
 use base.Stored.{Coded, Gv, gnil, gnum, gcons}
 use denote.Struct.Codes.{itself}
 
-abbrev pub kind_number : Kind → ℕ
+abbrev pub kind_number : VariableKind → ℕ
 kind_number Int = 0
 kind_number Array = 1
 kind_number OfLinks = 2
 
-abbrev pub kind_at : ℕ → Kind
+abbrev pub kind_at : ℕ → VariableKind
 kind_at zero = Int
 kind_at (suc zero) = Array
 kind_at (suc (suc n)) = OfLinks
 
-pub kind_back : (k : Kind) → kind_at (kind_number k) ≡ k
+pub kind_back : (k : VariableKind) → kind_at (kind_number k) ≡ k
 kind_back Int = refl
 kind_back Array = refl
 kind_back OfLinks = refl

@@ -1,7 +1,7 @@
 -- The codes of plain statements.
 use Rattle.std.specs.Prelude.{ℕ, zero, suc, List, ◌≡◌, refl, Option, Some, None}
 use Rattle.std.specs.Coded.{code_by}
-use Rattle.plain_values.specs.Equal.{list_to, text_to, text_from, text_from_to}
+use Rattle.base_values.specs.Equal.{list_to, text_to, text_from, text_from_to}
 use Rattle.imp_syntax.specs.Plain.{Action, Skip, Assert, Assign, Input, MakeArray, SetNull, MakeCell, ReadElement, ReadNext, ReadItem, WriteElement, WriteNext, WriteItem, Statement, Simple, Break, Call, If, While, Statements, Ends, Starts}
 use Rattle.imp_syntax.specs.Code.{left, right, list_from, list_back, expression_to, expression_from, expression_back, condition_to, condition_from, condition_back, operand_to, operand_from, operand_back}
 use base.Stored.{Coded, Gv, gnil, gnum, gcons}

@@ -1,6 +1,6 @@
 //! What simple statements do.
 use crate::{Cond, Expr, Side};
-use plain_values::{Items, Text};
+use base_values::{Items, Text};
 
 /// What a simple statement does that is neither a call nor a break. The variable that it sets stands first.
 #[derive(Debug, Drop)]

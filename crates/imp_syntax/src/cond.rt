@@ -3,7 +3,7 @@ ghost use Rattle.std.specs.Prelude.{◌≡◌, IfOk};
 ghost use Rattle.imp_syntax.specs.Views.{condition_of};
 
 use crate::{Relation, Side};
-use plain_values::Memory;
+use base_values::Memory;
 use std::alloc::{AllocError, Global};
 use std::marker::Model;
 use std::rc::Rc;

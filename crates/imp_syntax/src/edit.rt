@@ -2,7 +2,7 @@
 ghost use Rattle.std.specs.Prelude.{◌≡◌};
 
 use crate::{Block, Cond, Declaration, Proc, Stmt, StmtId};
-use plain_values::{Items, Text};
+use base_values::{Items, Text};
 use std::marker::Model;
 
 /// A location of a program.

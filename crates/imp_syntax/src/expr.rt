@@ -3,7 +3,7 @@ ghost use Rattle.std.specs.Prelude.{◌≡◌, IfOk};
 ghost use Rattle.imp_syntax.specs.Views.{expression_of};
 
 use crate::Operator;
-use plain_values::{Memory, Number, Text};
+use base_values::{Memory, Number, Text};
 use std::alloc::{AllocError, Global};
 use std::marker::Model;
 use std::rc::Rc;

@@ -66,11 +66,11 @@ mod stmt;
 mod words;
 
 pub use action::{Action, Call};
+pub use base_values::Number;
 pub use cond::{Cond, CondNode};
 pub use edit::{Chain, Edit, Location, Place};
 pub use expr::{Expr, ExprNode, Side};
 pub use numbers::{ProcId, StmtId};
-pub use plain_values::Number;
 pub use program::{Proc, Program};
 pub use stmt::{Block, Stmt, StmtNode};
-pub use words::{Declaration, Kind, Operator, Relation};
+pub use words::{Declaration, Operator, Relation, VariableKind};

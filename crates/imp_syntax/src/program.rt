@@ -3,7 +3,7 @@ ghost use Rattle.std.specs.Prelude.{◌≡◌, [], ◌∷◌, ◌++◌, IfOk};
 ghost use Rattle.std.specs.Option.{option_copied};
 
 use crate::{Block, Declaration};
-use plain_values::{Items, Memory, Text};
+use base_values::{Items, Memory, Text};
 use std::alloc::{AllocError, Global};
 use std::marker::Model;
 use std::rc::Rc;
@@ -11,13 +11,13 @@ use std::rc::Rc;
 /// A procedure, seen as plain data. Copies share it.
 #[derive(Debug, Drop)]
 pub struct Proc {
-    head: Rc<Head>,
+    head: Rc<ProcParts>,
     body: Block,
 }
 
 /// All of a procedure but its body.
 #[derive(Debug, Drop)]
-struct Head {
+struct ProcParts {
     name: Text,
     parameters: Items<Declaration>,
     outcome: Option<Declaration>,
@@ -49,7 +49,7 @@ impl Proc {
     ) -> Result<Proc, Memory>
         ensures is { IfOk result (λ p. p ≡ record { name = name; parameters = parameters; outcome = outcome; locals = locals; body = body }) }
     {
-        let head = Head {
+        let head = ProcParts {
             name,
             parameters,
             outcome,

@@ -6,7 +6,7 @@ ghost use Rattle.imp_syntax.specs.StmtViews.{statement_of};
 ghost use Rattle.imp_syntax.specs.Changes.{with_number, with_condition, with_then, with_else, with_body, inserted};
 
 use crate::{Action, Call, Cond, StmtId};
-use plain_values::{Items, Memory};
+use base_values::{Items, Memory};
 use std::alloc::{AllocError, Global};
 use std::marker::Model;
 use std::rc::Rc;

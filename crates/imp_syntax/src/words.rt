@@ -1,12 +1,12 @@
 //! Kinds, operators, relations and declarations.
 ghost use Rattle.std.specs.Prelude.{◌≡◌};
 
-use plain_values::Text;
+use base_values::Text;
 use std::alloc::AllocError;
 
 /// The kind of a variable.
 #[derive(Clone, Copy, Debug, PartialEq, Eq, Hash)]
-pub enum Kind {
+pub enum VariableKind {
     /// A 64-bit signed integer.
     Int,
     /// An array of integers.
@@ -19,7 +19,7 @@ pub enum Kind {
 #[derive(Debug, Drop)]
 pub struct Declaration {
     pub name: Text,
-    pub kind: Kind,
+    pub kind: VariableKind,
 }
 
 impl Clone for Declaration {

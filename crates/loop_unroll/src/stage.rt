@@ -1,6 +1,6 @@
 //! What the last of some iterates is.
 ghost use Rattle.std.specs.Prelude.{◌≡◌, length, ◌<◌, IsTrue, ◌↔◌, Some, option_copied};
-ghost use Rattle.plain_values.specs.Claims.{IsDecided};
+ghost use Rattle.base_values.specs.Claims.{IsDecided};
 ghost use Rattle.daig_graph.specs.Cells.{AreCells};
 ghost use Rattle.daig_graph.specs.declared.value.Value.TheVariants.{State};
 ghost use Rattle.loop_unroll.specs.Iterates.{iterate_of, value_at, state_in, GoesOnTo, IsEqual};

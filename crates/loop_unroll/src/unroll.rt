@@ -1,6 +1,6 @@
 //! The next iterate, and how iterates stop.
 ghost use Rattle.std.specs.Prelude.{◌≡◌, length, IsTrue, ◌↔◌, IsNone, IfSome};
-ghost use Rattle.plain_values.specs.Claims.{IsDecided};
+ghost use Rattle.base_values.specs.Claims.{IsDecided};
 ghost use Rattle.daig_graph.specs.Cells.{AreCells};
 ghost use Rattle.loop_unroll.specs.Iterates.{iterate_of, GoesOnTo, StopsWithin, ConvergesWithin, OverrunsWithin};
 

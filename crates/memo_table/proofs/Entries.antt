@@ -58,7 +58,7 @@ result-stays dom (Assume guard sense) l later_l r later_r s h k e = one-stays (d
 result-stays dom (Enter entering) l later_l r later_r s h k e = one-stays (dom.enter entering) l later_l s h e
 result-stays dom Join l later_l r later_r s h k e = both-stays dom.join l later_l r later_r s h k e
 result-stays dom (Leave taken) l later_l r later_r s h k e = both-stays (dom.leave (taken_of taken)) l later_l r later_r s h k e
-result-stays dom (Widen marks) l later_l r later_r s h k e = both-stays (dom.widen marks) l later_l r later_r s h k e
+result-stays dom (Widen thresholds) l later_l r later_r s h k e = both-stays (dom.widen thresholds) l later_l r later_r s h k e
 
 operand-stays : {S : Type 0} (dom : Operations S) (states later : List S) → KeepsNumbers states later → (n : Option ℕ) → Stays (operand dom states n) (operand dom later n)
 unfolding Stays

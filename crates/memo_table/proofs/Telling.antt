@@ -6,8 +6,8 @@ use Rattle.std.specs.Option.{option_eq}
 use Rattle.std.specs.Cmp.{signed_Decides}
 use Rattle.std.specs.Ordering.{int_eq}
 use Rattle.std.specs.Cmp.Lexicographic.{pointwise}
-use Rattle.plain_values.specs.Claims.{IsDecided}
-use Rattle.plain_values.specs.Equal.{same_Decides}
+use Rattle.base_values.specs.Claims.{IsDecided}
+use Rattle.base_values.specs.Equal.{same_Decides}
 use Rattle.state_table.specs.Numbers.{TellsApart}
 use Rattle.imp_slots.specs.Codes.{guard_code}
 use Rattle.imp_slots.specs.PartCodes.{layout_code, entering_code}

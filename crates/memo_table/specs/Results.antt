@@ -22,7 +22,7 @@ module _ {S : Type 0} (dom : Operations S) where
   result_of (Enter entering) l r = option_map (dom.enter entering) l
   result_of Join l r = both dom.join l r
   result_of (Leave taken) l r = both (dom.leave (taken_of taken)) l r
-  result_of (Widen marks) l r = both (dom.widen marks) l r
+  result_of (Widen thresholds) l r = both (dom.widen thresholds) l r
 
   -- the state that has a number, if one is given
   abbrev pub operand : List S → Option ℕ → Option S

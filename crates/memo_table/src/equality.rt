@@ -1,5 +1,5 @@
 //! Equality of keys and operations.
-ghost use Rattle.plain_values.specs.Claims.{IsDecided};
+ghost use Rattle.base_values.specs.Claims.{IsDecided};
 ghost use Rattle.memo_table.specs.Results.{ResultsStay};
 
 use crate::{Key, Operation};

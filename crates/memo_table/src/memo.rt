@@ -4,9 +4,9 @@ ghost use Rattle.std.specs.Map.{lookup};
 ghost use Rattle.lru.specs.LruCache.{lru_cache, promoted, put_entries};
 ghost use Rattle.memo_table.specs.Results.{FindsResult, LeavesResults, AddsResult};
 
+use base_hash::NumberHashing;
+use base_values::Memory;
 use lru::LruCache;
-use number_hash::NumberHashing;
-use plain_values::Memory;
 use std::alloc::Global;
 use std::marker::{Model, PhantomData};
 use std::num::NonZeroUsize;

@@ -1,8 +1,8 @@
 //! The operations on states that a memo remembers the results of.
 ghost use Rattle.std.specs.Prelude.{◌≡◌, IfOk};
 
+use base_values::{Items, Memory};
 use imp_slots::{Entering, Layout, Returning, SlotCall, SlotCond, SlotStmt};
-use plain_values::{Items, Memory};
 use std::alloc::Global;
 
 /// What is done to the values of a cell's inputs. Equal ones do the same.
@@ -19,7 +19,7 @@ pub enum Operation {
     Join,
     /// Back from a call, with what is taken of the result.
     Leave(Option<Returning>),
-    /// Widening at these marks.
+    /// Widening at these thresholds.
     Widen(Items<i64>),
 }
 
@@ -48,12 +48,12 @@ impl Operation {
         Ok(Operation::Enter(call.entering().clone()?))
     }
 
-    /// Of widening at these marks, which it copies.
+    /// Of widening at these thresholds, which it copies.
     #[inline]
-    pub fn widen(alloc: Global, marks: &[i64]) -> Result<Operation, Memory>
-        ensures is { IfOk result (λ o. o ≡ Operation.Widen marks.now) }
+    pub fn widen(alloc: Global, thresholds: &[i64]) -> Result<Operation, Memory>
+        ensures is { IfOk result (λ o. o ≡ Operation.Widen thresholds.now) }
     {
-        let marks = Vec::from_slice(alloc, marks)?;
-        Ok(Operation::Widen(Items::from_vec(marks)))
+        let thresholds = Vec::from_slice(alloc, thresholds)?;
+        Ok(Operation::Widen(Items::from_vec(thresholds)))
     }
 }

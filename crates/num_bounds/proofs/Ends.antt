@@ -4,8 +4,8 @@ use Rattle.std.proofs.lemmas.Int.{ints, clamps}
 use Rattle.std.specs.Int.{int_max, int_min, w64}
 use Rattle.num_bounds.specs.Bounds.{Bounds, Within, IsPart, IsRange, least, greatest}
 use Rattle.num_bounds.specs.Meaning.{Covers, IsMeet}
-use Rattle.num_bounds.specs.Operations.{between, cut_of, word}
-use Rattle.plain_values.proofs.Cases.{by_bool}
+use Rattle.num_bounds.specs.Operations.{range_between, cut_of, word}
+use Rattle.base_values.proofs.Cases.{by_bool}
 
 -- ranges with the same ends are the same
 pub same_ends : {a b : Bounds} → a.lo ≡ b.lo → a.hi ≡ b.hi → a ≡ b
@@ -20,10 +20,10 @@ le-false a b h = grind (arith, ints)
 pub true-le : (a b : ℤ) → a ≤ℤ b → int_le a b ≡ true
 true-le a b h = grind (arith, ints)
 
-pub between-some : (lo hi : ℤ) → int_le lo hi ≡ true → between lo hi ≡ Some (record { lo = lo; hi = hi })
+pub between-some : (lo hi : ℤ) → int_le lo hi ≡ true → range_between lo hi ≡ Some (record { lo = lo; hi = hi })
 between-some lo hi h = rw h refl
 
-pub between-none : (lo hi : ℤ) → int_le lo hi ≡ false → between lo hi ≡ None
+pub between-none : (lo hi : ℤ) → int_le lo hi ≡ false → range_between lo hi ≡ None
 between-none lo hi h = rw h refl
 
 pub word-some : (b : Bounds) (lo hi : ℤ) → lo ≡ int_max b.lo least → hi ≡ int_min b.hi greatest → int_le lo hi ≡ true → Some (record { lo = lo; hi = hi }) ≡ word b
@@ -34,7 +34,7 @@ word-some b lo hi p q h =
 pub word-is : (r : Option Bounds) (lo hi : ℤ) (b : Bounds) → r ≡ word (record { lo = lo; hi = hi }) → lo ≡ b.lo → hi ≡ b.hi → r ≡ word b
 word-is r lo hi b e p q = e ∙ ap word {x = record { lo = lo; hi = hi }} {y = b} (same_ends p q)
 
-pub between-covers : (lo hi z : ℤ) → lo ≤ℤ z → z ≤ℤ hi → Covers (between lo hi) z
+pub between-covers : (lo hi z : ℤ) → lo ≤ℤ z → z ≤ℤ hi → Covers (range_between lo hi) z
 between-covers lo hi z p q = rw (between-some lo hi (true-le lo hi (omega (arith, ints)))) (p, q)
 
 -- what lies in a range and in the cut is left
@@ -45,7 +45,7 @@ pub word-covers : (b : Bounds) (z : ℤ) → Within z b → FitsSigned w64 z →
 word-covers b z w f = cut-covers b least greatest z w (omega (arith, ints)) (omega (arith, ints))
 
 -- what is between two ends, if anything is
-pub between-left : (lo hi : ℤ) (P : Bounds → Type 0) → (lo ≤ℤ hi → P (record { lo = lo; hi = hi })) → IfSome (between lo hi) P
+pub between-left : (lo hi : ℤ) (P : Bounds → Type 0) → (lo ≤ℤ hi → P (record { lo = lo; hi = hi })) → IfSome (range_between lo hi) P
 between-left lo hi P f =
     by_bool (int_le lo hi)
     (λ t. rw (between-some lo hi t) (f (le-true lo hi t)))

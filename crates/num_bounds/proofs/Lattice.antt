@@ -4,7 +4,7 @@ use Rattle.std.proofs.lemmas.Int.{ints, clamps}
 use Rattle.std.specs.Int.{int_max, int_min}
 use Rattle.num_bounds.specs.Bounds.{Bounds}
 use Rattle.num_bounds.specs.Meaning.{IsJoin, AreLattice}
-use Rattle.num_bounds.specs.Operations.{between, hull_of}
+use Rattle.num_bounds.specs.Operations.{range_between, hull_of}
 use Rattle.num_bounds.proofs.Ends.{same_ends, between-some, true-le}
 
 pub hull-join : (a b : Bounds) → IsJoin a b (hull_of a b)
@@ -21,7 +21,7 @@ int_min-comm : (x y : ℤ) → int_min x y ≡ int_min y x
 int_min-comm x y = omega (arith, ints, clamps)
 
 -- a cut that keeps both ends keeps the range
-cut-whole : (a : Bounds) (lo hi : ℤ) → lo ≡ a.lo → hi ≡ a.hi → a.lo ≤ℤ a.hi → between lo hi ≡ Some a
+cut-whole : (a : Bounds) (lo hi : ℤ) → lo ≡ a.lo → hi ≡ a.hi → a.lo ≤ℤ a.hi → range_between lo hi ≡ Some a
 cut-whole a lo hi p q h = rw (p, q) (between-some a.lo a.hi (true-le a.lo a.hi h))
 
 pub lattice : (a b c : Bounds) → a.lo ≤ℤ a.hi → AreLattice a b c

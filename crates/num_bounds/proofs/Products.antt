@@ -9,7 +9,7 @@ use Rattle.num_bounds.specs.Meaning.{CoversResults, IsTaken, AreEndsTaken}
 use Rattle.num_bounds.specs.Operations.{word, products}
 use Rattle.num_bounds.proofs.Ends.{word-covers}
 use Rattle.num_bounds.proofs.Corners.{IsBetween, corners-hold}
-use Rattle.plain_values.proofs.Cases.{by_bool}
+use Rattle.base_values.proofs.Cases.{by_bool}
 
 -- by a number that is not negative the product rises
 rises : (x y : ℤ) (n : ℕ) → x ≤ℤ y → (x *ℤ pos n) ≤ℤ (y *ℤ pos n)

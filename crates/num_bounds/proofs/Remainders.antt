@@ -7,7 +7,7 @@ use Rattle.num_bounds.specs.Bounds.{Bounds, Within}
 use Rattle.num_bounds.specs.Meaning.{CoversRemainders}
 use Rattle.num_bounds.specs.Operations.{magnitude, remainder_limit, least_remainder, greatest_remainder, remainders}
 use Rattle.num_bounds.proofs.Ends.{same_ends}
-use Rattle.plain_values.proofs.Cases.{by_bool}
+use Rattle.base_values.proofs.Cases.{by_bool}
 
 within-magnitude : (x lo hi : ℤ) → lo ≤ℤ x → x ≤ℤ hi → unsigned_abs x ≤ max (unsigned_abs lo) (unsigned_abs hi)
 within-magnitude (pos n) lo (pos h) p q = omega (arith, ints)

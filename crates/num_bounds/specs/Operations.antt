@@ -4,12 +4,12 @@ use Rattle.std.specs.Int.{int_max, int_min}
 use Rattle.num_bounds.specs.Bounds.{Bounds, least, greatest}
 
 -- the range from lo to hi, none where it would be empty
-abbrev pub between : ℤ → ℤ → Option Bounds
-between lo hi = if int_le lo hi then Some (record { lo = lo; hi = hi }) else None
+abbrev pub range_between : ℤ → ℤ → Option Bounds
+range_between lo hi = if int_le lo hi then Some (record { lo = lo; hi = hi }) else None
 
 -- the common part with the range from lo to hi
 abbrev pub cut_of : Bounds → ℤ → ℤ → Option Bounds
-cut_of b lo hi = between (int_max b.lo lo) (int_min b.hi hi)
+cut_of b lo hi = range_between (int_max b.lo lo) (int_min b.hi hi)
 
 -- what is left within 64 bits
 abbrev pub word : Bounds → Option Bounds
@@ -41,10 +41,10 @@ products a b = corners ◌*ℤ◌ a b
 
 -- the parts of a divisor's range below 0 and above 0
 abbrev pub below_zero : Bounds → Option Bounds
-below_zero b = between b.lo (int_min b.hi (negsuc 0))
+below_zero b = range_between b.lo (int_min b.hi (negsuc 0))
 
 abbrev pub above_zero : Bounds → Option Bounds
-above_zero b = between (int_max b.lo (pos 1)) b.hi
+above_zero b = range_between (int_max b.lo (pos 1)) b.hi
 
 -- the quotients, rounded towards 0, by one of these parts, if it is there
 abbrev pub part_quotients : Bounds → Option Bounds → Option Bounds

@@ -2,7 +2,7 @@
 
 ghost use Rattle.std.specs.Prelude.{◌≡◌, ◌≢◌, ◌<◌, ◌≤◌, ◌^◌, pos, ◌*ℤ◌, ◌+ℤ◌, ◌-ℤ◌, ◌≤ℤ◌, int_div, IfSome};
 ghost use Rattle.num_bounds.specs.Bounds.{IsRange};
-ghost use Rattle.num_bounds.specs.Operations.{between, cut_of, word, word_if, hull_of, corners, sums, differences, negations, products, part_quotients, either_hull, quotients, below_zero, above_zero, magnitude, least_remainder, greatest_remainder, remainders};
+ghost use Rattle.num_bounds.specs.Operations.{range_between, cut_of, word, word_if, hull_of, corners, sums, differences, negations, products, part_quotients, either_hull, quotients, below_zero, above_zero, magnitude, least_remainder, greatest_remainder, remainders};
 ghost use Rattle.num_bounds.specs.Meaning.{CoversResults, CoversNegations, CoversQuotients, CoversRemainders, IsAllTaken, IsAllNegated, AreEndsTaken, HasNoZero, IsMeet, IsJoin, AreLattice};
 
 use crate::wide::Wide;
@@ -31,7 +31,7 @@ impl Model for Range {
 impl Range {
     /// The range from `lo` to `hi`, or `None` where it would be empty.
     pub fn new(lo: i64, hi: i64) -> Option<Range>
-        ensures exact { result ≡ between lo hi }
+        ensures exact { result ≡ range_between lo hi }
         ensures range { IfSome result IsRange }
     {
         if lo <= hi {

@@ -8,8 +8,8 @@ use Rattle.batch_meaning.specs.Values.{Value, State, Over}
 use Rattle.batch_meaning.specs.Answers.{Answer, Refuses, Answers}
 use Rattle.imp_edit.specs.Refusals.{edit_refusal}
 use Rattle.imp_edit.specs.declared.error.EditError.{EditError}
-use Rattle.session_machine.specs.Machine.{Machine, Ticket, ticket_of}
-use Rattle.session_machine.specs.Turns.{answer_at, missing_at, redone, undone}
+use Rattle.daig_machine.specs.Machine.{Machine, Ticket, ticket_of}
+use Rattle.daig_machine.specs.Turns.{answer_at, missing_at, redone, undone}
 use Rattle.request_json.specs.declared.error.ReadError.{ReadError}
 use Rattle.request_json.specs.declared.request.Query.{Query}
 use Rattle.request_json.specs.declared.request.Request.{Request}
@@ -19,21 +19,21 @@ use Rattle.request_json.specs.declared.reply.Reply.TheVariants as r
 use Rattle.request_json.specs.declared.reply.Refusal.{Refusal}
 use Rattle.request_json.specs.declared.reply.Refusal.TheVariants as refusal
 use Rattle.request_json.specs.Requests.{request_of}
-use Rattle.line_answers.specs.Readings.{Readings}
-use Rattle.line_answers.specs.Edits.{replace_of, insert_of, delete_of, guard_of, declare_of, add_of, drop_of}
-use Rattle.line_answers.specs.Turns.{Turn, goes, told, cancel_by, move_turn, state_by, why_by, ask_by, step_by, step_of, edit_by, edit_turn}
-use Rattle.line_answers.specs.Lines.{request_turn, read_turn}
+use Rattle.serve_answers.specs.Readings.{Readings}
+use Rattle.serve_answers.specs.Edits.{replace_of, insert_of, delete_of, guard_of, declare_of, add_of, drop_of}
+use Rattle.serve_answers.specs.Turns.{Outcome, goes, state_reply, cancel_by, move_turn, state_by, why_by, ask_by, step_by, step_of, edit_by, edit_turn}
+use Rattle.serve_answers.specs.Lines.{request_turn, read_turn}
 use Rattle.reply_lines.specs.Refused.{ClosesTicket, RefusalsKeep}
 
 module _ {S : Type 0} (dom : Operations S) (m : Machine) (line : List ℕ) where
-  abbrev Keeps : Turn → Type 0
+  abbrev Keeps : Outcome → Type 0
   Keeps turn = (why : Refusal) → turn.reply ≡ r.Refused why → (turn.machine ≡ m) ⊎ ((why ≡ refusal.Gone) × ClosesTicket dom m turn.machine line)
 
   -- where the machine stays, and where the reply is no refusal
   stays : (reply : Reply) → Keeps (goes reply m)
   stays reply = λ why is. inl refl
 
-  told_accepts : (l : Location) (v : Value S) (there : Machine) → Keeps (goes (told dom l v m) there)
+  told_accepts : (l : Location) (v : Value S) (there : Machine) → Keeps (goes (state_reply dom l v m) there)
   told_accepts l (State s) there = λ why is. absurd cc
   told_accepts l (Over n z) there = λ why is. absurd cc
 
@@ -57,7 +57,7 @@ module _ {S : Type 0} (dom : Operations S) (m : Machine) (line : List ℕ) where
   ask_keeps query (Refuses w) = stays (r.Refused (refusal.Query w))
   ask_keeps query (Answers v) = λ why is. absurd cc
 
-  either_keeps : (b : Bool) (one other : Turn) → Keeps one → Keeps other → Keeps (if b then one else other)
+  either_keeps : (b : Bool) (one other : Outcome) → Keeps one → Keeps other → Keeps (if b then one else other)
   either_keeps true one other first second = first
   either_keeps false one other first second = second
 

@@ -4,13 +4,13 @@ use Rattle.std.proofs.Math.Seq.{take-append_seam}
 use Rattle.std.specs.Prelude.{◌==◌, not}
 use Rattle.std.proofs.lemmas.Bool.{and_parts, eqb-true}
 use Rattle.domain_laws.specs.Operations.{Operations}
-use Rattle.script_loop.specs.Lines.{kept, last_part, whole_lines}
-use Rattle.script_loop.specs.Replies.{after, next_to, replies, reply_to}
-use Rattle.script_loop.proofs.LineLemmas.{last_part-append, replies-append, whole_lines-append}
+use Rattle.serve_script.specs.Lines.{kept, last_part, whole_lines}
+use Rattle.serve_script.specs.Replies.{machine_after, next_to, replies, reply_to}
+use Rattle.serve_script.proofs.LineLemmas.{last_part-append, replies-append, whole_lines-append}
 use Rattle.request_json.specs.declared.reply.Refusal.TheVariants as refusal
 use Rattle.request_json.specs.declared.reply.Reply.TheVariants as r
-use Rattle.line_replies.specs.Texts.{long_reply}
-use Rattle.line_answers.specs.Lines.{Served, line_turn, server}
+use Rattle.serve_replies.specs.Texts.{long_reply}
+use Rattle.serve_answers.specs.Lines.{Served, line_turn, server}
 use Rattle.reply_lines.specs.OneLine.{has_no_end, IsOneLine}
 use Rattle.reply_lines.specs.Replied.{AreLines, OneForEach, RepliesAreTold}
 use Rattle.reply_lines.proofs.OneLine.{replies_are_lines}
@@ -98,6 +98,6 @@ same_lines xs ys us vs n first second same =
 
 pub replies_are_told : {S T : Type 0} (one : Operations S) (other : Operations T) → RepliesAreTold one other
 replies_are_told one other s t lines more same =
-    same_lines (replies (server one) s lines) (replies (server other) t lines) (replies (server one) (after (server one) s lines) more) (replies (server other) (after (server other) t lines) more)
+    same_lines (replies (server one) s lines) (replies (server other) t lines) (replies (server one) (machine_after (server one) s lines) more) (replies (server other) (machine_after (server other) t lines) more)
     (length lines) (one_for_each one s lines) (one_for_each other t lines)
     (sym (replies-append (server one) s lines more) ∙ same ∙ replies-append (server other) t lines more)

@@ -1,17 +1,17 @@
 -- What a refusal leaves of the machine.
 use Rattle.std.specs.Prelude.{◌≡◌, ◌⊎◌, ℕ, List, Some, Ok}
-use Rattle.analysis_words.specs.declared.refusal.Refusal as words
+use Rattle.imp_words.specs.declared.refusal.QueryRefusal as words
 use Rattle.domain_laws.specs.Operations.{Operations}
 use Rattle.batch_meaning.specs.Answers.{Refuses}
-use Rattle.session_machine.specs.Machine.{Machine, Ticket, ticket_of}
-use Rattle.session_machine.specs.Turns.{answer_at, closed}
+use Rattle.daig_machine.specs.Machine.{Machine, Ticket, ticket_of}
+use Rattle.daig_machine.specs.Turns.{answer_at, after_close}
 use Rattle.request_json.specs.declared.request.Request.TheVariants as q
 use Rattle.request_json.specs.declared.reply.Reply.TheVariants as r
 use Rattle.request_json.specs.declared.reply.Refusal.{Refusal}
 use Rattle.request_json.specs.declared.reply.Refusal.TheVariants as refusal
 use Rattle.request_json.specs.Requests.{request_of}
-use Rattle.line_answers.specs.Readings.{Readings}
-use Rattle.line_answers.specs.Lines.{line_turn}
+use Rattle.serve_answers.specs.Readings.{Readings}
+use Rattle.serve_answers.specs.Lines.{line_turn}
 
 -- The line is a step of an open ticket whose question the present program refuses: that ticket is closed, and nothing else is
 -- changed.
@@ -19,11 +19,11 @@ pub record ClosesTicket {S : Type 0} (dom : Operations S) (m next : Machine) (li
   pub ticket : ℕ
   pub steps : ℕ
   pub asked : Ticket
-  pub cause : words.Refusal
+  pub cause : words.QueryRefusal
   pub reads : request_of line ≡ Ok (q.Step ticket steps)
   pub open_one : ticket_of ticket m.tickets ≡ Some asked
   pub refuses : answer_at dom asked.at asked.string m ≡ Refuses cause
-  pub closes : next ≡ closed asked.number m
+  pub closes : next ≡ after_close asked.number m
 
 -- A line that is refused leaves the machine as it is, or closes such a ticket.
 abbrev pub RefusalsKeep : {S : Type 0} → Operations S → Type 0

@@ -1,9 +1,9 @@
 -- As many lines as were answered.
 use Rattle.std.specs.Prelude.{◌≡◌, ◌++◌, ℕ, List, [], length}
 use Rattle.domain_laws.specs.Operations.{Operations}
-use Rattle.script_loop.specs.Lines.{last_part, whole_lines}
-use Rattle.script_loop.specs.Replies.{replies}
-use Rattle.line_answers.specs.Lines.{Served, server}
+use Rattle.serve_script.specs.Lines.{last_part, whole_lines}
+use Rattle.serve_script.specs.Replies.{replies}
+use Rattle.serve_answers.specs.Lines.{Served, server}
 
 -- The bytes are so many lines, each with its end.
 pub record AreLines (count : ℕ) (bytes : List ℕ) : Type 0 where

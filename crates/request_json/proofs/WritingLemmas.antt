@@ -6,10 +6,10 @@ use Rattle.serde_json.specs.Data.{Data, Members, no_members, member, object, str
 use Rattle.serde_json.specs.Written.{compact_text, members_text}
 use Rattle.serde_json.proofs.OnLiterals.{serde_json_on_literals}
 use Rattle.request_json.specs.declared.reply.Reply.TheVariants as r
-use Rattle.analysis_words.specs.declared.findings.Finding.{Finding}
-use Rattle.analysis_words.specs.declared.fault.FaultKind.{FaultKind}
-use Rattle.analysis_words.specs.declared.run_end.RunEnd.{RunEnd}
-use Rattle.analysis_words.specs.declared.run_end.RunEnd.TheVariants as end
+use Rattle.imp_words.specs.declared.findings.Finding.{Finding}
+use Rattle.imp_words.specs.declared.fault.FaultKind.{FaultKind}
+use Rattle.imp_words.specs.declared.run_end.RunEnd.{RunEnd}
+use Rattle.imp_words.specs.declared.run_end.RunEnd.TheVariants as end
 use Rattle.request_json.specs.declared.reply.Refusal.{Refusal}
 use Rattle.request_json.specs.declared.reply.Refusal.TheVariants as refusal
 use Rattle.request_json.specs.declared.reply.ProgramFault.{ProgramFault}

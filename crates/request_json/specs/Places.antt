@@ -4,8 +4,8 @@ use Rattle.std.specs.Str.{bytes_eq}
 use Rattle.std.specs.List.{list_all}
 use Rattle.imp_lex.specs.Front.{is_digit}
 use Rattle.imp_lex.specs.Numbers.{value_on}
-use Rattle.imp_syntax.specs.declared.words.Kind.{Kind}
-use Rattle.imp_syntax.specs.declared.words.Kind.TheVariants as kind
+use Rattle.imp_syntax.specs.declared.words.VariableKind.{VariableKind}
+use Rattle.imp_syntax.specs.declared.words.VariableKind.TheVariants as kind
 use Rattle.imp_syntax.specs.declared.edit.Location.{Location}
 use Rattle.imp_syntax.specs.declared.edit.Location.TheVariants as location
 use Rattle.imp_syntax.specs.declared.edit.Place.{Place}
@@ -57,7 +57,7 @@ place_of text =
     (option_map place.ProcStart (name_behind (codes "start ") text)))))
 
 -- `int`, `array`, `list`
-unfoldable pub kind_of : List ℕ → Option Kind
+unfoldable pub kind_of : List ℕ → Option VariableKind
 kind_of text =
     if bytes_eq text (codes "int") then Some kind.Int
     else (if bytes_eq text (codes "array") then Some kind.Array

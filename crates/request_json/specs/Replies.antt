@@ -4,17 +4,17 @@ use Rattle.serde_json.specs.Data.{Data, Items, no_items, item, Members, no_membe
 use Rattle.serde_json.specs.Written.{compact_text}
 use Rattle.request_json.specs.declared.reply.Reply.{Reply}
 use Rattle.request_json.specs.declared.reply.Reply.TheVariants as r
-use Rattle.analysis_words.specs.declared.findings.Finding.{Finding}
-use Rattle.analysis_words.specs.declared.findings.Check.{Check}
-use Rattle.analysis_words.specs.declared.findings.Check.TheVariants as check
-use Rattle.analysis_words.specs.declared.verdict.Verdict.{Verdict}
-use Rattle.analysis_words.specs.declared.verdict.Verdict.TheVariants as verdict
-use Rattle.analysis_words.specs.declared.fault.FaultKind.{FaultKind}
-use Rattle.analysis_words.specs.declared.fault.FaultKind.TheVariants as fault
-use Rattle.analysis_words.specs.declared.run_end.RunEnd.{RunEnd}
-use Rattle.analysis_words.specs.declared.run_end.RunEnd.TheVariants as end
-use Rattle.analysis_words.specs.declared.refusal.Refusal as why
-use Rattle.analysis_words.specs.declared.refusal.Refusal.TheVariants as query
+use Rattle.imp_words.specs.declared.findings.Finding.{Finding}
+use Rattle.imp_words.specs.declared.findings.Check.{Check}
+use Rattle.imp_words.specs.declared.findings.Check.TheVariants as check
+use Rattle.imp_words.specs.declared.verdict.Verdict.{Verdict}
+use Rattle.imp_words.specs.declared.verdict.Verdict.TheVariants as verdict
+use Rattle.imp_words.specs.declared.fault.FaultKind.{FaultKind}
+use Rattle.imp_words.specs.declared.fault.FaultKind.TheVariants as fault
+use Rattle.imp_words.specs.declared.run_end.RunEnd.{RunEnd}
+use Rattle.imp_words.specs.declared.run_end.RunEnd.TheVariants as end
+use Rattle.imp_words.specs.declared.refusal.QueryRefusal as why
+use Rattle.imp_words.specs.declared.refusal.QueryRefusal.TheVariants as query
 use Rattle.request_json.specs.declared.reply.Refusal.{Refusal}
 use Rattle.request_json.specs.declared.reply.Refusal.TheVariants as refusal
 use Rattle.request_json.specs.declared.reply.ProgramFault.{ProgramFault}
@@ -83,7 +83,7 @@ reached_fields None = []
 reached_fields (Some n) = (codes "reached", count n) ∷ []
 
 -- the number of why a query has no answer
-abbrev pub query_number : why.Refusal → ℕ
+abbrev pub query_number : why.QueryRefusal → ℕ
 query_number query.NoStatement = 4
 query_number query.NoProcedure = 5
 query_number query.WrongStatement = 6

@@ -1,7 +1,7 @@
 -- The request of a line.
 use Rattle.std.specs.Prelude.{ℕ, nat_le, List, length, Option, Some, None, option_and_then, option_map, Result, Ok, Err, codes, if◌then◌else◌}
 use Rattle.imp_lex.specs.Names.{is_name}
-use Rattle.imp_syntax.specs.declared.words.Kind.{Kind}
+use Rattle.imp_syntax.specs.declared.words.VariableKind.{VariableKind}
 use Rattle.imp_syntax.specs.declared.edit.Location.{Location}
 use Rattle.imp_syntax.specs.declared.edit.Place.{Place}
 use Rattle.serde_json.specs.Data.{Data}
@@ -29,7 +29,7 @@ location_if_there (Some value) = option_map Some (option_and_then location_of (a
 abbrev pub place_at : Data → Option Place
 place_at request = option_and_then place_of (text_at (codes "place") request)
 
-abbrev pub kind_at : Data → Option Kind
+abbrev pub kind_at : Data → Option VariableKind
 kind_at request = option_and_then kind_of (text_at (codes "kind") request)
 
 abbrev pub if_name : List ℕ → Option (List ℕ)
@@ -57,13 +57,13 @@ or_bad None = Err e.BadMember
 or_bad (Some request) = Ok request
 
 -- a query whose call string is not too long
-abbrev pub allowed : Option Query → Result Query ReadError
-allowed None = Err e.BadMember
-allowed (Some query) = if nat_le (length query.string) 2 then Ok query else Err e.LongString
+abbrev pub bounded_query : Option Query → Result Query ReadError
+bounded_query None = Err e.BadMember
+bounded_query (Some query) = if nat_le (length query.string) 2 then Ok query else Err e.LongString
 
-abbrev pub asked : (Query → Request) → Result Query ReadError → Result Request ReadError
-asked f (Err error) = Err error
-asked f (Ok query) = Ok (f query)
+abbrev pub query_request : (Query → Request) → Result Query ReadError → Result Request ReadError
+query_request f (Err error) = Err error
+query_request f (Ok query) = Ok (f query)
 
 abbrev pub run_at : Data → Option Request
 run_at request =
@@ -99,7 +99,7 @@ cancel_at request = option_map r.Cancel (number_at greatest_ticket (codes "ticke
 
 -- the request that a verb asks of the members
 unfoldable pub verb_request : Verb → Data → Result Request ReadError
-verb_request v.State request = asked r.State (allowed (query_at request))
+verb_request v.State request = query_request r.State (bounded_query (query_at request))
 verb_request v.Report request = Ok r.Report
 verb_request v.Cost request = Ok r.Cost
 verb_request v.Program request = Ok r.Program
@@ -112,10 +112,10 @@ verb_request v.Guard request = or_bad (guard_at request)
 verb_request v.Declare request = or_bad (declare_at request)
 verb_request v.Add request = or_bad (add_at request)
 verb_request v.Drop request = or_bad (drop_at request)
-verb_request v.Why request = asked r.Why (allowed (query_at request))
+verb_request v.Why request = query_request r.Why (bounded_query (query_at request))
 verb_request v.Undo request = Ok r.Undo
 verb_request v.Redo request = Ok r.Redo
-verb_request v.Ask request = asked r.Ask (allowed (query_at request))
+verb_request v.Ask request = query_request r.Ask (bounded_query (query_at request))
 verb_request v.Step request = or_bad (step_at request)
 verb_request v.Cancel request = or_bad (cancel_at request)
 

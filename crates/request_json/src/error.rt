@@ -1,7 +1,7 @@
 //! Why a line is no request.
 ghost use Rattle.std.specs.Prelude.{◌≡◌};
 
-use plain_values::Memory;
+use base_values::Memory;
 use thiserror::Error;
 
 /// Why a line is no request: the first of these in this order, but for want of memory.

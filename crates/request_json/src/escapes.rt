@@ -4,8 +4,8 @@ ghost use Rattle.std.specs.Prelude.{◌≡◌, ◌<◌, ◌/◌, ◌%◌, [], �
 ghost use Rattle.std.specs.Char.{digit_char};
 ghost use Rattle.json.specs.Print.{escape_byte, escape, quoted};
 
+use base_values::Memory;
 use itoa::Buffer;
-use plain_values::Memory;
 
 /// Adds a number in decimal. It fails for want of memory alone.
 pub fn put_number(line: &mut Vec<u8>, number: u64) -> Result<(), Memory>

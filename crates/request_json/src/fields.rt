@@ -9,9 +9,9 @@ ghost use Rattle.request_json.specs.Requests.{location_at, location_if_there, pl
 
 use crate::places::{kind_of, location_of, place_of};
 use crate::request::Query;
+use base_values::{Items, Memory, Text};
 use imp_lex::is_name;
-use imp_syntax::{Chain, Kind, Location, Place, StmtId};
-use plain_values::{Items, Memory, Text};
+use imp_syntax::{Chain, Location, Place, StmtId, VariableKind};
 use serde_json::Value;
 use std::alloc::Global;
 
@@ -124,7 +124,7 @@ pub(crate) fn place_at(alloc: Global, request: &Value) -> Result<Option<Place>, 
 }
 
 /// The kind.
-pub(crate) fn kind_at(request: &Value) -> Option<Kind>
+pub(crate) fn kind_at(request: &Value) -> Option<VariableKind>
     ensures kind { result ≡ kind_at (view request.now) }
 {
     match text_at(request, "kind") {

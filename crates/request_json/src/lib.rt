@@ -9,7 +9,7 @@
 //! [`reply_line`] gives the line of a reply: compact JSON with its keys in order, and LF. `reply_text`
 //! of `specs/Replies.antt` is the definition: the text that `serde_json`'s data have, an object of the
 //! reply's keys and values. Refusals are replies too; they are numbered from 1. What is found of checks,
-//! how runs end, and why a query has no answer come in the words of `analysis_words`.
+//! how runs end, and why a query has no answer come in the words of `imp_words`.
 //!
 //! What is read of members and written of values serves other lines too: [`json_of`], [`text_at`], [`number_at`],
 //! [`ids_at`]; [`put_number`], [`put_quoted`], [`put_ids`].

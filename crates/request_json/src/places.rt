@@ -4,8 +4,8 @@ ghost use Rattle.std.specs.Option.{option_copied};
 ghost use Rattle.request_json.specs.Places.{behind, some_text, statement_behind, name_behind, location_of, place_of, kind_of};
 
 use crate::numbers::number_of;
-use imp_syntax::{Kind, Location, Place, StmtId};
-use plain_values::{Memory, Text};
+use base_values::{Memory, Text};
+use imp_syntax::{Location, Place, StmtId, VariableKind};
 use std::alloc::Global;
 
 /// The statement whose number stands behind the words.
@@ -77,13 +77,13 @@ pub(crate) fn place_of(alloc: Global, text: &[u8]) -> Result<Option<Place>, Memo
 
 /// The kind of a text.
 #[tactic(auto, unfolding(crate::specs::Places::kind_of))]
-pub(crate) fn kind_of(text: &str) -> Option<Kind>
+pub(crate) fn kind_of(text: &str) -> Option<VariableKind>
     ensures kind { result ≡ kind_of text.now }
 {
     match text {
-        "int" => Some(Kind::Int),
-        "array" => Some(Kind::Array),
-        "list" => Some(Kind::List),
+        "int" => Some(VariableKind::Int),
+        "array" => Some(VariableKind::Array),
+        "list" => Some(VariableKind::List),
         _ => None,
     }
 }

@@ -1,7 +1,7 @@
 //! From a line to its request, or the first of its faults: the clauses of [`read_request`].
 ghost use Rattle.std.specs.Prelude.{◌≡◌, None, Some, IfOk, IfErr, codes, option_map};
 ghost use Rattle.serde_json.specs.View.{view};
-ghost use Rattle.request_json.specs.Requests.{verb_request, request_of, called_request, allowed, or_bad, query_at, run_at, replace_at, insert_at, delete_at, guard_at, declare_at, add_at, drop_at, step_at, cancel_at};
+ghost use Rattle.request_json.specs.Requests.{verb_request, request_of, called_request, bounded_query, or_bad, query_at, run_at, replace_at, insert_at, delete_at, guard_at, declare_at, add_at, drop_at, step_at, cancel_at};
 ghost use Rattle.request_json.specs.Members.{json_of, text_at};
 
 use crate::error::ReadError;
@@ -11,13 +11,13 @@ use crate::fields::{
 };
 use crate::names::{Verb, verb_of};
 use crate::request::{Query, Request};
-use plain_values::Memory;
+use base_values::Memory;
 use serde_json::Value;
 use std::alloc::Global;
 
 /// The query, where its call string is not too long.
 fn allowed(query: Option<Query>) -> Result<Query, ReadError>
-    ensures query { result ≡ allowed query }
+    ensures query { result ≡ bounded_query query }
 {
     let Some(query) = query else {
         return Err(ReadError::BadMember);
@@ -49,8 +49,8 @@ fn found(request: Result<Option<Request>, Memory>) -> Result<Request, ReadError>
 
 /// The query, where its call string is not too long.
 fn query_of(alloc: Global, request: &Value) -> Result<Query, ReadError>
-    ensures query { IfOk result (λ query. allowed (query_at (view request.now)) ≡ Ok query) }
-    ensures refused { IfErr result (λ error. (error ≡ ReadError.Memory → ⊥) → allowed (query_at (view request.now)) ≡ Err error) }
+    ensures query { IfOk result (λ query. bounded_query (query_at (view request.now)) ≡ Ok query) }
+    ensures refused { IfErr result (λ error. (error ≡ ReadError.Memory → ⊥) → bounded_query (query_at (view request.now)) ≡ Err error) }
 {
     allowed(query_at(alloc, request)?)
 }

@@ -1,7 +1,7 @@
 //! What lines are answered: the values that [`reply_line`](crate::reply_line) writes.
-use analysis_words::{Findings, Refusal as QueryRefusal, RunEnd};
+use base_values::{Items, Text};
 use imp_syntax::{Chain, StmtId};
-use plain_values::{Items, Text};
+use imp_words::{Findings, QueryRefusal as QueryRefusal, RunEnd};
 
 /// What a line is answered.
 #[derive(Debug, Drop)]

@@ -1,6 +1,6 @@
 //! What lines ask: the values that [`read_request`](crate::read_request) gives.
-use imp_syntax::{Chain, Kind, Location, Place, StmtId};
-use plain_values::{Items, Text};
+use base_values::{Items, Text};
+use imp_syntax::{Chain, Location, Place, StmtId, VariableKind};
 
 /// What a line asks.
 #[derive(Debug, Drop)]
@@ -57,7 +57,7 @@ pub enum Request {
         /// Its name, one of the language.
         name: Text,
         /// Its kind.
-        kind: Kind,
+        kind: VariableKind,
     },
     /// A new procedure.
     Add {

@@ -7,9 +7,9 @@ ghost use Rattle.request_json.specs.Pieces.{fields_text};
 
 use crate::escapes::{put_number, put_quoted};
 use crate::reply::{ProgramFault, Refusal, Reply};
-use analysis_words::{Check, FaultKind, Finding, Refusal as QueryRefusal, RunEnd, Verdict};
+use base_values::Memory;
 use imp_syntax::{Chain, StmtId};
-use plain_values::Memory;
+use imp_words::{Check, FaultKind, Finding, QueryRefusal as QueryRefusal, RunEnd, Verdict};
 use std::alloc::Global;
 
 /// The word of a check.

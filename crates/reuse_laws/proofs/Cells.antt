@@ -9,20 +9,20 @@ use Rattle.imp_slots.specs.Fits.{IsChecked}
 use Rattle.imp_check.specs.Slots.{routines_of}
 use Rattle.domain_laws.specs.Operations.{Operations}
 use Rattle.batch_meaning.specs.Answers.{Answer, Refuses, Answers, Found, In, Misses, procedure_of}
-use Rattle.batch_meaning.specs.Batch.{Engine}
+use Rattle.batch_meaning.specs.Batch.{LoopOptions}
 use Rattle.cell_names.specs.Paths.{CellName}
 use Rattle.cell_rows.specs.Targets.{Target, targets}
-use Rattle.kept_set.specs.Touched as touched
+use Rattle.cell_kept_set.specs.Touched as touched
 use Rattle.imp_edit.specs.Edited.{edited, next_after}
 use Rattle.imp_edit.specs.Refusals.{edit_refusal}
 use Rattle.imp_edit.specs.declared.error.EditError.{EditError}
-use Rattle.script_loop.specs.Lines.{kept}
-use Rattle.script_loop.specs.Replies.{after, next_to}
-use Rattle.session_machine.specs.Claims.{AreKept, KeepsCells}
-use Rattle.session_machine.specs.Machine.{Machine, Ticket, ticket_of}
-use Rattle.session_machine.specs.Turns.{answer_at, back_to, missing, missing_at, missing_for_report, moved, on_to, or_none, targets_in}
-use Rattle.session_machine.proofs.Asking.{question_keeps, report_keeps}
-use Rattle.session_machine.proofs.Moving.{move_keeps}
+use Rattle.serve_script.specs.Lines.{kept}
+use Rattle.serve_script.specs.Replies.{machine_after, next_to}
+use Rattle.daig_machine.specs.Claims.{AreKept, KeepsCells}
+use Rattle.daig_machine.specs.Machine.{Machine, Ticket, ticket_of}
+use Rattle.daig_machine.specs.Turns.{answer_at, back_to, missing_names, missing_at, missing_for_report, with_program, on_to, or_none, targets_in}
+use Rattle.daig_machine.proofs.Asking.{question_keeps, report_keeps}
+use Rattle.daig_machine.proofs.Moving.{move_keeps}
 use Rattle.request_json.specs.declared.error.ReadError.{ReadError}
 use Rattle.request_json.specs.declared.request.Query.{Query}
 use Rattle.request_json.specs.declared.request.Request.{Request}
@@ -30,13 +30,13 @@ use Rattle.request_json.specs.declared.request.Request.TheVariants as q
 use Rattle.request_json.specs.declared.reply.Refusal.{Refusal}
 use Rattle.request_json.specs.declared.reply.Refusal.TheVariants as refusal
 use Rattle.request_json.specs.Requests.{request_of}
-use Rattle.line_answers.specs.Readings.{Readings}
-use Rattle.line_answers.specs.Edits.{replace_of, insert_of, delete_of, guard_of, declare_of, add_of, drop_of}
-use Rattle.line_answers.specs.Turns.{Turn, cancel_by, move_turn, state_by, why_by, ask_by, step_by, step_of, edit_by, edit_turn}
-use Rattle.line_answers.specs.Lines.{Served, request_turn, read_turn, server}
-use Rattle.line_answers.specs.Fine.{HasFinePrograms, IsProgramOf, opening}
-use Rattle.line_answers.proofs.FineTurns.{lines_fine}
-use Rattle.line_answers.proofs.Sources.{sources_fine}
+use Rattle.serve_answers.specs.Readings.{Readings}
+use Rattle.serve_answers.specs.Edits.{replace_of, insert_of, delete_of, guard_of, declare_of, add_of, drop_of}
+use Rattle.serve_answers.specs.Turns.{Outcome, cancel_by, move_turn, state_by, why_by, ask_by, step_by, step_of, edit_by, edit_turn}
+use Rattle.serve_answers.specs.Lines.{Served, request_turn, read_turn, server}
+use Rattle.serve_answers.specs.Fine.{HasFinePrograms, IsProgramOf, opening}
+use Rattle.serve_answers.proofs.FineTurns.{lines_fine}
+use Rattle.serve_answers.proofs.Sources.{sources_fine}
 use Rattle.reuse_laws.proofs.Named.{inputs_named}
 
 -- The programs have no fault, and the kept names are cells of the present one.
@@ -55,11 +55,11 @@ module _ {S : Type 0} (dom : Operations S) (m : Machine) (has : HasCells dom m) 
   no_gain : (n : ℕ) → Gains (take n [])
   no_gain n = subst (AreKept dom m.engine (routines_of m.program)) (sym (ap (λ (xs : List CellName). m.kept ++ xs) (take-nil n) ∙ append-nil m.kept)) has.cells
 
-  gains_targets : (l : Location) (string : List ℕ) (p n : ℕ) (ts : Option (List Target)) → targets (routines_of m.program) p l string ≡ ts → Gains (take n (missing dom (or_none ts) m))
+  gains_targets : (l : Location) (string : List ℕ) (p n : ℕ) (ts : Option (List Target)) → targets (routines_of m.program) p l string ≡ ts → Gains (take n (missing_names dom (or_none ts) m))
   gains_targets l string p n None is = no_gain n
   gains_targets l string p n (Some ts) is = question_keeps dom m.engine (routines_of m.program) checked m.kept has.cells (inputs_named dom) l string p ts is n
 
-  gains_found : (l : Location) (string : List ℕ) (n : ℕ) (found : Found) → Gains (take n (missing dom (targets_in m l string found) m))
+  gains_found : (l : Location) (string : List ℕ) (n : ℕ) (found : Found) → Gains (take n (missing_names dom (targets_in m l string found) m))
   gains_found l string n (Misses why) = no_gain n
   gains_found l string n (In p) = gains_targets l string p n (targets (routines_of m.program) p l string) refl
 
@@ -76,13 +76,13 @@ module _ {S : Type 0} (dom : Operations S) (m : Machine) (has : HasCells dom m) 
 
   -- ---- turns
 
-  abbrev Leaves : Turn → Type 0
+  abbrev Leaves : Outcome → Type 0
   Leaves turn = KeepsCells dom turn.machine
 
-  abbrev LeavesFine : Turn → Type 0
+  abbrev LeavesFine : Outcome → Type 0
   LeavesFine turn = HasFinePrograms turn.machine
 
-  either_cells : (b : Bool) (one other : Turn) → Leaves one → Leaves other → Leaves (if b then one else other)
+  either_cells : (b : Bool) (one other : Outcome) → Leaves one → Leaves other → Leaves (if b then one else other)
   either_cells true one other first second = first
   either_cells false one other first second = second
 
@@ -111,7 +111,7 @@ module _ {S : Type 0} (dom : Operations S) (m : Machine) (has : HasCells dom m) 
   step_cells n (Some t) = step_by_cells t n (answer_at dom t.at t.string m)
 
   -- another program, which is checked
-  moved_cells : (program : List Procedure) (past future : List (List Procedure)) (next : ℕ) → IsChecked (routines_of program) → KeepsCells dom (moved dom program past future next m)
+  moved_cells : (program : List Procedure) (past future : List (List Procedure)) (next : ℕ) → IsChecked (routines_of program) → KeepsCells dom (with_program dom program past future next m)
   moved_cells program past future next fits =
       let edit : touched.Edit = record { engine = m.engine; old = routines_of m.program; new = routines_of program } in
       move_keeps dom edit checked fits m.kept has.cells
@@ -168,12 +168,12 @@ kept_cells dom s (Some line) has =
     let fine = lines_fine dom s.readings s.machine line has.fine in
     record { fine = fine; cells = read_cells dom s.machine has s.readings (request_of line) fine }
 
-pub after_cells : {S : Type 0} (dom : Operations S) (s : Served) (lines : List (List ℕ)) → HasCells dom s.machine → HasCells dom (after (server dom) s lines).machine
+pub after_cells : {S : Type 0} (dom : Operations S) (s : Served) (lines : List (List ℕ)) → HasCells dom s.machine → HasCells dom (machine_after (server dom) s lines).machine
 after_cells dom s [] has = has
 after_cells dom s (line ∷ lines) has = after_cells dom (next_to (server dom) s (kept line)) lines (kept_cells dom s (kept line) has)
 
 -- at first no name is kept
-pub opening_cells : {S : Type 0} (dom : Operations S) (readings : Readings) (engine : Engine) (source : List ℕ) (program : List Procedure) → IsProgramOf readings source program →
+pub opening_cells : {S : Type 0} (dom : Operations S) (readings : Readings) (engine : LoopOptions) (source : List ℕ) (program : List Procedure) → IsProgramOf readings source program →
     HasCells dom (opening readings engine program).machine
 opening_cells dom readings engine source program is = record {
   fine = sources_fine readings engine source program is;

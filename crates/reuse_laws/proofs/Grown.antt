@@ -5,22 +5,22 @@ use Rattle.std.proofs.lemmas.List.Elements.{All-head, All-tail}
 use Rattle.domain_laws.specs.Operations.{Operations}
 use Rattle.batch_meaning.specs.Answers.{Answer, Refuses, Answers}
 use Rattle.cell_names.specs.Paths.{CellName}
-use Rattle.demand_order.specs.Order.{member}
-use Rattle.demand_order.proofs.OrderLemmas.{member-append}
-use Rattle.named_cells.specs.Same.{same_name}
-use Rattle.script_loop.specs.Lines.{kept}
-use Rattle.script_loop.specs.Replies.{after, next_to}
-use Rattle.session_machine.specs.Machine.{Machine, Ticket, keeping, ticket_of, ticketed}
-use Rattle.session_machine.specs.Turns.{answer_at, missing_at}
+use Rattle.daig_order.specs.Order.{member}
+use Rattle.daig_order.proofs.OrderLemmas.{member-append}
+use Rattle.cell_graph.specs.Same.{same_name}
+use Rattle.serve_script.specs.Lines.{kept}
+use Rattle.serve_script.specs.Replies.{machine_after, next_to}
+use Rattle.daig_machine.specs.Machine.{Machine, Ticket, keeping, ticket_of, with_tickets}
+use Rattle.daig_machine.specs.Turns.{answer_at, missing_at}
 use Rattle.request_json.specs.declared.error.ReadError.{ReadError}
 use Rattle.request_json.specs.declared.request.Query.{Query}
 use Rattle.request_json.specs.declared.request.Request.{Request}
 use Rattle.request_json.specs.declared.request.Request.TheVariants as q
 use Rattle.request_json.specs.Requests.{request_of}
-use Rattle.line_answers.specs.Readings.{Readings}
-use Rattle.line_answers.specs.Turns.{Turn, cancel_by, state_by, why_by, ask_by, step_by, step_of}
-use Rattle.line_answers.specs.Lines.{Served, request_turn, read_turn, server}
-use Rattle.line_answers.specs.Histories.{AreQuiet, IsQuiet, IsQuietKept, IsQuietRead}
+use Rattle.serve_answers.specs.Readings.{Readings}
+use Rattle.serve_answers.specs.Turns.{Outcome, cancel_by, state_by, why_by, ask_by, step_by, step_of}
+use Rattle.serve_answers.specs.Lines.{Served, request_turn, read_turn, server}
+use Rattle.serve_answers.specs.Histories.{AreQuiet, IsQuiet, IsQuietKept, IsQuietRead}
 use Rattle.reuse_laws.specs.Shorter.{KeepsMore}
 
 -- a name that is kept is kept beside others
@@ -31,20 +31,20 @@ more_itself : (m : Machine) → KeepsMore m m
 more_itself m = record { holds = record { program = refl; engine = refl }; more = λ x h. h }
 
 module _ {S : Type 0} (dom : Operations S) (m : Machine) where
-  abbrev GrowsIn : Turn → Type 0
+  abbrev GrowsIn : Outcome → Type 0
   GrowsIn turn = KeepsMore m turn.machine
 
   -- with other tickets, and with other names beside those that are kept
-  same_names : (tickets : List Ticket) (next_ticket : ℕ) → KeepsMore m (ticketed tickets next_ticket m)
+  same_names : (tickets : List Ticket) (next_ticket : ℕ) → KeepsMore m (with_tickets tickets next_ticket m)
   same_names tickets next_ticket = record { holds = record { program = refl; engine = refl }; more = λ x h. h }
 
   more_names : (xs : List CellName) (cost : ℕ) → KeepsMore m (keeping (m.kept ++ xs) cost m)
   more_names xs cost = record { holds = record { program = refl; engine = refl }; more = beside_others m.kept xs }
 
-  more_and_closed : (xs : List CellName) (cost : ℕ) (tickets : List Ticket) → KeepsMore m (ticketed tickets m.next_ticket (keeping (m.kept ++ xs) cost m))
+  more_and_closed : (xs : List CellName) (cost : ℕ) (tickets : List Ticket) → KeepsMore m (with_tickets tickets m.next_ticket (keeping (m.kept ++ xs) cost m))
   more_and_closed xs cost tickets = record { holds = record { program = refl; engine = refl }; more = beside_others m.kept xs }
 
-  either_grows : (b : Bool) (one other : Turn) → GrowsIn one → GrowsIn other → GrowsIn (if b then one else other)
+  either_grows : (b : Bool) (one other : Outcome) → GrowsIn one → GrowsIn other → GrowsIn (if b then one else other)
   either_grows true one other first second = first
   either_grows false one other first second = second
 
@@ -112,7 +112,7 @@ kept_more : {S : Type 0} (dom : Operations S) (s : Served) (read : Option (List 
 kept_more dom s None quiet = more_itself s.machine
 kept_more dom s (Some text) quiet = read_grows dom s.machine s.readings (request_of text) quiet
 
-pub quiet_more : {S : Type 0} (dom : Operations S) (s : Served) (lines : List (List ℕ)) → AreQuiet lines → KeepsMore s.machine (after (server dom) s lines).machine
+pub quiet_more : {S : Type 0} (dom : Operations S) (s : Served) (lines : List (List ℕ)) → AreQuiet lines → KeepsMore s.machine (machine_after (server dom) s lines).machine
 quiet_more dom s [] quiet = more_itself s.machine
 quiet_more dom s (line ∷ lines) quiet =
     let first = kept_more dom s (kept line) (All-head (λ (x : List ℕ). IsQuietKept (kept x)) line lines quiet) in

@@ -7,22 +7,22 @@ use Rattle.batch_meaning.specs.Values.{Value, State, Over}
 use Rattle.batch_meaning.specs.Answers.{Answer, Refuses, Answers}
 use Rattle.imp_syntax.specs.declared.edit.Location.{Location}
 use Rattle.cell_names.specs.Paths.{CellName}
-use Rattle.script_loop.specs.Lines.{kept}
-use Rattle.script_loop.specs.Replies.{after, next_to}
-use Rattle.session_machine.specs.Machine.{Machine, Ticket, ticket_of}
-use Rattle.session_machine.specs.Turns.{answer_at, ended, missing_at, stepped}
+use Rattle.serve_script.specs.Lines.{kept}
+use Rattle.serve_script.specs.Replies.{machine_after, next_to}
+use Rattle.daig_machine.specs.Machine.{Machine, Ticket, ticket_of}
+use Rattle.daig_machine.specs.Turns.{answer_at, after_last_step, missing_at, after_step}
 use Rattle.request_json.specs.declared.error.ReadError.{ReadError}
 use Rattle.request_json.specs.declared.request.Query.{Query}
 use Rattle.request_json.specs.declared.request.Request.{Request}
 use Rattle.request_json.specs.declared.request.Request.TheVariants as q
 use Rattle.request_json.specs.declared.reply.Reply.TheVariants as r
 use Rattle.request_json.specs.Requests.{request_of}
-use Rattle.line_answers.specs.Readings.{Readings}
-use Rattle.line_answers.specs.Turns.{Turn, goes, told, state_by, why_by, step_by, step_of}
-use Rattle.line_answers.specs.Lines.{Served, request_turn, read_turn, server}
-use Rattle.line_answers.specs.Fine.{opening}
-use Rattle.line_answers.specs.Histories.{Asks, AnswerAlike, IsKeptAs}
-use Rattle.line_answers.proofs.Histories.{same_alike}
+use Rattle.serve_answers.specs.Readings.{Readings}
+use Rattle.serve_answers.specs.Turns.{Outcome, goes, state_reply, state_by, why_by, step_by, step_of}
+use Rattle.serve_answers.specs.Lines.{Served, request_turn, read_turn, server}
+use Rattle.serve_answers.specs.Fine.{opening}
+use Rattle.serve_answers.specs.Histories.{Asks, AnswerAlike, IsKeptAs}
+use Rattle.serve_answers.proofs.Histories.{same_alike}
 use Rattle.reuse_laws.specs.Shorter as shorter
 use Rattle.reuse_laws.specs.Shorter.{IsNoLonger, IsQuestion, IsShorter, IsStepNoLonger, KeepsMore, MomentsShorten, NeverLonger}
 use Rattle.reuse_laws.proofs.Cells.{HasCells, after_cells, opening_cells}
@@ -31,7 +31,7 @@ use Rattle.reuse_laws.proofs.Shorter.{more_is_shorter}
 
 -- ---- what a turn fills
 
-abbrev gain : Machine → Turn → ℕ
+abbrev gain : Machine → Outcome → ℕ
 gain m turn = length turn.machine.kept - length m.kept
 
 gained : (ks xs : List CellName) → length (ks ++ xs) - length ks ≡ length xs
@@ -49,7 +49,7 @@ least_less n a b less = omega arith
 -- ---- a step of a ticket, where so many names are missing
 
 -- what it fills
-step_gain : (kept missing : List CellName) (n : ℕ) (b : Bool) (turn other : Turn) → nat_lt n (length missing) ≡ b → turn.machine.kept ≡ kept ++ take n missing → other.machine.kept ≡ kept ++ missing →
+step_gain : (kept missing : List CellName) (n : ℕ) (b : Bool) (turn other : Outcome) → nat_lt n (length missing) ≡ b → turn.machine.kept ≡ kept ++ take n missing → other.machine.kept ≡ kept ++ missing →
     length (if b then turn else other).machine.kept - length kept ≡ min n (length missing)
 step_gain kept missing n true turn other is one both =
     ap (λ (ks : List CellName). length ks - length kept) one ∙ gained kept (take n missing) ∙ length-take n missing
@@ -100,8 +100,8 @@ module _ {S : Type 0} (dom : Operations S) (m n : Machine) (less : IsShorter dom
   step_by_less t count (Answers v) =
       let few = missing_at dom t.at t.string n in
       let all = missing_at dom t.at t.string m in
-      let first = step_gain n.kept few count (nat_lt count (length few)) (goes (r.Pending count) (stepped dom t count n)) (goes (told dom t.at v n) (ended dom t n)) refl refl refl in
-      let second = step_gain m.kept all count (nat_lt count (length all)) (goes (r.Pending count) (stepped dom t count m)) (goes (told dom t.at v m) (ended dom t m)) refl refl refl in
+      let first = step_gain n.kept few count (nat_lt count (length few)) (goes (r.Pending count) (after_step dom t count n)) (goes (state_reply dom t.at v n) (after_last_step dom t n)) refl refl refl in
+      let second = step_gain m.kept all count (nat_lt count (length all)) (goes (r.Pending count) (after_step dom t count m)) (goes (state_reply dom t.at v m) (after_last_step dom t m)) refl refl refl in
       subst (λ (x : ℕ). x ≤ gain m (step_by dom t count (Answers v) m)) (sym first) (
       subst (λ (x : ℕ). min count (length few) ≤ x) (sym second) (least_less count (length few) (length all) (less.question t.at t.string).most))
 
@@ -111,13 +111,13 @@ module _ {S : Type 0} (dom : Operations S) (m n : Machine) (less : IsShorter dom
       subst (λ (a : Answer S). gain n (step_by dom t count a n) ≤ gain m (step_by dom t count (answer_at dom t.at t.string m) m)) (same t.at t.string) (step_by_less t count (answer_at dom t.at t.string m))
 
   -- an answer is not pending
-  told_now : (l : Location) (v : Value S) (count : ℕ) → told dom l v n ≡ r.Pending count → ⊥
+  told_now : (l : Location) (v : Value S) (count : ℕ) → state_reply dom l v n ≡ r.Pending count → ⊥
   told_now l (State s) count is = cc
   told_now l (Over head chain) count is = cc
 
   either_pending : (t : Ticket) (count told_count : ℕ) (v : Value S) (few all : ℕ) (b c : Bool) → few ≤ all → nat_lt count few ≡ b → nat_lt count all ≡ c →
-      (if b then goes (r.Pending count) (stepped dom t count n) else goes (told dom t.at v n) (ended dom t n)).reply ≡ r.Pending told_count →
-      (if c then goes (r.Pending count) (stepped dom t count m) else goes (told dom t.at v m) (ended dom t m)).reply ≡ r.Pending told_count
+      (if b then goes (r.Pending count) (after_step dom t count n) else goes (state_reply dom t.at v n) (after_last_step dom t n)).reply ≡ r.Pending told_count →
+      (if c then goes (r.Pending count) (after_step dom t count m) else goes (state_reply dom t.at v m) (after_last_step dom t m)).reply ≡ r.Pending told_count
   either_pending t count told_count v few all true true most is_few is_all pending = pending
   either_pending t count told_count v few all true false most is_few is_all pending =
       let more = ltb-true count few is_few in let no_more = ltb-false count all is_all in absurd (omega arith)
@@ -186,7 +186,7 @@ module _ {S : Type 0} (dom : Operations S) where
 
   never_longer : (s : Served) → HasCells dom s.machine → NeverLonger dom s
   never_longer s has between quiet =
-      let t = after (server dom) s between in
+      let t = machine_after (server dom) s between in
       let there = after_cells dom s between has in
       let more = quiet_more dom s between quiet in
       let less = more_is_shorter dom s.machine t.machine has.fine.present.fine.fit has.cells there.cells more in
@@ -196,4 +196,4 @@ module _ {S : Type 0} (dom : Operations S) where
   pub moments_shorten : MomentsShorten dom
   moments_shorten readings engine source program is before =
       let first = opening readings engine program in
-      never_longer (after (server dom) first before) (after_cells dom first before (opening_cells dom readings engine source program is))
+      never_longer (machine_after (server dom) first before) (after_cells dom first before (opening_cells dom readings engine source program is))

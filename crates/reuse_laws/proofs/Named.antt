@@ -1,7 +1,7 @@
 -- The inputs of a name of a checked program are names of it, whatever the operations do.
 use Rattle.std.proofs.Common.{◌≡◌, true, reverse, subst}
 use Rattle.domain_laws.specs.Operations.{Operations}
-use Rattle.demand_order.specs.Order.{member}
+use Rattle.daig_order.specs.Order.{member}
 use Rattle.cell_rows.specs.Claims.{InputsAreNames}
 use Rattle.cell_rows.proofs.Answered.{valued, unvalued}
 use Rattle.cell_rows.proofs.FlatOnce.{all_fine, flat_once}

@@ -3,9 +3,9 @@ use Rattle.std.proofs.Common.{◌≡◌, ◌∙◌, ◌≤◌, Bool, true, false
 use Rattle.std.specs.Prelude.{not}
 use Rattle.std.proofs.lemmas.Bool.{false_from_ne_true}
 use Rattle.std.proofs.lemmas.List.Filters.{length-filter_both}
-use Rattle.demand_order.specs.Order.{fill_all}
-use Rattle.demand_order.specs.OrderLaws.{order}
-use Rattle.demand_order.proofs.TheoremProofs.{missing}
+use Rattle.daig_order.specs.Order.{fill_all}
+use Rattle.daig_order.specs.OrderLaws.{order}
+use Rattle.daig_order.proofs.TheoremProofs.{missing}
 use Rattle.reuse_laws.specs.Rest.{IsRest, MissesRest}
 
 -- what is not in the larger set is not in the smaller one

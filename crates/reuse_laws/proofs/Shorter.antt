@@ -6,20 +6,20 @@ use Rattle.imp_slots.specs.Fits.{IsChecked}
 use Rattle.imp_check.specs.Slots.{routines_of}
 use Rattle.domain_laws.specs.Operations.{Operations}
 use Rattle.batch_meaning.specs.Answers.{Found, In, Misses, procedure_of}
-use Rattle.batch_meaning.specs.Batch.{Engine}
+use Rattle.batch_meaning.specs.Batch.{LoopOptions}
 use Rattle.cell_names.specs.Paths.{CellName}
 use Rattle.cell_rows.specs.Targets.{demanded, targets}
-use Rattle.demand_order.specs.Order.{System, IsAcyclic, fill_all}
-use Rattle.demand_order.proofs.AskingProofs.{system-acyclic}
-use Rattle.demand_order.proofs.InTurnLemmas.{turns-one}
-use Rattle.demand_laws.specs.Claims.{found_by, names_of, report_fills, report_names}
-use Rattle.demand_laws.specs.Reports.{report_demands}
-use Rattle.demand_laws.proofs.Machine.{rows, law}
-use Rattle.named_cells.specs.Same.{same_name}
-use Rattle.named_cells.proofs.Same.{same_is}
-use Rattle.session_machine.specs.Claims.{AreKept, KeepsCells}
-use Rattle.session_machine.specs.Machine.{Machine}
-use Rattle.session_machine.specs.Turns.{is_kept, missing, missing_for_report, or_none, targets_in}
+use Rattle.daig_order.specs.Order.{System, IsAcyclic, fill_all}
+use Rattle.daig_order.proofs.AskingProofs.{system-acyclic}
+use Rattle.daig_order.proofs.InTurnLemmas.{turns-one}
+use Rattle.daig_demands.specs.Claims.{found_by, names_of, report_fills, report_names}
+use Rattle.daig_demands.specs.Reports.{report_demands}
+use Rattle.daig_demands.proofs.Machine.{rows, law}
+use Rattle.cell_graph.specs.Same.{same_name}
+use Rattle.cell_graph.proofs.Same.{same_is}
+use Rattle.daig_machine.specs.Claims.{AreKept, KeepsCells}
+use Rattle.daig_machine.specs.Machine.{Machine}
+use Rattle.daig_machine.specs.Turns.{is_kept, missing_names, missing_for_report, or_none, targets_in}
 use Rattle.reuse_laws.specs.Rest.{IsRest}
 use Rattle.reuse_laws.specs.Shorter.{IsShorter, MoreIsShorter}
 use Rattle.reuse_laws.proofs.Rest.{misses_rest}
@@ -39,7 +39,7 @@ module _ {S : Type 0} (dom : Operations S) (m n : Machine) (checked : IsChecked 
     rest_of_demand : (xs : List CellName) → IsRest (is_kept n) (fill_all names (is_kept n) [] xs) (fill_all names (is_kept m) [] xs)
     rest_of_demand xs = misses_rest names acyclic (is_kept m) (is_kept n) few.cells.closed many.cells.closed more xs
 
-    rest_of_question : (l : Location) (string : List ℕ) (found : Found) → IsRest (is_kept n) (missing dom (targets_in beside l string found) beside) (missing dom (targets_in m l string found) m)
+    rest_of_question : (l : Location) (string : List ℕ) (found : Found) → IsRest (is_kept n) (missing_names dom (targets_in beside l string found) beside) (missing_names dom (targets_in m l string found) m)
     rest_of_question l string (Misses why) = rest_of_demand (demanded (found_by dom m.engine (routines_of m.program) same_name) [])
     rest_of_question l string (In p) = rest_of_demand (demanded (found_by dom m.engine (routines_of m.program) same_name) (or_none (targets (routines_of m.program) p l string)))
 
@@ -62,7 +62,7 @@ module _ {S : Type 0} (dom : Operations S) (m n : Machine) (checked : IsChecked 
 pub more_is_shorter : {S : Type 0} (dom : Operations S) → MoreIsShorter dom
 more_is_shorter dom m n checked few many more =
     let here : AreKept dom m.engine (routines_of m.program) n.kept =
-    subst (λ (e : Engine). AreKept dom e (routines_of m.program) n.kept) (sym more.holds.engine) (
+    subst (λ (e : LoopOptions). AreKept dom e (routines_of m.program) n.kept) (sym more.holds.engine) (
     subst (λ (p : List Procedure). AreKept dom n.engine (routines_of p) n.kept) (sym more.holds.program) many) in
     subst (λ (p : List Procedure). IsShorter dom m (record n { program = p; engine = n.engine })) more.holds.program (
-    subst (λ (e : Engine). IsShorter dom m (record n { program = m.program; engine = e })) more.holds.engine (beside_shorter dom m n checked few here more.more))
+    subst (λ (e : LoopOptions). IsShorter dom m (record n { program = m.program; engine = e })) more.holds.engine (beside_shorter dom m n checked few here more.more))

@@ -1,7 +1,7 @@
 -- What is missing over more kept names.
 use Rattle.std.specs.Prelude.{◌≡◌, ◌≤◌, Bool, true, not, List, [], filter, length}
-use Rattle.demand_order.specs.Order.{System, IsAcyclic, fill_all}
-use Rattle.demand_order.specs.OrderLaws.{IsClosed}
+use Rattle.daig_order.specs.Order.{System, IsAcyclic, fill_all}
+use Rattle.daig_order.specs.OrderLaws.{IsClosed}
 
 -- What is left of some names when those that are kept are taken out: no more of them, in the same order.
 pub record IsRest {T : Type 0} (kept : T → Bool) (rest all : List T) : Type 0 where

@@ -5,20 +5,20 @@ use Rattle.imp_syntax.specs.declared.edit.Location.{Location}
 use Rattle.imp_slots.specs.Fits.{IsChecked}
 use Rattle.imp_check.specs.Slots.{routines_of}
 use Rattle.domain_laws.specs.Operations.{Operations}
-use Rattle.batch_meaning.specs.Batch.{Engine}
+use Rattle.batch_meaning.specs.Batch.{LoopOptions}
 use Rattle.cell_names.specs.Paths.{CellName}
-use Rattle.script_loop.specs.Replies.{after}
-use Rattle.session_machine.specs.Claims.{KeepsCells}
-use Rattle.session_machine.specs.Machine.{Machine, ticket_of}
-use Rattle.session_machine.specs.Turns.{is_kept, missing_at, missing_for_report}
+use Rattle.serve_script.specs.Replies.{machine_after}
+use Rattle.daig_machine.specs.Claims.{KeepsCells}
+use Rattle.daig_machine.specs.Machine.{Machine, ticket_of}
+use Rattle.daig_machine.specs.Turns.{is_kept, missing_at, missing_for_report}
 use Rattle.request_json.specs.declared.request.Request.{Request}
 use Rattle.request_json.specs.declared.request.Request.TheVariants as q
 use Rattle.request_json.specs.declared.reply.Reply.{Reply}
 use Rattle.request_json.specs.declared.reply.Reply.TheVariants as r
-use Rattle.line_answers.specs.Fine.{IsProgramOf, opening}
-use Rattle.line_answers.specs.Histories.{AreQuiet, Asks, HoldsSame, IsKeptAs}
-use Rattle.line_answers.specs.Lines.{Served, line_turn, server}
-use Rattle.line_answers.specs.Readings.{Readings}
+use Rattle.serve_answers.specs.Fine.{IsProgramOf, opening}
+use Rattle.serve_answers.specs.Histories.{AreQuiet, Asks, HoldsSame, IsKeptAs}
+use Rattle.serve_answers.specs.Lines.{Served, line_turn, server}
+use Rattle.serve_answers.specs.Readings.{Readings}
 use Rattle.reuse_laws.specs.Rest.{IsRest}
 
 -- Two machines hold the same program, and the second keeps each name that the first keeps.
@@ -45,7 +45,7 @@ module _ {S : Type 0} (dom : Operations S) where
 
   -- how many names a line fills
   abbrev pub filled_by : Served → (line : List ℕ) → ℕ
-  filled_by s line = length (after (server dom) s (line ∷ [])).machine.kept - length s.machine.kept
+  filled_by s line = length (machine_after (server dom) s (line ∷ [])).machine.kept - length s.machine.kept
 
   -- the reply to a line
   abbrev pub replied : Served → (text : List ℕ) → Reply
@@ -63,10 +63,10 @@ module _ {S : Type 0} (dom : Operations S) where
 
   -- So it is after any quiet lines.
   abbrev pub NeverLonger : Served → Type 0
-  NeverLonger s = (between : List (List ℕ)) → AreQuiet between → IsNoLonger s (after (server dom) s between)
+  NeverLonger s = (between : List (List ℕ)) → AreQuiet between → IsNoLonger s (machine_after (server dom) s between)
 
   -- So it is at each moment of each script, whatever lines came before.
   abbrev pub MomentsShorten : Type 0
   MomentsShorten =
-      (readings : Readings) (engine : Engine) (source : List ℕ) (program : List Procedure) → IsProgramOf readings source program →
-      (before : List (List ℕ)) → NeverLonger (after (server dom) (opening readings engine program) before)
+      (readings : Readings) (engine : LoopOptions) (source : List ℕ) (program : List Procedure) → IsProgramOf readings source program →
+      (before : List (List ℕ)) → NeverLonger (machine_after (server dom) (opening readings engine program) before)

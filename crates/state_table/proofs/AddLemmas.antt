@@ -2,10 +2,10 @@
 use Rattle.std.proofs.Common.{◌≡◌, ℕ, zero, suc, Bool, true, false, List, [], ◌∷◌, ◌++◌, length, Some, slice_get, if◌then◌else◌, ◌⊎◌, inl, inr, ⊎_elim, refl, sym, ap, ◌∙◌, one-add, ◌≤◌, ◌+◌, arith}
 use Rattle.std.specs.Cmp.{IsEquivalence}
 use Rattle.std.specs.List.{list_any, position_or_len}
-use Rattle.plain_values.proofs.Cases.{by_bool}
-use Rattle.plain_values.proofs.Lists.{get_last, one_more}
+use Rattle.base_values.proofs.Cases.{by_bool}
+use Rattle.base_values.proofs.Lists.{get_last, one_more}
 use Rattle.state_table.specs.Numbers.{with_state, IsNumberOf, TellsApart, Adds}
-use Rattle.plain_values.proofs.Cases.{not_both}
+use Rattle.base_values.proofs.Cases.{not_both}
 
 -- the first place that passes, or none
 abbrev First : {T : Type 0} → (T → Bool) → List T → Type 0

@@ -3,7 +3,7 @@ use Rattle.std.proofs.Common.{◌≡◌, ℕ, zero, suc, ◌+◌, Bool, true, co
 use Rattle.std.specs.Cmp.{IsEquivalence}
 use Rattle.std.specs.List.{position_from}
 use Rattle.std.proofs.lemmas.Iterator.Adapters.{position_from-zero}
-use Rattle.plain_values.proofs.Cases.{by_bool}
+use Rattle.base_values.proofs.Cases.{by_bool}
 use Rattle.state_table.specs.Numbers.{AreOnce, TellsApart}
 use Rattle.std.proofs.lemmas.Option.{same_Some}
 

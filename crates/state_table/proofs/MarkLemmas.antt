@@ -4,7 +4,7 @@ use Rattle.indexmap.specs.IndexMap.{set_value_at}
 use Rattle.std.proofs.lemmas.Option.{same_Some}
 use Rattle.std.proofs.lemmas.Bool.{cases_eq}
 use Rattle.std.proofs.Math.Nat.{suc_inj}
-use Rattle.plain_values.proofs.Lists.{get_some}
+use Rattle.base_values.proofs.Lists.{get_some}
 use Rattle.state_table.specs.Marks.{counted, mark_count, marked_states, rank, states_in, AreNumberedBelow, IsMarked}
 
 counted-at-most : (mark a b : ℕ) → a ≤ b → counted mark a ≤ counted mark b

@@ -3,9 +3,9 @@ use Rattle.std.proofs.Common.{◌≡◌, ℕ, zero, suc, Bool, false, List, [], 
 use Rattle.std.specs.Cmp.{IsEquivalence}
 use Rattle.std.specs.List.{IsDistinct, AllByRecursion, list_any}
 use Rattle.std.proofs.lemmas.Map.Keys.{IsDistinct-head, IsDistinct-tail}
-use Rattle.plain_values.proofs.Cases.{by_bool, not_both}
+use Rattle.base_values.proofs.Cases.{by_bool, not_both}
 use Rattle.state_table.specs.Numbers.{with_state, KeepsNumbers, AreOnce}
-use Rattle.plain_values.proofs.Lists.{get_front}
+use Rattle.base_values.proofs.Lists.{get_front}
 
 -- what holds of all holds at each place
 at_place : {T : Type 0} (P : T → Type 0) (xs : List T) → AllByRecursion P xs → (n : ℕ) (t : T) → slice_get xs n ≡ Some t → P t

@@ -4,9 +4,9 @@ ghost use Rattle.indexmap.specs.IndexMap.{index_map_len, set_value_at};
 ghost use Rattle.state_table.specs.Numbers.{AreOnce};
 ghost use Rattle.state_table.specs.Marks.{is_mark, mark_count, marked_states, rank, states_in, AreNumbered, IsMarked};
 
-use crate::table::Table;
+use crate::table::StateTable;
+use base_hash::NumberHashing;
 use indexmap::IndexMap;
-use number_hash::NumberHashing;
 use std::hash::Hash;
 use std::marker::Model;
 use std::mem::replace;
@@ -28,7 +28,7 @@ impl<T: Eq + Hash> Model for Sweep<T> {
     ghost view = { λ s. s.states.entries };
 }
 
-impl<T: Eq + Hash + Drop> Table<T> {
+impl<T: Eq + Hash + Drop> StateTable<T> {
     /// Takes all states out, to sweep them. None is marked.
     pub fn begin_sweep(&mut self) -> Sweep<T>
         ensures states { states_in result ≡ self.old }
@@ -78,14 +78,14 @@ impl<T: Eq + Hash + Drop> Sweep<T> {
     }
 
     /// The table of the marked states alone, in their order.
-    pub fn finish(mut self) -> Table<T>
+    pub fn finish(mut self) -> StateTable<T>
         ensures states { result ≡ marked_states self }
         ensures count { length result ≡ mark_count self }
         ensures once { AreOnce T.eq result }
     {
         keep_marked(&mut self.states);
         let Sweep { states } = self;
-        Table { states }
+        StateTable { states }
     }
 }
 

@@ -4,21 +4,21 @@ ghost use Rattle.std.specs.Prelude.{◌≡◌, ℕ, ◌+◌, ◌≤◌, ◌<◌,
 ghost use Rattle.std.specs.List.{position_or_len};
 ghost use Rattle.state_table.specs.Numbers.{with_state, IsNumberOf, KeepsNumbers, AreOnce, TellsApart, Adds};
 
+use base_hash::NumberHashing;
+use base_values::Memory;
 use indexmap::IndexMap;
-use number_hash::NumberHashing;
-use plain_values::Memory;
 use std::alloc::Global;
 use std::hash::Hash;
 use std::marker::Model;
 
 /// States under numbers, as a list: the state at place n has the number n.
 #[derive(Drop)]
-pub struct Table<T: Eq + Hash> {
+pub struct StateTable<T: Eq + Hash> {
     // beside each state a mark, which means nothing outside a sweep
     pub(crate) states: IndexMap<T, usize, NumberHashing>,
 }
 
-impl<T: Eq + Hash> Model for Table<T> {
+impl<T: Eq + Hash> Model for StateTable<T> {
     ghost use Rattle.std.specs.Prelude.{List};
     ghost use Rattle.state_table.specs.Marks.{states_in};
 
@@ -27,13 +27,13 @@ impl<T: Eq + Hash> Model for Table<T> {
     ghost view = { λ t. states_in t.states.entries };
 }
 
-impl<T: Eq + Hash + Drop> Table<T> {
+impl<T: Eq + Hash + Drop> StateTable<T> {
     /// A table with no states. It takes no memory yet.
     #[inline]
-    pub fn new(alloc: Global) -> Table<T>
+    pub fn new(alloc: Global) -> StateTable<T>
         ensures empty { result ≡ [] }
     {
-        Table {
+        StateTable {
             states: IndexMap::with_hasher(alloc, NumberHashing::new()),
         }
     }

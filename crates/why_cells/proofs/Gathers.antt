@@ -6,8 +6,8 @@ use Rattle.std.proofs.lemmas.Option.{slice_get-get_or, slice_get_within, same_So
 use Rattle.std.proofs.lemmas.List.{get_or_default}
 use Rattle.indexmap.specs.IndexSet.{insert_key}
 use Rattle.std.proofs.lemmas.Bool.Decides.{nat_tests}
-use Rattle.plain_values.proofs.Cases.{by_bool}
-use Rattle.plain_values.proofs.Lists.{take_item, get_front as get_left, get_pushed}
+use Rattle.base_values.proofs.Cases.{by_bool}
+use Rattle.base_values.proofs.Lists.{take_item, get_front as get_left, get_pushed}
 use Rattle.daig_graph.specs.Cells.{AreCells, Filled}
 use Rattle.daig_graph.specs.Held.{IsIn, IsOnce}
 use Rattle.cell_removal.specs.Removal.{Cells}

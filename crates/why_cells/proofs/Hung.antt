@@ -4,26 +4,26 @@ use Rattle.std.specs.FinMap.{get}
 use Rattle.std.proofs.lemmas.Option.{slice_get-get_or, slice_get_within, same_Some}
 use Rattle.std.proofs.Math.Seq.{take-length}
 use Rattle.imp_slots.specs.Plain.{Effect, DoBreak, Does}
-use Rattle.plain_values.proofs.Lists.{take_item}
+use Rattle.base_values.proofs.Lists.{take_item}
 use Rattle.domain_laws.specs.Operations.{Operations}
 use Rattle.batch_meaning.specs.Values as plain
-use Rattle.demand_laws.specs.Stops.{state_of}
-use Rattle.cell_names.specs.declared.frame.Frame.{Frame}
+use Rattle.daig_demands.specs.Stops.{state_of}
+use Rattle.cell_names.specs.declared.frame.NameFrame.{NameFrame}
 use Rattle.cell_names.specs.Paths.{CellName}
 use Rattle.cell_rows.specs.Cells.{Cell}
 use Rattle.cell_rows.specs.Rows.{Posts, Assumes, Enters, Exits, Row, Init, One, Two, Fixed, Joins}
 use Rattle.cell_rows.specs.Flat.{flat_row}
 use Rattle.imp_flow.specs.Plans.{Plan}
-use Rattle.named_cells.specs.Asked.{inputs}
-use Rattle.named_cells.specs.Named.{AreNumbers}
-use Rattle.named_cells.specs.Same.{same_name}
-use Rattle.named_cells.proofs.Numbers.{numbers_get, numbers_length, numbers_of}
+use Rattle.cell_graph.specs.Asked.{inputs}
+use Rattle.cell_graph.specs.Named.{AreNumbers}
+use Rattle.cell_graph.specs.Same.{same_name}
+use Rattle.cell_graph.proofs.Numbers.{numbers_get, numbers_length, numbers_of}
 use Rattle.daig_query.specs.declared.store.Store.{Store}
 use Rattle.daig_query.specs.Answered.{value_in}
 use Rattle.daig_query.specs.Right.{found, IsRight}
 use Rattle.daig_query.proofs.Found.{stored, is_there}
 use Rattle.daig_query.proofs.Reading.{value_of}
-use Rattle.why_slice.specs.Upstream.{all_hung, hung_on, is_live, listed, matters, pointed}
+use Rattle.why_slice.specs.Upstream.{all_hung, hung_on, is_live, listed, matters, statement_of_name}
 use Rattle.why_slice.proofs.Staying.{input_alone}
 use Rattle.why_cells.specs.Told.{is_effect, IsCellAt}
 
@@ -102,21 +102,21 @@ module _ {S : Type 0} (dom : Operations S) where
     pub other_matters : (r : Row) → is_effect r ≡ false → true ≡ matters dom (found dom plan) r
     other_matters r e = sym (matters_other (found dom plan) r e)
 
-    hung_here : (x : CellName) (r : Row) (b : Bool) (o : Option ℕ) → b ≡ matters dom (found dom plan) r → o ≡ pointed x.path x.point →
+    hung_here : (x : CellName) (r : Row) (b : Bool) (o : Option ℕ) → b ≡ matters dom (found dom plan) r → o ≡ statement_of_name x.path x.point →
         listed (if b then o else None) ≡ hung_on dom plan.engine plan.program same_name x (Some r)
     unfolding found
-    hung_here x r true o m e = ap listed e ∙ ap (λ b. if b then listed (pointed x.path x.point) else []) m
-    hung_here x r false o m e = ap (λ b. if b then listed (pointed x.path x.point) else []) m
+    hung_here x r true o m e = ap listed e ∙ ap (λ b. if b then listed (statement_of_name x.path x.point) else []) m
+    hung_here x r false o m e = ap (λ b. if b then listed (statement_of_name x.path x.point) else []) m
 
     -- what the name of a cell hangs on, by its row
-    pub hung_by : (n : ℕ) (x y : CellName) (r : List Frame → Row) (b : Bool) (o : Option ℕ) → IsSome (get store.graph.cells n) → slice_get store.names.names n ≡ Some x → slice_get store.names.names n ≡ Some y →
+    pub hung_by : (n : ℕ) (x y : CellName) (r : List NameFrame → Row) (b : Bool) (o : Option ℕ) → IsSome (get store.graph.cells n) → slice_get store.names.names n ≡ Some x → slice_get store.names.names n ≡ Some y →
         flat_row plan.engine (reverse plan.program) y.path y.point ≡ Some (r y.path) →
-        ((z : CellName) → IsCellAt store n z → flat_row plan.engine (reverse plan.program) z.path z.point ≡ Some (r z.path) → b ≡ matters dom (found dom plan) (r z.path)) → o ≡ pointed y.path y.point →
+        ((z : CellName) → IsCellAt store n z → flat_row plan.engine (reverse plan.program) z.path z.point ≡ Some (r z.path) → b ≡ matters dom (found dom plan) (r z.path)) → o ≡ statement_of_name y.path y.point →
         listed (if b then o else None) ≡ hung_on dom plan.engine plan.program same_name x (flat_row plan.engine (reverse plan.program) x.path x.point)
     hung_by n x y r b o s at named row told e =
         let same : y ≡ x = same_Some y x (sym named ∙ at) in
         let row_x = subst (λ (z : CellName). flat_row plan.engine (reverse plan.program) z.path z.point ≡ Some (r z.path)) same row in
-        hung_here x (r x.path) b o (told x (named_cell n x at s) row_x) (e ∙ ap (λ (z : CellName). pointed z.path z.point) same)
+        hung_here x (r x.path) b o (told x (named_cell n x at s) row_x) (e ∙ ap (λ (z : CellName). statement_of_name z.path z.point) same)
         ∙ sym (ap (hung_on dom plan.engine plan.program same_name x) row_x)
 
   -- the statements of the names so far

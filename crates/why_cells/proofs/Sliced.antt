@@ -3,26 +3,26 @@ use Rattle.std.proofs.Common.{◌≡◌, ◌↔◌, ℕ, List, [], ◌∷◌, �
 use Rattle.std.specs.FinMap.{get}
 use Rattle.std.proofs.lemmas.List.{reverse-append}
 use Rattle.imp_syntax.specs.declared.edit.Location.{Location}
-use Rattle.plain_values.proofs.Members.{Member, here, there, in_left, in_right, either, of_reverse}
-use Rattle.program_chains.specs.Chains.{selected}
+use Rattle.base_values.proofs.Members.{Member, here, there, in_left, in_right, either, of_reverse}
+use Rattle.imp_chains.specs.Chains.{selected}
 use Rattle.domain_laws.specs.Operations.{Operations}
-use Rattle.demand_order.specs.Order.{member, System}
-use Rattle.demand_order.specs.OrderLaws.{Needed, input, under}
+use Rattle.daig_order.specs.Order.{member, System}
+use Rattle.daig_order.specs.OrderLaws.{Needed, input, under}
 use Rattle.cell_names.specs.Known.{Known}
 use Rattle.cell_names.specs.Paths.{CellName}
 use Rattle.cell_rows.specs.Targets.{Target, demanded}
-use Rattle.demand_laws.specs.Claims.{names_of}
-use Rattle.demand_laws.specs.Walks.{asks, asks_at, names_at}
-use Rattle.demand_laws.specs.Walks as law
+use Rattle.daig_demands.specs.Claims.{names_of}
+use Rattle.daig_demands.specs.Walks.{asks, asks_at, names_at}
+use Rattle.daig_demands.specs.Walks as law
 use Rattle.imp_flow.specs.Plans.{Plan}
 use Rattle.daig_graph.specs.Cells.{AreCells, Filled}
 use Rattle.daig_graph.specs.Held.{IsIn}
 use Rattle.cell_removal.proofs.Ins.{in_first, in_more}
-use Rattle.named_cells.specs.Asked.{inputs}
-use Rattle.named_cells.specs.Named.{filled_at, AreNumbers}
-use Rattle.named_cells.specs.Same.{same_name}
-use Rattle.named_cells.proofs.Numbers.{filled_named, numbers_get, numbers_of, member_at, at_member}
-use Rattle.named_cells.proofs.Same.{same_is}
+use Rattle.cell_graph.specs.Asked.{inputs}
+use Rattle.cell_graph.specs.Named.{filled_at, AreNumbers}
+use Rattle.cell_graph.specs.Same.{same_name}
+use Rattle.cell_graph.proofs.Numbers.{filled_named, numbers_get, numbers_of, member_at, at_member}
+use Rattle.cell_graph.proofs.Same.{same_is}
 use Rattle.daig_query.specs.declared.held.Held.{Held}
 use Rattle.daig_query.specs.declared.store.Store.{Store}
 use Rattle.daig_query.specs.declared.walk.Walk.{Walk}
@@ -30,7 +30,7 @@ use Rattle.daig_query.specs.Kept.{kept}
 use Rattle.daig_query.specs.Right.{found, IsRight}
 use Rattle.daig_query.specs.Walked.{fixes, with_fixes, place_of, IsDone}
 use Rattle.daig_query.proofs.Found.{stored}
-use Rattle.why_slice.specs.Upstream.{all_hung, all_of, listed, located, needed_by, rising, upstream, NeededBy}
+use Rattle.why_slice.specs.Upstream.{all_hung, all_of, listed, statement_at, needed_by, sorted_once, upstream, NeededBy}
 use Rattle.why_slice.proofs.Rising.{rising_same}
 use Rattle.why_slice.proofs.Told.{all_hung_only, all_hung_there, as_member, is_member, needs}
 use Rattle.why_cells.specs.Reached.{Reached, seed, input as leads, AllNamed, AreReached}
@@ -239,9 +239,9 @@ module _ {S : Type 0} (dom : Operations S) (plan : Plan) (ts : List Target) (sto
               ]
 
           -- the statements of the chains and cells are those that the answer depends on
-          pub upstream_is : rising (listed (located l) ++ (all_of (map reverse (selected plan.program p string)) ++ hung xs)) ≡ upstream dom plan.engine plan.program same_name l string p ts
+          pub upstream_is : sorted_once (listed (statement_at l) ++ (all_of (map reverse (selected plan.program p string)) ++ hung xs)) ≡ upstream dom plan.engine plan.program same_name l string p ts
           upstream_is =
               let nss = selected plan.program p string in
               rising_same _ _
-              (parts (listed (located l)) (all_of (map reverse nss)) (all_of nss) (hung xs) (hung needed) (of_turned nss) of_hung)
-              (parts (listed (located l)) (all_of nss) (all_of (map reverse nss)) (hung needed) (hung xs) (in_turned nss) in_hung)
+              (parts (listed (statement_at l)) (all_of (map reverse nss)) (all_of nss) (hung xs) (hung needed) (of_turned nss) of_hung)
+              (parts (listed (statement_at l)) (all_of nss) (all_of (map reverse nss)) (hung needed) (hung xs) (in_turned nss) in_hung)

@@ -2,16 +2,16 @@
 use Rattle.std.proofs.Common.{◌≡◌, ℕ, zero, suc, ◌+◌, List, [], ◌∷◌, ◌++◌, map, take, Some, slice_get, refl, sym, ap, subst, ◌∙◌, append_assoc, append-nil, add-one}
 use Rattle.std.proofs.lemmas.List.{map-append}
 use Rattle.std.proofs.lemmas.Option.{same_Some}
-use Rattle.plain_values.proofs.Lists.{take_next}
-use Rattle.cell_names.specs.declared.frame.Frame.{Frame}
-use Rattle.cell_names.specs.declared.frame.Frame.TheVariants.{InCall, InLoop}
+use Rattle.base_values.proofs.Lists.{take_next}
+use Rattle.cell_names.specs.declared.frame.NameFrame.{NameFrame}
+use Rattle.cell_names.specs.declared.frame.NameFrame.TheVariants.{InCall, InLoop}
 use Rattle.cell_names.specs.declared.frame.Point.TheVariants.{Fix}
 use Rattle.cell_names.specs.Paths.{CellName}
 use Rattle.cell_rows.specs.Names.{name}
 use Rattle.daig_graph.specs.Held.{IsIn}
 use Rattle.cell_removal.proofs.Ins.{in_first, in_more, in_left, in_right}
-use Rattle.named_cells.specs.Named.{AreNumbers}
-use Rattle.named_cells.proofs.Numbers.{numbers_get}
+use Rattle.cell_graph.specs.Named.{AreNumbers}
+use Rattle.cell_graph.proofs.Numbers.{numbers_get}
 use Rattle.daig_query.specs.Walked.{fixes, with_fixes}
 use Rattle.why_cells.specs.Reached.{fix_of, AllNamed}
 use Rattle.daig_query.proofs.Walks.{with_both}
@@ -30,12 +30,12 @@ pub record Adds (names : List CellName) (all rest : List CellName) (old now : Li
 pub adds_first : (names all : List CellName) (old : List ℕ) → Adds names all all old old
 adds_first names all old = record { numbers = []; xs = []; is = sym (append-nil old); are = refl; split = refl }
 
-fixes_more : (f : Frame) (v : List Frame) → fixes (f ∷ v) ≡ fix_of f v ++ fixes v
+fixes_more : (f : NameFrame) (v : List NameFrame) → fixes (f ∷ v) ≡ fix_of f v ++ fixes v
 fixes_more (InCall n) v = refl
 fixes_more (InLoop n k) v = refl
 
 -- past a frame
-pub adds_next : (names all : List CellName) (old now new : List ℕ) (f : Frame) (w v : List Frame) → w ≡ f ∷ v → AllNamed names all → Adds names all (fixes w) old now →
+pub adds_next : (names all : List CellName) (old now new : List ℕ) (f : NameFrame) (w v : List NameFrame) → w ≡ f ∷ v → AllNamed names all → Adds names all (fixes w) old now →
     (AllNamed names (fix_of f v) → (ns : List ℕ) × (new ≡ now ++ ns) × AreNumbers names ns (fix_of f v)) → Adds names all (fixes v) old new
 adds_next names all old now new f w v e named h adds =
     let split : all ≡ h.xs ++ (fix_of f v ++ fixes v) = h.split ∙ ap (λ u. h.xs ++ fixes u) e ∙ ap (λ zs. h.xs ++ zs) (fixes_more f v) in
@@ -48,7 +48,7 @@ adds_next names all old now new f w v e named h adds =
       split = split ∙ sym (append_assoc h.xs (fix_of f v) (fixes v));
     }
 
-pub fix_named : (names : List CellName) (f : Frame) (v : List Frame) (n k : ℕ) → f ≡ InLoop n k → AllNamed names (fix_of f v) → (c : ℕ) × (slice_get names c ≡ Some (name v (Fix n)))
+pub fix_named : (names : List CellName) (f : NameFrame) (v : List NameFrame) (n k : ℕ) → f ≡ InLoop n k → AllNamed names (fix_of f v) → (c : ℕ) × (slice_get names c ≡ Some (name v (Fix n)))
 fix_named names f v n k e named = named (name v (Fix n)) (subst (λ g. IsIn (fix_of g v) (name v (Fix n))) (sym e) (in_first (name v (Fix n)) []))
 
 -- Over all cells: those so far, each with the fixed points on its way.

@@ -2,8 +2,8 @@
 use Rattle.std.specs.Prelude.{◌≡◌, ◌⊎◌, ◌↔◌, ℕ, List, [], ◌∷◌, Some, slice_get}
 use Rattle.std.specs.Ordering.{nat_cmp}
 use Rattle.std.specs.FinMap.{FinMap, get}
-use Rattle.cell_names.specs.declared.frame.Frame.{Frame}
-use Rattle.cell_names.specs.declared.frame.Frame.TheVariants.{InCall, InLoop}
+use Rattle.cell_names.specs.declared.frame.NameFrame.{NameFrame}
+use Rattle.cell_names.specs.declared.frame.NameFrame.TheVariants.{InCall, InLoop}
 use Rattle.cell_names.specs.declared.frame.Point.TheVariants.{Fix}
 use Rattle.cell_names.specs.Paths.{CellName}
 use Rattle.cell_rows.specs.Names.{name}
@@ -30,6 +30,6 @@ abbrev pub AllNamed : List CellName → List CellName → Type 0
 AllNamed names xs = (x : CellName) → IsIn xs x → (n : ℕ) × (slice_get names n ≡ Some x)
 
 -- the fixed point of the loop that a frame behind a path goes into
-abbrev pub fix_of : Frame → List Frame → List CellName
+abbrev pub fix_of : NameFrame → List NameFrame → List CellName
 fix_of (InCall n) w = []
 fix_of (InLoop n k) w = name w (Fix n) ∷ []

@@ -5,9 +5,9 @@ ghost use Rattle.daig_graph.specs.Cells.{AreCells, Filled};
 ghost use Rattle.daig_graph.specs.Held.{IsOnce};
 ghost use Rattle.why_cells.specs.Reached.{AreReached, Joins};
 
+use base_values::Memory;
 use daig_graph::Graph;
 use indexmap::IndexSet;
-use plain_values::Memory;
 use std::alloc::Global;
 
 /// Adds cells, each at most once.

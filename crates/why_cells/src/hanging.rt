@@ -4,28 +4,28 @@ ghost use Rattle.std.specs.FinMap as map;
 ghost use Rattle.cell_names.specs.declared.frame.Point.TheVariants.{Entry, Body};
 ghost use Rattle.cell_names.specs.Paths.{CellName, path_at};
 ghost use Rattle.cell_rows.specs.Flat.{flat_row};
-ghost use Rattle.flow_rows.specs.Near.{PathFrame, last_frame, row_in};
+ghost use Rattle.imp_flow_rows.specs.Near.{PathFrame, last_frame, row_in};
 ghost use Rattle.daig_graph.specs.Cells.{AreCells, Filled};
 ghost use Rattle.batch_meaning.specs.Values.{Value as PlainValue};
 ghost use Rattle.daig_query.specs.Answered.{value_in};
-ghost use Rattle.named_cells.specs.Named.{AreNumbers};
-ghost use Rattle.named_cells.specs.Same.{same_name};
+ghost use Rattle.cell_graph.specs.Named.{AreNumbers};
+ghost use Rattle.cell_graph.specs.Same.{same_name};
 ghost use Rattle.daig_query.specs.Right.{found, IsRight};
-ghost use Rattle.why_slice.specs.Upstream.{all_hung, hung_on, is_live, listed, matters, pointed};
+ghost use Rattle.why_slice.specs.Upstream.{all_hung, hung_on, is_live, listed, matters, statement_of_name};
 ghost use Rattle.why_cells.specs.Told.{is_effect, IsCellAt};
 
-use cell_names::{Frame, Name, Names, PathId, Point};
+use base_values::Memory;
+use cell_names::{Name, NameFrame, Names, PathId, Point};
 use daig_graph::Graph;
 use daig_query::Engine;
 use domain_laws::Domain;
-use flow_rows::{Row, Unary};
 use imp_flow::Flow;
+use imp_flow_rows::{Row, Unary};
 use imp_slots::SlotStmt;
-use plain_values::Memory;
 use std::alloc::Global;
 
 /// The last frame of a path.
-fn last_frame(names: &Names, path: PathId) -> Option<Frame>
+fn last_frame(names: &Names, path: PathId) -> Option<NameFrame>
     requires there { path < length names.now.paths }
     ensures is { result ≡ last_frame (path_at names.now.paths path) }
 {
@@ -36,18 +36,18 @@ fn last_frame(names: &Names, path: PathId) -> Option<Frame>
 }
 
 /// The call that a frame goes into.
-fn call_of(frame: Frame) -> Option<u32>
-    ensures is { (v : List PathFrame) → result ≡ pointed (frame ∷ v) Entry }
+fn call_of(frame: NameFrame) -> Option<u32>
+    ensures is { (v : List PathFrame) → result ≡ statement_of_name (frame ∷ v) Entry }
 {
     match frame {
-        Frame::InCall(site) => Some(site.number()),
-        Frame::InLoop(..) => None,
+        NameFrame::InCall(site) => Some(site.number()),
+        NameFrame::InLoop(..) => None,
     }
 }
 
 /// The call that leads to a body.
-fn called_by(frame: Option<Frame>) -> Option<u32>
-    ensures is { (w : List PathFrame) → last_frame w ≡ frame → result ≡ pointed w Entry }
+fn called_by(frame: Option<NameFrame>) -> Option<u32>
+    ensures is { (w : List PathFrame) → last_frame w ≡ frame → result ≡ statement_of_name w Entry }
 {
     match frame {
         Some(frame) => call_of(frame),
@@ -56,18 +56,18 @@ fn called_by(frame: Option<Frame>) -> Option<u32>
 }
 
 /// The loop that a frame goes into.
-fn loop_of(frame: Frame) -> Option<u32>
-    ensures is { (v : List PathFrame) → result ≡ pointed (frame ∷ v) Body }
+fn loop_of(frame: NameFrame) -> Option<u32>
+    ensures is { (v : List PathFrame) → result ≡ statement_of_name (frame ∷ v) Body }
 {
     match frame {
-        Frame::InCall(_) => None,
-        Frame::InLoop(head, _) => Some(head.number()),
+        NameFrame::InCall(_) => None,
+        NameFrame::InLoop(head, _) => Some(head.number()),
     }
 }
 
 /// The loop that leads to a round.
-fn looped_by(frame: Option<Frame>) -> Option<u32>
-    ensures is { (w : List PathFrame) → last_frame w ≡ frame → result ≡ pointed w Body }
+fn looped_by(frame: Option<NameFrame>) -> Option<u32>
+    ensures is { (w : List PathFrame) → last_frame w ≡ frame → result ≡ statement_of_name w Body }
 {
     match frame {
         Some(frame) => loop_of(frame),
@@ -78,7 +78,7 @@ fn looped_by(frame: Option<Frame>) -> Option<u32>
 /// The statement that a name names.
 fn pointed(names: &Names, name: &Name) -> Option<u32>
     requires there { name.now.path < length names.now.paths }
-    ensures is { result ≡ pointed (path_at names.now.paths name.now.path) name.now.point }
+    ensures is { result ≡ statement_of_name (path_at names.now.paths name.now.path) name.now.point }
 {
     match name.point {
         Point::Entry => called_by(last_frame(names, name.path)),

@@ -1,19 +1,19 @@
 //! The cells of the names that targets ask for.
 ghost use Rattle.std.specs.Prelude.{◌≡◌, ◌<◌, ℕ, List, ◌++◌, length, Some, slice_get, IfOk, OnOk};
 ghost use Rattle.cell_names.specs.Paths.{CellName, path_at};
-ghost use Rattle.named_cells.specs.Named.{AreNumbers};
+ghost use Rattle.cell_graph.specs.Named.{AreNumbers};
 ghost use Rattle.daig_query.specs.Walked.{fixes, with_fixes};
 ghost use Rattle.why_cells.specs.Reached.{fix_of, AllNamed};
 
-use cell_names::{Frame, Name, Names, PathId, Point};
-use plain_values::Memory;
+use base_values::Memory;
+use cell_names::{Name, NameFrame, Names, PathId, Point};
 use std::alloc::Global;
 
 /// Adds the cell of the fixed point of the loop that a frame goes into, if it goes into one.
 fn add_fix(
     names: &Names,
     before: PathId,
-    frame: Frame,
+    frame: NameFrame,
     cells: &mut Vec<usize>,
 ) -> Result<(), Memory>
     requires there { before < length names.now.paths }
@@ -21,8 +21,8 @@ fn add_fix(
         OnOk result ((ns : List ℕ) × (cells.new.items ≡ cells.old.items ++ ns) × AreNumbers names.now.names ns (fix_of frame (path_at names.now.paths before))) }
 {
     match frame {
-        Frame::InCall(_) => Ok(()),
-        Frame::InLoop(head, _) => {
+        NameFrame::InCall(_) => Ok(()),
+        NameFrame::InLoop(head, _) => {
             let name = Name {
                 path: before,
                 point: Point::Fix(head),

@@ -2,18 +2,18 @@
 ghost use Rattle.std.specs.Prelude.{◌≡◌, ℕ, List, Some, IfOk};
 ghost use Rattle.batch_meaning.specs.Answers.{In, procedure_of};
 ghost use Rattle.cell_rows.specs.Targets.{Target as PlainTarget, targets};
-ghost use Rattle.named_cells.specs.Same.{same_name};
+ghost use Rattle.cell_graph.specs.Same.{same_name};
 ghost use Rattle.daig_query.specs.Answered.{AreFilled};
 ghost use Rattle.why_slice.specs.Upstream.{upstream};
 
 use crate::gathering::reached;
 use crate::hanging::all_hung;
 use crate::seeds::with_fixes;
+use base_values::{Items, Memory};
 use daig_query::{Engine, Walk};
 use domain_laws::Domain;
 use imp_flow::Flow;
 use imp_syntax::{Location, StmtId};
-use plain_values::{Items, Memory};
 use std::alloc::Global;
 
 /// The statements that the answer at a location under a call string depends on, rising, each once, where nothing is missing
@@ -36,7 +36,7 @@ pub fn upstream<D: Domain>(
     ensures is { (p : ℕ) (ts : List PlainTarget) → procedure_of flow.now.program at.now ≡ In p → targets flow.now.program p at.now string.now ≡ Some ts → AreFilled (D.operations engine.now.domain) engine.now.store walk.now flow.now ts →
         IfOk result (λ stmts. stmts ≡ upstream (D.operations engine.now.domain) flow.now.engine flow.now.program same_name at.now string.now p ts) }
 {
-    let chains = selected_chains::targets(alloc, flow.program(), at, string)?;
+    let chains = call_chains::targets(alloc, flow.program(), at, string)?;
     let seeds = with_fixes(alloc, engine.names(), walk.found())?;
     let cells = reached(alloc, engine.graph(), seeds.as_slice())?;
     let hung = all_hung(alloc, engine, flow, cells.as_slice())?;

@@ -11,14 +11,14 @@ use Rattle.imp_check.specs.Names.{place_named}
 use Rattle.imp_check.specs.Slots.{Resolver, layout_in, guard_in, effect_in, invoke_of, invoke_in, callee_in, statement_in, code_in, routine_of, routines_from, routines_of}
 use Rattle.edit_entries.specs.Holes.{append, with_body}
 use Rattle.imp_edit.specs.Changes.{in_statement, in_block, in_program, exchanged}
-use Rattle.program_chains.specs.Chains.{has}
-use Rattle.program_chains.specs.declared.widening.Widening.{Widening}
-use Rattle.program_chains.specs.Marks.{marks}
-use Rattle.plain_values.proofs.Cases.{by_bool, by_test}
+use Rattle.imp_chains.specs.Chains.{has}
+use Rattle.imp_chains.specs.declared.widening.Widening.{Widening}
+use Rattle.imp_chains.specs.Thresholds.{thresholds}
+use Rattle.base_values.proofs.Cases.{by_bool, by_test}
 use Rattle.why_slice.specs.Exchanged.{OnlySimple, IsSimple}
 use Rattle.why_slice.proofs.Shifted.{shift_other, shift_it, pick, pick_other, pick_it, swap}
-use Rattle.why_slice.proofs.ShiftedRows.{swap_routine, swap_all, SameMarks}
-use Rattle.program_chains.proofs.Found.{lacks}
+use Rattle.why_slice.proofs.ShiftedRows.{swap_routine, swap_all, SameThresholds}
+use Rattle.imp_chains.proofs.Found.{lacks}
 
 once : (n : ℕ) (xs ys : List ℕ) → Distinct (xs ++ ys) → has n xs ≡ true → Absent n ys
 once n [] ys d h = absurd cc
@@ -195,19 +195,19 @@ module _ (s t : ℕ) (a : Action) where
   pub edited_is : (ps : List Procedure) → IsSimple s (routines_of ps) → Distinct (routine_numbers (routines_of ps)) → (f : Effect) × (routines_of (edit ps) ≡ swap_all s t f (routines_of ps))
   edited_is ps h d = let c = choose [] ps d in (c.0, all_edited c.0 [] ps c.1 h d)
 
--- Marks of each procedure, in either order.
+-- Thresholds of each procedure, in either order.
 module _ (s t : ℕ) (f : Effect) (w : Widening) where
-  marks_both : (xs ys : List Routine) → SameMarks s t f w xs → SameMarks s t f w ys → SameMarks s t f w (xs ++ ys)
-  marks_both [] ys h k = k
-  marks_both (x ∷ xs) ys h k = (h.0, marks_both xs ys h.1 k)
+  thresholds_both : (xs ys : List Routine) → SameThresholds s t f w xs → SameThresholds s t f w ys → SameThresholds s t f w (xs ++ ys)
+  thresholds_both [] ys h k = k
+  thresholds_both (x ∷ xs) ys h k = (h.0, thresholds_both xs ys h.1 k)
 
-  marks_reversed : (ps : List Routine) → SameMarks s t f w ps → SameMarks s t f w (reverse ps)
-  marks_reversed [] h = tt
-  marks_reversed (r ∷ ps) h = subst (SameMarks s t f w) (sym (reverse-append (r ∷ []) ps)) (marks_both (reverse ps) (r ∷ []) (marks_reversed ps h.1) (h.0, tt))
+  thresholds_reversed : (ps : List Routine) → SameThresholds s t f w ps → SameThresholds s t f w (reverse ps)
+  thresholds_reversed [] h = tt
+  thresholds_reversed (r ∷ ps) h = subst (SameThresholds s t f w) (sym (reverse-append (r ∷ []) ps)) (thresholds_both (reverse ps) (r ∷ []) (thresholds_reversed ps h.1) (h.0, tt))
 
-  marks_each : (ps : List Routine) → map (marks w) (swap_all s t f ps) ≡ map (marks w) ps → SameMarks s t f w ps
-  marks_each [] e = tt
-  marks_each (r ∷ ps) e = (cc, marks_each ps cc)
+  thresholds_each : (ps : List Routine) → map (thresholds w) (swap_all s t f ps) ≡ map (thresholds w) ps → SameThresholds s t f w ps
+  thresholds_each [] e = tt
+  thresholds_each (r ∷ ps) e = (cc, thresholds_each ps cc)
 
-  pub marks_back : (ps : List Routine) → map (marks w) (swap_all s t f ps) ≡ map (marks w) ps → SameMarks s t f w (reverse ps)
-  marks_back ps e = marks_reversed ps (marks_each ps e)
+  pub thresholds_back : (ps : List Routine) → map (thresholds w) (swap_all s t f ps) ≡ map (thresholds w) ps → SameThresholds s t f w (reverse ps)
+  thresholds_back ps e = thresholds_reversed ps (thresholds_each ps e)

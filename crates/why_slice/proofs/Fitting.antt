@@ -3,22 +3,22 @@ use Rattle.std.proofs.Common.{◌≡◌, ℕ, zero, suc, ℤ, List, [], ◌∷�
 use Rattle.imp_slots.specs.Plain.{Layout, Guard, Effect, Code, Stop, Simple, If, While, Call, Break, Routine}
 use Rattle.imp_slots.specs.Fits.{fits_effect, fits_guard, FitsCode}
 use Rattle.concrete_sem.specs.Values.{Variables, Heap}
-use Rattle.program_chains.specs.Marks.{IsRising}
-use Rattle.program_chains.specs.Claims.{MarksRise}
+use Rattle.imp_chains.specs.Thresholds.{IsRising}
+use Rattle.imp_chains.specs.Claims.{ThresholdsRise}
 use Rattle.domain_laws.specs.Operations.{Operations}
 use Rattle.domain_laws.specs.Laws.{Laws}
 use Rattle.batch_meaning.specs.Values.{Value, State, Over, lift, lift2}
-use Rattle.batch_meaning.specs.Batch.{Engine, next_of}
+use Rattle.batch_meaning.specs.Batch.{LoopOptions, next_of}
 use Rattle.batch_meaning.specs.Places.{from, main_layout}
 use Rattle.batch_meaning.proofs.Procedures.{look_get, FitBack, fit_back_from}
 use Rattle.batch_sound.proofs.Values.{Fit, fit_assume}
 use Rattle.batch_sound.proofs.Fitting.{FitPassed, block_fit, procedure_fit, entered_fit}
-use Rattle.cell_names.specs.declared.frame.Frame.{Frame}
-use Rattle.cell_names.specs.declared.frame.Frame.TheVariants.{InCall, InLoop}
-use Rattle.plain_values.proofs.Cases.{by_test, given_item}
-use Rattle.plain_values.proofs.Members.{Each, each_more, each_both, none_there}
+use Rattle.cell_names.specs.declared.frame.NameFrame.{NameFrame}
+use Rattle.cell_names.specs.declared.frame.NameFrame.TheVariants.{InCall, InLoop}
+use Rattle.base_values.proofs.Cases.{by_test, given_item}
+use Rattle.base_values.proofs.Members.{Each, each_more, each_both, none_there}
 use Rattle.cell_rows.specs.Blocks.{iterate_at}
-use Rattle.cell_rows.specs.Names.{Scope, Mark, At, Algebra, Place, entry, inside, behind_it, level, start_of, in_call, in_loop, round_place, follow}
+use Rattle.cell_rows.specs.Names.{Scope, Mark, At, Algebra, PathBlock, entry, inside, behind_it, level, start_of, in_call, in_loop, round_place, follow}
 use Rattle.cell_rows.specs.Cells.{Cell, values, calls, block, after_value, iterate_value, one_round}
 use Rattle.cell_rows.proofs.Lookup.{Stands, unstated}
 use Rattle.why_slice.proofs.Shifted.{swap, pick_it}
@@ -54,7 +54,7 @@ suit_from : (s : ℕ) (f : Effect) (ps : List Routine) (q : ℕ) → AllSuit s f
 suit_from s f [] q h = tt
 suit_from s f (r ∷ ps) q h = by_test q (length ps) (λ c. AllSuit s f (if c then r ∷ ps else from ps q)) (λ e. h) (λ e. suit_from s f ps q h.1)
 
-module _ {S : Type 0} (dom : Operations S) (engine : Engine) (covers : S → Heap → List Variables → Type 0) (laws : Laws dom covers) (rises : MarksRise) (s : ℕ) (f : Effect) where
+module _ {S : Type 0} (dom : Operations S) (engine : LoopOptions) (covers : S → Heap → List Variables → Type 0) (laws : Laws dom covers) (rises : ThresholdsRise) (s : ℕ) (f : Effect) where
   abbrev pub G : Value S → List Layout → Type 0
   G = Fit dom engine covers laws
 
@@ -79,15 +79,15 @@ module _ {S : Type 0} (dom : Operations S) (engine : Engine) (covers : S → Hea
     M = Mark (Cell S)
 
     abbrev P : Type 0
-    P = Place engine A
+    P = PathBlock engine A
 
-    module _ (scope : Scope) (z : List ℕ) (rising : IsRising scope.marks) (procs : FitBack scope.earlier) (l : Layout) (ls : List Layout) where
+    module _ (scope : Scope) (z : List ℕ) (rising : IsRising scope.thresholds) (procs : FitBack scope.earlier) (l : Layout) (ls : List Layout) where
       abbrev before : List Routine
       before = reverse scope.earlier
 
       block_fits : (c : Code) (a : Value S) → FitsCode before l c → G a (l ∷ ls) → FitPassed dom engine covers laws (l ∷ ls) (block dom engine scope z c a)
       block_fits c a h g =
-          block_fit dom engine covers laws scope.marks rising z (calls dom engine scope z) before l ls
+          block_fit dom engine covers laws scope.thresholds rising z (calls dom engine scope z) before l ls
           (λ n q c v e h. procedure_fit dom engine covers laws rises scope.earlier (n ∷ z) q c (l ∷ ls) v (look_get scope.earlier q ∙ e) procs h) c a h g
 
       after_fits : (c : Code) (a : Value S) → FitsCode before l c → G a (l ∷ ls) → G (after_value dom engine scope z c a) (l ∷ ls)
@@ -101,7 +101,7 @@ module _ {S : Type 0} (dom : Operations S) (engine : Engine) (covers : S → Hea
       pub round_fits : (c : Guard) (b : Code) (k : ℕ) (a : Cell S) → fits_guard l c ≡ true → FitsCode before l b → G a.value (l ∷ ls) → G (iterate_value dom engine scope z c b k a).value (l ∷ ls)
       round_fits c b zero a h i g = g
       round_fits c b (suc k) a h i g =
-          iterate_fits (l ∷ ls) scope.marks rising (one_round dom engine scope z c b) (λ v j. (block_fits b (lift (dom.assume c true) v) i (fit_assume dom engine covers laws c true l ls v h j)).value) (suc k) a.value g
+          iterate_fits (l ∷ ls) scope.thresholds rising (one_round dom engine scope z c b) (λ v j. (block_fits b (lift (dom.assume c true) v) i (fit_assume dom engine covers laws c true l ls v h j)).value) (suc k) a.value g
 
       -- What stands in front of a statement of a block fits, and the statement does.
       pub record AtFits (x : ℕ × At (Cell S)) : Type 0 where
@@ -128,7 +128,7 @@ module _ {S : Type 0} (dom : Operations S) (engine : Engine) (covers : S → Hea
     pub record PlaceFits (b : P) : Type 0 where
       pub frame : Layout
       pub below : List Layout
-      pub rising : IsRising b.scope.marks
+      pub rising : IsRising b.scope.thresholds
       pub procs : FitBack b.scope.earlier
       pub suit : AllSuit s f b.scope.earlier
       pub code : FitsCode (reverse b.scope.earlier) frame b.code
@@ -186,7 +186,7 @@ module _ {S : Type 0} (dom : Operations S) (engine : Engine) (covers : S → Hea
     abbrev B : Algebra (Cell S)
     B = values dom engine (main_layout program)
 
-    pub follow_fits : (w : List Frame) (b : Place engine B) → follow engine B program w ≡ Some b → PlaceFits (main_layout program) b
+    pub follow_fits : (w : List NameFrame) (b : PathBlock engine B) → follow engine B program w ≡ Some b → PlaceFits (main_layout program) b
     follow_fits [] b e = start_fits (main_layout program) program [] _ b [] fits suit (λ r ps j. subst (λ qs. G (State (dom.init (main_layout qs))) (r.layout ∷ [])) (sym j) (laws.fitting.init r.layout)) e
     follow_fits (InCall n ∷ w) b e =
         let u = unstated engine B (follow engine B program w) n (λ b. in_call engine B b n) b e in

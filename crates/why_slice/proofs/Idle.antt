@@ -3,20 +3,20 @@ use Rattle.std.proofs.Common.{◌≡◌, ℕ, zero, suc, List, ◌∷◌, revers
 use Rattle.imp_slots.specs.Plain.{Layout, Guard, Effect, DoBreak, Does, Invoke, Code, Stop, Simple, If, While, Call, Break, Routine}
 use Rattle.imp_slots.specs.Fits.{fits_effect, IsChecked}
 use Rattle.concrete_sem.specs.Values.{Variables, Heap}
-use Rattle.program_chains.specs.Claims.{MarksRise}
+use Rattle.imp_chains.specs.Claims.{ThresholdsRise}
 use Rattle.domain_laws.specs.Operations.{Operations}
 use Rattle.domain_laws.specs.Laws.{Laws, KeepsDead}
 use Rattle.batch_meaning.specs.Values.{Value, State, Over, lift}
-use Rattle.batch_meaning.specs.Batch.{Engine}
+use Rattle.batch_meaning.specs.Batch.{LoopOptions}
 use Rattle.batch_meaning.specs.Places.{if_some, main_layout}
 use Rattle.batch_meaning.proofs.Procedures.{fit_back}
 use Rattle.batch_sound.proofs.Values.{Fit}
-use Rattle.cell_names.specs.declared.frame.Frame.{Frame}
-use Rattle.cell_names.specs.declared.frame.Frame.TheVariants.{InCall}
+use Rattle.cell_names.specs.declared.frame.NameFrame.{NameFrame}
+use Rattle.cell_names.specs.declared.frame.NameFrame.TheVariants.{InCall}
 use Rattle.cell_names.specs.declared.frame.Point.{Point}
 use Rattle.cell_names.specs.declared.frame.Point.TheVariants.{Entry, Body, Post}
 use Rattle.cell_names.specs.Paths.{CellName}
-use Rattle.cell_rows.specs.Names.{IsSame, name, Mark, Place, Algebra, number, breaks, in_call, statement, follow, post_mark}
+use Rattle.cell_rows.specs.Names.{IsSame, name, Mark, PathBlock, Algebra, number, breaks, in_call, statement, follow, post_mark}
 use Rattle.cell_rows.specs.Rows.{Posts, Assumes, Enters, Exits, Leaves, Row, Init, One, Two, Fixed, Joins, joined_point, last_point, leave_points, loop_row, post_row}
 use Rattle.cell_rows.specs.Cells.{Cell, values, plain, unary, row_of_name, value_of_mark}
 use Rattle.cell_rows.specs.Flat.{flat_row}
@@ -28,13 +28,13 @@ use Rattle.cell_rows.proofs.FlatRows.{flat_row_is}
 use Rattle.cell_rows.proofs.Lookup.{unstated, fine}
 use Rattle.cell_rows.proofs.TableProofs.{tie, by_tie, mark_at_name}
 use Rattle.cell_rows.proofs.Tied.{Led, led_to, front_found}
-use Rattle.demand_laws.specs.Claims.{found_by}
+use Rattle.daig_demands.specs.Claims.{found_by}
 use Rattle.why_slice.specs.Upstream.{is_live}
 use Rattle.why_slice.proofs.Fitting.{AllSuit, follow_fits, at_fits}
 use Rattle.std.proofs.lemmas.Option.{same_Some}
 use Rattle.std.proofs.lemmas.Bool.{not-false}
 
-module _ {S : Type 0} (dom : Operations S) (engine : Engine) (covers : S → Heap → List Variables → Type 0) (laws : Laws dom covers) (rises : MarksRise) (dead : KeepsDead dom) where
+module _ {S : Type 0} (dom : Operations S) (engine : LoopOptions) (covers : S → Heap → List Variables → Type 0) (laws : Laws dom covers) (rises : ThresholdsRise) (dead : KeepsDead dom) where
   -- on a value that fits
   idle_value : (l : Layout) (ls : List Layout) (e f : Effect) (v : Value S) → fits_effect l e ≡ true → fits_effect l f ≡ true → Fit dom engine covers laws v (l ∷ ls) → is_live dom v ≡ false → lift (dom.post (Does e)) v ≡ lift (dom.post (Does f)) v
   idle_value l ls e f (Over n z) h k g i = refl
@@ -53,7 +53,7 @@ module _ {S : Type 0} (dom : Operations S) (engine : Engine) (covers : S → Hea
     M = Mark (Cell S)
 
     abbrev P : Type 0
-    P = Place engine A
+    P = PathBlock engine A
 
     abbrev found : CellName → Cell S
     found = found_by dom engine program same
@@ -81,7 +81,7 @@ module _ {S : Type 0} (dom : Operations S) (engine : Engine) (covers : S → Hea
     input_of (Fixed n z w p) = Entry
     input_of (Joins stays l n w p) = Entry
 
-    loop_effects : (w : List Frame) (n : ℕ) (g : Guard) (body : Code) (k : ℕ) → effects (loop_row engine A w n g body k) ≡ None
+    loop_effects : (w : List NameFrame) (n : ℕ) (g : Guard) (body : Code) (k : ℕ) → effects (loop_row engine A w n g body k) ≡ None
     loop_effects w n g body zero = refl
     loop_effects w n g body (suc i) = go (slice_get (leave_points body Body) i)
       where
@@ -89,17 +89,17 @@ module _ {S : Type 0} (dom : Operations S) (engine : Engine) (covers : S → Hea
         go None = refl
         go (Some p) = refl
 
-    call_effects : (w : List Frame) (i : Invoke) (n : ℕ) (o : Option P) (p : Point) → effects (if_some o (λ d. Some (Two (Leaves i.returning) (name w p) (name (InCall n ∷ w) (last_point d.code Entry))))) ≡ None
+    call_effects : (w : List NameFrame) (i : Invoke) (n : ℕ) (o : Option P) (p : Point) → effects (if_some o (λ d. Some (Two (Leaves i.returning) (name w p) (name (InCall n ∷ w) (last_point d.code Entry))))) ≡ None
     call_effects w i n None p = refl
     call_effects w i n (Some d) p = refl
 
     -- the value in front of a statement that a path leads to
-    found_front : (w : List Frame) (b : P) (y : M) (d : Code) → Led dom engine back (all_fine program checked) w b y d → found (name w y.point) ≡ y.value
+    found_front : (w : List NameFrame) (b : P) (y : M) (d : Code) → Led dom engine back (all_fine program checked) w b y d → found (name w y.point) ≡ y.value
     found_front w b y d l =
         let i = front_found dom engine back (all_fine program checked) w b y d l in
         total_batch dom engine program checked same is (name w y.point) (y, i) ∙ ap (value_of_mark dom engine) i
 
-    idle_at : (w : List Frame) (b : P) (y : M) (d : Code) (e : Effect) (p : Point) → Led dom engine back (all_fine program checked) w b y d → s ≡ number d →
+    idle_at : (w : List NameFrame) (b : P) (y : M) (d : Code) (e : Effect) (p : Point) → Led dom engine back (all_fine program checked) w b y d → s ≡ number d →
         post_row engine A w b y d ≡ Some (One (Posts (Does e)) (name w p)) → is_live dom (found (name w p)).value ≡ false →
         unary dom engine (Posts (Does e)) (found (name w p)) ≡ unary dom engine (Posts (Does f)) (found (name w p))
     idle_at w b y Stop e p l k r h = absurd cc
@@ -121,7 +121,7 @@ module _ {S : Type 0} (dom : Operations S) (engine : Engine) (covers : S → Hea
 
     -- Behind the statement s of a program, where it is a simple one, another one gives the same, if the value in front of
     -- it is not live.
-    pub idle : (w : List Frame) (e : Effect) (p : Point) → HasName engine program (name w (Post s)) → flat_row engine back w (Post s) ≡ Some (One (Posts (Does e)) (name w p)) →
+    pub idle : (w : List NameFrame) (e : Effect) (p : Point) → HasName engine program (name w (Post s)) → flat_row engine back w (Post s) ≡ Some (One (Posts (Does e)) (name w p)) →
         is_live dom (found (name w p)).value ≡ false → unary dom engine (Posts (Does e)) (found (name w p)) ≡ unary dom engine (Posts (Does f)) (found (name w p))
     idle w e p has row h =
         let v = valued dom engine program checked (name w (Post s)) has in

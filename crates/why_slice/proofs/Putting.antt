@@ -4,7 +4,7 @@ use Rattle.std.proofs.lemmas.List.Sums.{fold-append}
 use Rattle.std.proofs.lemmas.List.{get_or_default}
 use Rattle.std.specs.BTreeSet.{insert_key}
 use Rattle.std.specs.Ordering.{nat_cmp}
-use Rattle.plain_values.proofs.Lists.{take_item}
+use Rattle.base_values.proofs.Lists.{take_item}
 use Rattle.why_slice.specs.Upstream.{all_of}
 
 pub put_next : (old now new ns : List ℕ) (i x : ℕ) → i < length ns → x ≡ get_or ns i x → now ≡ fold (insert_key nat_cmp) old (take i ns) → new ≡ insert_key nat_cmp now x → new ≡ fold (insert_key nat_cmp) old (take (i + 1) ns)

@@ -4,8 +4,8 @@ use Rattle.std.specs.BTreeSet.{insert_key}
 use Rattle.std.proofs.Common.{Ordering, Less, Equal, Greater}
 use Rattle.std.specs.Ordering.{nat_cmp, MatchOrdering, match_ordering}
 use Rattle.std.specs.Cmp.{ranked}
-use Rattle.plain_values.proofs.Members.{Member, here, there}
-use Rattle.why_slice.specs.Upstream.{rising}
+use Rattle.base_values.proofs.Members.{Member, here, there}
+use Rattle.why_slice.specs.Upstream.{sorted_once}
 
 abbrev put : List ℕ → ℕ → List ℕ
 put = insert_key nat_cmp
@@ -102,14 +102,14 @@ all_strict : (ks ns : List ℕ) → Strict ks → Strict (fold put ks ns)
 all_strict ks [] s = s
 all_strict ks (n ∷ ns) s = all_strict (put ks n) ns (strict_put ks n s)
 
-pub rising_strict : (ns : List ℕ) → Strict (rising ns)
+pub rising_strict : (ns : List ℕ) → Strict (sorted_once ns)
 rising_strict ns = all_strict [] ns tt
 
 -- exactly the numbers of the list
-pub in_rising : (ns : List ℕ) (i : ℕ) → Member i ns → Member i (rising ns)
+pub in_rising : (ns : List ℕ) (i : ℕ) → Member i ns → Member i (sorted_once ns)
 in_rising ns i m = all_there [] ns i m
 
-pub of_rising : (ns : List ℕ) (i : ℕ) → Member i (rising ns) → Member i ns
+pub of_rising : (ns : List ℕ) (i : ℕ) → Member i (sorted_once ns) → Member i ns
 of_rising ns i m = elim (all_put [] ns i m) [ inl a ↦ elim a [ ] | inr b ↦ b ]
 
 -- Strictly rising lists of the same numbers are the same.
@@ -134,6 +134,6 @@ strict_same (x ∷ xs) (y ∷ ys) s t f g =
     tail_g : x ≡ y → (i : ℕ) → Member i ys → Member i (x ∷ xs) → Member i xs
     tail_g e i m k = elim (cases i x xs k) [ inl j ↦ let a : y < i = t.0 i m in absurd (omega arith) | inr l ↦ l ]
 
-pub rising_same : (xs ys : List ℕ) → ((i : ℕ) → Member i xs → Member i ys) → ((i : ℕ) → Member i ys → Member i xs) → rising xs ≡ rising ys
+pub rising_same : (xs ys : List ℕ) → ((i : ℕ) → Member i xs → Member i ys) → ((i : ℕ) → Member i ys → Member i xs) → sorted_once xs ≡ sorted_once ys
 rising_same xs ys f g =
-    strict_same (rising xs) (rising ys) (rising_strict xs) (rising_strict ys) (λ i m. in_rising ys i (f i (of_rising xs i m))) (λ i m. in_rising xs i (g i (of_rising ys i m)))
+    strict_same (sorted_once xs) (sorted_once ys) (rising_strict xs) (rising_strict ys) (λ i m. in_rising ys i (f i (of_rising xs i m))) (λ i m. in_rising xs i (g i (of_rising ys i m)))

@@ -8,8 +8,8 @@ use Rattle.batch_meaning.proofs.Places.{found_member}
 use Rattle.cell_names.specs.declared.frame.Point.{Point}
 use Rattle.cell_names.specs.declared.frame.Point.TheVariants.{Entry, Then, Else, Body, Post, Iterate, Fix, Exit, Leap}
 use Rattle.cell_names.specs.Paths.{CellName}
-use Rattle.plain_values.proofs.Cases.{by_test}
-use Rattle.plain_values.proofs.Members.{Member, here, there, keys}
+use Rattle.base_values.proofs.Cases.{by_test}
+use Rattle.base_values.proofs.Members.{Member, here, there, keys}
 use Rattle.cell_rows.specs.Names.{name, breaks, break_numbers}
 use Rattle.cell_rows.specs.Rows.{Row, Init, One, Two, Fixed, Joins, last_point, leave_points}
 use Rattle.cell_rows.specs.Targets.{Text, text, deeper, texts}

@@ -4,17 +4,17 @@ use Rattle.std.proofs.lemmas.List.{map-append}
 use Rattle.std.proofs.lemmas.Option.{slice_get-map}
 use Rattle.std.proofs.Common.{◌≡◌, ◌≢◌, ℕ, zero, suc, List, [], ◌∷◌, ◌++◌, length, map, Option, Some, None, Bool, true, false, if◌then◌else◌, ◌==◌, refl, sym, ap, ◌∙◌, nat_lt, slice_get}
 use Rattle.imp_slots.specs.Plain.{Guard, Effect, Does, Code, Stop, Simple, If, While, Call, Break, Routine}
-use Rattle.program_chains.specs.declared.widening.Widening.{Widening}
-use Rattle.program_chains.specs.Marks.{marks}
-use Rattle.batch_meaning.specs.Batch.{Engine}
+use Rattle.imp_chains.specs.declared.widening.Widening.{Widening}
+use Rattle.imp_chains.specs.Thresholds.{thresholds}
+use Rattle.batch_meaning.specs.Batch.{LoopOptions}
 use Rattle.batch_meaning.specs.Places.{if_some, from}
-use Rattle.cell_names.specs.declared.frame.Frame.{Frame}
-use Rattle.cell_names.specs.declared.frame.Frame.TheVariants.{InCall, InLoop}
+use Rattle.cell_names.specs.declared.frame.NameFrame.{NameFrame}
+use Rattle.cell_names.specs.declared.frame.NameFrame.TheVariants.{InCall, InLoop}
 use Rattle.cell_names.specs.declared.frame.Point.{Point}
 use Rattle.cell_names.specs.declared.frame.Point.TheVariants.{Entry, Then, Else, Body, Post, Fix, Leap}
-use Rattle.plain_values.proofs.Cases.{by_test}
-use Rattle.plain_values.proofs.Members.{Each, each_more, each_both, none_there}
-use Rattle.cell_rows.specs.Names.{scope_of, name, Mark, mark, Place, bare, number, breaks, break_numbers, place_of, item, start_of, iterate_point, when}
+use Rattle.base_values.proofs.Cases.{by_test}
+use Rattle.base_values.proofs.Members.{Each, each_more, each_both, none_there}
+use Rattle.cell_rows.specs.Names.{scope_of, name, Mark, mark, PathBlock, bare, number, breaks, break_numbers, place_of, item, start_of, iterate_point, when}
 use Rattle.cell_rows.specs.Rows as R
 use Rattle.cell_rows.specs.Rows.{Row, One, Two, Joins, Posts, Enters, Leaves, last_point, leave_points, joined_point, next_operation, branch_row, post_row, next_row, fix_row, exit_row, leap_row, enter_row, turn_row, loop_row, joins_row}
 use Rattle.cell_rows.specs.Targets.{Text, deeper, texts}
@@ -56,10 +56,10 @@ module _ (s t : ℕ) (f : Effect) where
       ∙ ap (λ k. map (shift_entry s t swap_flat) (map (flat_of r ps) (texts r.code Entry)) ++ k) (flat_shifted ps h.1)
       ∙ sym (map-append (shift_entry s t swap_flat) (map (flat_of r ps) (texts r.code Entry)) (flat ps))
 
-  -- the marks of each procedure are the same
-  abbrev pub SameMarks : Widening → List Routine → Type 0
-  SameMarks w [] = Unit {0}
-  SameMarks w (r ∷ rs) = (marks w (swap_routine r) ≡ marks w r) × SameMarks w rs
+  -- the thresholds of each procedure are the same
+  abbrev pub SameThresholds : Widening → List Routine → Type 0
+  SameThresholds w [] = Unit {0}
+  SameThresholds w (r ∷ rs) = (thresholds w (swap_routine r) ≡ thresholds w r) × SameThresholds w rs
 
   pub simple_from : (ps : List Routine) (q : ℕ) → IsSimple s ps → IsSimple s (from ps q)
   simple_from [] q h = tt
@@ -82,21 +82,21 @@ module _ (s t : ℕ) (f : Effect) where
     pub numbered : x.0 ≡ number x.1.text.code
     pub only : OnlySimple s x.1.text.code
     pub earlier : IsSimple s x.1.earlier
-    pub marked : marks w (swap_routine x.1.routine) ≡ marks w x.1.routine
+    pub marked : thresholds w (swap_routine x.1.routine) ≡ thresholds w x.1.routine
 
-  pub known : (w : Widening) (ps : List Routine) → IsSimple s ps → SameMarks w ps → Each (Known w) (flat ps)
+  pub known : (w : Widening) (ps : List Routine) → IsSimple s ps → SameThresholds w ps → Each (Known w) (flat ps)
   known w [] h m = none_there (Known w)
   known w (r ∷ ps) h m =
       each_both (Known w) _ _
       (each_map (flat_of r ps) KnownText (Known w) (λ x k. record { numbered = k.0; only = k.1; earlier = h.1; marked = m.0 }) (texts r.code Entry) (known_texts r.code Entry h.0))
       (known w ps h.1 m.1)
 
-  module _ (engine : Engine) where
+  module _ (engine : LoopOptions) where
     abbrev N : ℕ
     N = engine.budget
 
     abbrev Q : Type 0
-    Q = Place engine bare
+    Q = PathBlock engine bare
 
     abbrev U : Type 0
     U = Mark (Unit {0})
@@ -120,7 +120,7 @@ module _ (s t : ℕ) (f : Effect) where
     shifted_joined n body zero = refl
     shifted_joined n body (suc i) = ap (λ k. Leap n (item k i)) (break_numbers_swapped s t f body)
 
-    module _ (w : List Frame) where
+    module _ (w : List NameFrame) where
       shifted_joins : (stays : Bool) (n : ℕ) (body : Code) (i : ℕ) → OnlySimple s body → joins_row engine bare w stays n (swap s t f body) i ≡ option_map (shift_row s t) (joins_row engine bare w stays n body i)
       shifted_joins stays n body i h =
           ap (λ ps. if_some (slice_get ps i) (λ p. Some (Joins stays (name w (joined_point n (swap s t f body) i)) n w p))) (leave_shifted s t f body Body h)
@@ -142,7 +142,7 @@ module _ (s t : ℕ) (f : Effect) where
       shifted_callee [] z x g h i k = refl
       shifted_callee (r ∷ ps) z x g h i k = ap (λ r. Some r) (k r.code i.0)
 
-      module _ (r : Routine) (e : List Routine) (z : List ℕ) (marked : marks engine.widening (swap_routine r) ≡ marks engine.widening r) (simple : IsSimple s e) (p : Point) where
+      module _ (r : Routine) (e : List Routine) (z : List ℕ) (marked : thresholds engine.widening (swap_routine r) ≡ thresholds engine.widening r) (simple : IsSimple s e) (p : Point) where
         -- What a reading of rows gives in the other program.
         abbrev Shifts : (Q → U → Code → Option Row) → Code → Type 0
         Shifts g d = g (place (swap_routine r) (swap_all e) z (swap s t f d)) (front (shift_point s t p)) (swap s t f d) ≡ option_map (shift_row s t) (g (place r e z d) (front p) d)
@@ -169,9 +169,9 @@ module _ (s t : ℕ) (f : Effect) where
         next_shifts k (If n g a b q) h = refl
         next_shifts k (While n g b q) h =
             ap (λ ms. when engine bare (nat_lt k N) (Two (next_operation engine ms k) (name w (iterate_point engine bare n (shift_point s t p) k)) (name (InLoop n k ∷ w) (last_point (swap s t f b) Body)))) marked
-            ∙ ap (λ i. when engine bare (nat_lt k N) (Two (next_operation engine (marks engine.widening r) k) (name w i) (name (InLoop n k ∷ w) (last_point (swap s t f b) Body)))) (shifted_iterate n p k)
-            ∙ ap (λ l. when engine bare (nat_lt k N) (Two (next_operation engine (marks engine.widening r) k) (name w (shift_point s t (iterate_point engine bare n p k))) (name (InLoop n k ∷ w) l))) (last_shifted s t f b Body h.1)
-            ∙ shifted_when (nat_lt k N) (Two (next_operation engine (marks engine.widening r) k) (name w (iterate_point engine bare n p k)) (name (InLoop n k ∷ w) (last_point b Body)))
+            ∙ ap (λ i. when engine bare (nat_lt k N) (Two (next_operation engine (thresholds engine.widening r) k) (name w i) (name (InLoop n k ∷ w) (last_point (swap s t f b) Body)))) (shifted_iterate n p k)
+            ∙ ap (λ l. when engine bare (nat_lt k N) (Two (next_operation engine (thresholds engine.widening r) k) (name w (shift_point s t (iterate_point engine bare n p k))) (name (InLoop n k ∷ w) l))) (last_shifted s t f b Body h.1)
+            ∙ shifted_when (nat_lt k N) (Two (next_operation engine (thresholds engine.widening r) k) (name w (iterate_point engine bare n p k)) (name (InLoop n k ∷ w) (last_point b Body)))
         next_shifts k (Call n i j q) h = refl
         next_shifts k (Break n q) h = refl
 

@@ -3,21 +3,21 @@ use Rattle.std.specs.Option.{option_map}
 use Rattle.std.proofs.Common.{◌≡◌, ◌≢◌, ℕ, zero, suc, List, [], ◌∷◌, Option, Some, Bool, true, false, refl, sym, ap, ◌∙◌, subst}
 use Rattle.imp_slots.specs.Plain.{Effect, Does, Code, Stop, Simple, If, While, Call, Break, Routine}
 use Rattle.imp_slots.specs.Fits.{Absent}
-use Rattle.batch_meaning.specs.Batch.{Engine}
+use Rattle.batch_meaning.specs.Batch.{LoopOptions}
 use Rattle.batch_meaning.specs.Places.{find, if_some, main_layout}
 use Rattle.batch_meaning.proofs.Places.{found_member}
-use Rattle.cell_names.specs.declared.frame.Frame.{Frame}
-use Rattle.cell_names.specs.declared.frame.Frame.TheVariants.{InCall, InLoop}
+use Rattle.cell_names.specs.declared.frame.NameFrame.{NameFrame}
+use Rattle.cell_names.specs.declared.frame.NameFrame.TheVariants.{InCall, InLoop}
 use Rattle.cell_names.specs.declared.frame.Point.{Point}
 use Rattle.cell_names.specs.declared.frame.Point.TheVariants.{Entry, Then, Else, Body, Post, Iterate, Fix, Exit, Leap}
-use Rattle.plain_values.proofs.Members.{keys}
-use Rattle.cell_rows.specs.Names.{name, Mark, mark, Place, bare, number}
+use Rattle.base_values.proofs.Members.{keys}
+use Rattle.cell_rows.specs.Names.{name, Mark, mark, PathBlock, bare, number}
 use Rattle.cell_rows.specs.Rows.{Row, Init, One, Posts, sites_of, branch_row, post_row, next_row, fix_row, exit_row, leap_row, enter_row, turn_row}
 use Rattle.cell_rows.specs.Flat.{Flat, flat, stand_in, by_text, flat_row}
 use Rattle.cell_rows.proofs.Lookup.{then_some}
 use Rattle.why_slice.specs.Exchanged.{OnlySimple, IsSimple}
 use Rattle.why_slice.proofs.Shifted.{shift_number, shift_point, shift, shift_row, shift_other, shift_it, find_shifted, pick_it, swap}
-use Rattle.why_slice.proofs.ShiftedRows.{swap_all, swap_flat, flat_shifted, SameMarks, Known, known, branch_shifts, turn_shifts, next_shifts, fix_shifts, exit_shifts, leap_shifts, enter_shifts, post_shifts}
+use Rattle.why_slice.proofs.ShiftedRows.{swap_all, swap_flat, flat_shifted, SameThresholds, Known, known, branch_shifts, turn_shifts, next_shifts, fix_shifts, exit_shifts, leap_shifts, enter_shifts, post_shifts}
 use Rattle.std.proofs.lemmas.Option.{same_Some}
 
 abbrev Compound : Code → Type 0
@@ -36,7 +36,7 @@ apart s (While n g b r) h c = h.0
 apart s (Call n i q r) h c = h.0
 apart s (Break n r) h c = h.0
 
-module _ (engine : Engine) (w : List Frame) (b : Place engine bare) (x : Mark (Unit {0})) (r : Row) where
+module _ (engine : LoopOptions) (w : List NameFrame) (b : PathBlock engine bare) (x : Mark (Unit {0})) (r : Row) where
   branch_compound : (h : Bool) (d : Code) → branch_row engine bare w h b x d ≡ Some r → Compound d
   branch_compound h Stop e = absurd cc
   branch_compound h (Simple n a q) e = absurd cc
@@ -93,28 +93,28 @@ module _ (engine : Engine) (w : List Frame) (b : Place engine bare) (x : Mark (U
   enter_compound n (Call m i k q) e = tt
   enter_compound n (Break m q) e = tt
 
-module _ (s t : ℕ) (f : Effect) (engine : Engine) (ps : List Routine) (simple : IsSimple s ps) (marked : SameMarks s t f engine.widening ps) (fresh : Absent t (keys (flat ps))) where
+module _ (s t : ℕ) (f : Effect) (engine : LoopOptions) (ps : List Routine) (simple : IsSimple s ps) (marked : SameThresholds s t f engine.widening ps) (fresh : Absent t (keys (flat ps))) where
   abbrev others : List Routine
   others = swap_all s t f ps
 
   abbrev Reads : Type 0
-  Reads = Place engine bare → Mark (Unit {0}) → Code → Option Row
+  Reads = PathBlock engine bare → Mark (Unit {0}) → Code → Option Row
 
   abbrev KnownAt : ℕ → Flat → Type 0
   KnownAt n u = Known s t f engine.widening (n, u)
 
-  abbrev read : List Frame → Reads → Flat → Option Row
+  abbrev read : List NameFrame → Reads → Flat → Option Row
   read w g u = g (stand_in engine ps w u) (mark u.text.front 0 tt) u.text.code
 
   looked : (n : ℕ) (u : Flat) → find n (flat ps) ≡ Some u → find (shift_number s t n) (flat others) ≡ Some (swap_flat s t f u)
   looked n u e = ap (find (shift_number s t n)) (flat_shifted s t f ps simple) ∙ find_shifted s t (swap_flat s t f) n u (flat ps) fresh e
 
   -- at the shifted number
-  text_at : (w : List Frame) (n : ℕ) (g : Reads) (r : Row) (u : Flat) → find n (flat ps) ≡ Some u → read w g (swap_flat s t f u) ≡ Some r → by_text engine others w (shift_number s t n) g ≡ Some r
+  text_at : (w : List NameFrame) (n : ℕ) (g : Reads) (r : Row) (u : Flat) → find n (flat ps) ≡ Some u → read w g (swap_flat s t f u) ≡ Some r → by_text engine others w (shift_number s t n) g ≡ Some r
   text_at w n g r u e i = ap (λ o. if_some o (λ u. g (stand_in engine others w u) (mark u.text.front 0 tt) u.text.code)) (looked n u e) ∙ i
 
   -- at a number that is not the exchanged one
-  text_shifts : (w : List Frame) (n : ℕ) (g : Reads) (r : Row) → ((u : Flat) → KnownAt n u → read w g u ≡ Some r → (number u.text.code ≢ s) × (read w g (swap_flat s t f u) ≡ option_map (shift_row s t) (read w g u))) → by_text engine ps w n g ≡ Some r → by_text engine others w n g ≡ Some (shift_row s t r)
+  text_shifts : (w : List NameFrame) (n : ℕ) (g : Reads) (r : Row) → ((u : Flat) → KnownAt n u → read w g u ≡ Some r → (number u.text.code ≢ s) × (read w g (swap_flat s t f u) ≡ option_map (shift_row s t) (read w g u))) → by_text engine ps w n g ≡ Some r → by_text engine others w n g ≡ Some (shift_row s t r)
   text_shifts w n g r h e =
       let p = then_some (find n (flat ps)) (read w g) r e in
       let u = p.0 in
@@ -124,13 +124,13 @@ module _ (s t : ℕ) (f : Effect) (engine : Engine) (ps : List Routine) (simple 
       (text_at w n g (shift_row s t r) u p.1 (i.1 ∙ ap (option_map (shift_row s t)) p.2))
 
   -- The row behind the exchanged statement.
-  pub record Exchanges (w : List Frame) (r : Row) : Type 0 where
+  pub record Exchanges (w : List NameFrame) (r : Row) : Type 0 where
     pub effect : Effect
     pub front : Point
     pub old : r ≡ One (Posts (Does effect)) (name w front)
     pub new : flat_row engine others w (Post t) ≡ Some (One (Posts (Does f)) (shift s t (name w front)))
 
-  exchanged_by : (w : List Frame) (r : Row) (u : Flat) (d : Code) → u.text.code ≡ d → find s (flat ps) ≡ Some u → s ≡ number d → OnlySimple s d → post_row engine bare w (stand_in engine ps w u) (mark u.text.front 0 tt) d ≡ Some r → Exchanges w r
+  exchanged_by : (w : List NameFrame) (r : Row) (u : Flat) (d : Code) → u.text.code ≡ d → find s (flat ps) ≡ Some u → s ≡ number d → OnlySimple s d → post_row engine bare w (stand_in engine ps w u) (mark u.text.front 0 tt) d ≡ Some r → Exchanges w r
   exchanged_by w r u Stop c a k o e = absurd cc
   exchanged_by w r u (Simple n x q) c a k o e = record {
     effect = x;
@@ -147,7 +147,7 @@ module _ (s t : ℕ) (f : Effect) (engine : Engine) (ps : List Routine) (simple 
   exchanged_by w r u (Call n i j q) c a k o e = absurd (o.0 (sym k))
   exchanged_by w r u (Break n q) c a k o e = absurd (o.0 (sym k))
 
-  pub exchanged : (w : List Frame) (r : Row) → flat_row engine ps w (Post s) ≡ Some r → Exchanges w r
+  pub exchanged : (w : List NameFrame) (r : Row) → flat_row engine ps w (Post s) ≡ Some r → Exchanges w r
   exchanged w r e =
       let p = then_some (find s (flat ps)) (read w (post_row engine bare w)) r e in
       let k = (known s t f engine.widening ps simple marked).at (s, p.0) (found_member s p.0 (flat ps) p.1) in
@@ -158,7 +158,7 @@ module _ (s t : ℕ) (f : Effect) (engine : Engine) (ps : List Routine) (simple 
   main_same (r ∷ rs) = refl
 
   -- All other rows shift.
-  pub row_shifts : (w : List Frame) (p : Point) (r : Row) → (p ≡ Post s → ⊥) → flat_row engine ps w p ≡ Some r → flat_row engine others w (shift_point s t p) ≡ Some (shift_row s t r)
+  pub row_shifts : (w : List NameFrame) (p : Point) (r : Row) → (p ≡ Post s → ⊥) → flat_row engine ps w p ≡ Some r → flat_row engine others w (shift_point s t p) ≡ Some (shift_row s t r)
   row_shifts [] Entry r h e = ap (λ l. Some (Init l)) (main_same ps) ∙ ap (λ r. Some (shift_row s t r)) (same_Some _ _ e)
   row_shifts (InCall n ∷ w) Entry r h e =
       text_shifts w n (λ b. enter_row engine bare w b n) r

@@ -6,19 +6,19 @@ use Rattle.imp_syntax.specs.declared.edit.Location.{Location}
 use Rattle.imp_syntax.specs.declared.edit.Location.TheVariants.{Before, After, Head, End}
 use Rattle.imp_slots.specs.Plain.{Effect, Invoke, Code, Stop, Simple, If, While, Call, Break, Routine, code_numbers}
 use Rattle.imp_slots.specs.Fits.{Absent, routine_numbers}
-use Rattle.program_chains.specs.Chains.{calls_to, extended, through, chains_within, ending_in, selected, has, holder_from, holder, named_from, has_while, is_while}
+use Rattle.imp_chains.specs.Chains.{calls_to, extended, through, chains_within, ending_in, selected, has, holder_from, holder, named_from, has_while, is_while}
 use Rattle.batch_meaning.specs.Places.{find, if_some, from}
 use Rattle.batch_meaning.specs.Answers.{Found, In, Misses, found_or, found_loop, procedure_of}
 use Rattle.batch_meaning.proofs.Places.{found_member}
-use Rattle.analysis_words.specs.declared.refusal.Refusal.TheVariants.{NoStatement, NoProcedure}
+use Rattle.imp_words.specs.declared.refusal.QueryRefusal.TheVariants.{NoStatement, NoProcedure}
 use Rattle.cell_names.specs.declared.frame.Point.TheVariants.{Entry, Post, Fix}
-use Rattle.plain_values.proofs.Cases.{by_test}
+use Rattle.base_values.proofs.Cases.{by_test}
 use Rattle.cell_rows.specs.Names.{number}
 use Rattle.cell_rows.specs.Rows.{last_point}
-use Rattle.cell_rows.specs.Targets.{Text, texts, Step, Go, takes, Target, to_point, callee_of, Way, way_of, way_in, way, is_loop, target_in, target, all_targets, targets}
+use Rattle.cell_rows.specs.Targets.{Text, texts, TargetStep, Go, takes, Target, to_point, callee_of, Way, way_of, way_in, way, is_loop, target_in, target, all_targets, targets}
 use Rattle.cell_rows.proofs.Arriving.{keys_texts}
 use Rattle.cell_rows.proofs.Lookup.{then_some}
-use Rattle.why_slice.specs.Upstream.{located}
+use Rattle.why_slice.specs.Upstream.{statement_at}
 use Rattle.why_slice.specs.Exchanged.{OnlySimple, IsSimple}
 use Rattle.why_slice.proofs.Shifted.{shift_number, shift_point, shift_other, find_shifted, swap, swap_text, last_shifted, texts_shifted}
 use Rattle.why_slice.proofs.ShiftedRows.{swap_routine, swap_all, length_swapped, from_swapped, known_texts, simple_from}
@@ -140,7 +140,7 @@ module _ (s t : ℕ) (f : Effect) where
 
   -- The location does not name the exchanged statement.
   abbrev pub Elsewhere : Location → Type 0
-  Elsewhere l = located l ≡ Some s → ⊥
+  Elsewhere l = statement_at l ≡ Some s → ⊥
 
   module _ (program : List Routine) (fresh : Absent t (routine_numbers program)) where
     held_same : (n : ℕ) → n ≢ s → (p : ℕ) → found_or NoStatement (holder n program) ≡ In p → holder n (all program) ≡ holder n program
@@ -186,7 +186,7 @@ module _ (s t : ℕ) (f : Effect) where
     simple : IsSimple s w.procs
     fresh : Absent t (routine_numbers w.procs)
 
-  way_in_shifted : (n : ℕ) (ss : List Step) (ps : List Routine) (w : Way) → IsSimple s ps → Absent t (routine_numbers ps) → way_in n ss ps ≡ Some w → Leads (way_in n ss (all ps)) w
+  way_in_shifted : (n : ℕ) (ss : List TargetStep) (ps : List Routine) (w : Way) → IsSimple s ps → Absent t (routine_numbers ps) → way_in n ss ps ≡ Some w → Leads (way_in n ss (all ps)) w
   way_in_shifted n ss [] w h a e = absurd cc
   way_in_shifted n ss (r ∷ earlier) w h a e =
       let x = then_some (find n (texts r.code Entry)) (λ t. if_some (callee_of t.code) (λ q. Some (way_of (ss ++ (takes t.loops ++ Go n ∷ [])) (from earlier q.1)))) w e in
@@ -223,7 +223,7 @@ module _ (s t : ℕ) (f : Effect) where
   loop_same (Call n i q r) = refl
   loop_same (Break n r) = refl
 
-  target_in_shifted : (l : Location) (ss : List Step) (ps : List Routine) (g : Target) → Elsewhere l → IsSimple s ps → Absent t (routine_numbers ps) → target_in l ss ps ≡ Some g → target_in l ss (all ps) ≡ Some (shift_target g)
+  target_in_shifted : (l : Location) (ss : List TargetStep) (ps : List Routine) (g : Target) → Elsewhere l → IsSimple s ps → Absent t (routine_numbers ps) → target_in l ss ps ≡ Some g → target_in l ss (all ps) ≡ Some (shift_target g)
   target_in_shifted l ss [] g o h a e = absurd cc
   target_in_shifted (Before n) ss (r ∷ earlier) g o h a e =
       let x = then_some (find n (texts r.code Entry)) (λ t. Some (to_point (ss ++ takes t.loops) t.front)) g e in

@@ -5,40 +5,40 @@ use Rattle.imp_syntax.specs.declared.edit.Location.{Location}
 use Rattle.imp_slots.specs.Plain.{Effect, Does, Routine}
 use Rattle.imp_slots.specs.Fits.{Absent, IsChecked, routine_numbers}
 use Rattle.concrete_sem.specs.Values.{Variables, Heap}
-use Rattle.program_chains.specs.Claims.{MarksRise}
+use Rattle.imp_chains.specs.Claims.{ThresholdsRise}
 use Rattle.domain_laws.specs.Operations.{Operations}
 use Rattle.domain_laws.specs.Laws.{Laws, KeepsDead}
 use Rattle.batch_meaning.specs.Values.{Value, State, Over}
-use Rattle.batch_meaning.specs.Batch.{Engine}
+use Rattle.batch_meaning.specs.Batch.{LoopOptions}
 use Rattle.batch_meaning.specs.Answers.{In, procedure_of, answer_in, answer, summed, Refuses}
-use Rattle.analysis_words.specs.declared.refusal.Refusal.TheVariants.{LongString}
+use Rattle.imp_words.specs.declared.refusal.QueryRefusal.TheVariants.{LongString}
 use Rattle.batch_meaning.proofs.Procedures.{FitBack, fit_back}
-use Rattle.demand_order.specs.OrderLaws.{input, under}
-use Rattle.demand_order.specs.Asking.{Rows, gather, inputs_of, value_of}
-use Rattle.demand_order.proofs.AskingProofs.{gather-none, gather-some}
-use Rattle.cell_names.specs.declared.frame.Frame.{Frame}
-use Rattle.cell_names.specs.declared.frame.Frame.TheVariants.{InCall, InLoop}
+use Rattle.daig_order.specs.OrderLaws.{input, under}
+use Rattle.daig_order.specs.Asking.{Rows, gather, inputs_of, value_of}
+use Rattle.daig_order.proofs.AskingProofs.{gather-none, gather-some}
+use Rattle.cell_names.specs.declared.frame.NameFrame.{NameFrame}
+use Rattle.cell_names.specs.declared.frame.NameFrame.TheVariants.{InCall, InLoop}
 use Rattle.cell_names.specs.declared.frame.Point.{Point}
 use Rattle.cell_names.specs.declared.frame.Point.TheVariants.{Entry, Then, Else, Body, Post, Iterate, Fix, Exit, Leap}
 use Rattle.cell_names.specs.Paths.{CellName}
-use Rattle.plain_values.proofs.Cases.{by_bool, by_test}
-use Rattle.plain_values.proofs.Members.{keys}
+use Rattle.base_values.proofs.Cases.{by_bool, by_test}
+use Rattle.base_values.proofs.Members.{keys}
 use Rattle.cell_rows.specs.Names.{IsSame, name, bare, iterate_point}
 use Rattle.cell_rows.specs.Rows.{Row, Init, One, Two, Fixed as FixedRow, Joins, Posts}
 use Rattle.cell_rows.specs.Cells.{Cell, asks_row, operation_row, most_row, by_row, nothing, wants_first, right_of}
 use Rattle.cell_rows.specs.Flat.{flat, flat_row}
-use Rattle.cell_rows.specs.Targets.{Step, Take, Go, Target, unless_over, demanded_in, demanded, value_in_path, value_of_target, targets}
+use Rattle.cell_rows.specs.Targets.{TargetStep, Take, Go, Target, unless_over, demanded_in, demanded, value_in_path, value_of_target, targets}
 use Rattle.cell_rows.specs.Claims.{HasName, rows_of, InputsAreNames}
 use Rattle.cell_rows.proofs.FlatOnce.{keys_flat}
 use Rattle.cell_rows.proofs.Rowed.{has_row}
 use Rattle.cell_rows.proofs.Unique.{All, all_of}
-use Rattle.demand_laws.proofs.Demanded.{needed_named, answer_at}
-use Rattle.demand_laws.proofs.Machine.{law}
+use Rattle.daig_demands.proofs.Demanded.{needed_named, answer_at}
+use Rattle.daig_demands.proofs.Machine.{law}
 use Rattle.why_slice.specs.Upstream.{is_live, NeededBy, IsUpstream, at_location, by_name}
 use Rattle.why_slice.specs.Exchanged.{IsSimple}
 use Rattle.why_slice.proofs.Turned.{TurnedRow, turned}
 use Rattle.why_slice.proofs.Shifted.{shift_point, shift, shift_row, shift_it}
-use Rattle.why_slice.proofs.ShiftedRows.{swap_all, SameMarks}
+use Rattle.why_slice.proofs.ShiftedRows.{swap_all, SameThresholds}
 use Rattle.why_slice.proofs.ShiftedTable.{row_shifts, exchanged}
 use Rattle.why_slice.proofs.ShiftedTargets.{simple_reversed, absent_reversed, swapped_reversed, Elsewhere, procedure_same, shift_target, targets_shifted}
 use Rattle.why_slice.proofs.Fitting.{AllSuit, all_suit}
@@ -75,7 +75,7 @@ all_right : {A : Type 0} (P : A → Type 0) (xs ys : List A) → All P (xs ++ ys
 all_right P [] ys h = h
 all_right P (x ∷ xs) ys h = all_right P xs ys h.1
 
-module _ {S : Type 0} (dom : Operations S) (engine : Engine) (s t : ℕ) where
+module _ {S : Type 0} (dom : Operations S) (engine : LoopOptions) (s t : ℕ) where
   -- a shifted row asks for the shifted names, and makes the same of their values
   asks_shifted : (r : Row) (vs : List (Cell S)) → asks_row dom engine (shift_row s t r) vs ≡ option_map (shift s t) (asks_row dom engine r vs)
   asks_shifted (Init layout) vs = refl
@@ -129,7 +129,7 @@ module _ {S : Type 0} (dom : Operations S) (engine : Engine) (s t : ℕ) where
     abbrev Same : CellName → Type 0
     Same x = new (shift s t x) ≡ old x
 
-    value_same : (ss : List Step) (p : Point) (w : List Frame) → All Same (demanded_in old ss p w) → value_in_path new ss (shift_point s t p) w ≡ value_in_path old ss p w
+    value_same : (ss : List TargetStep) (p : Point) (w : List NameFrame) → All Same (demanded_in old ss p w) → value_in_path new ss (shift_point s t p) w ≡ value_in_path old ss p w
     value_same [] p w h = ap (λ (c : Cell S). c.value) h.0
     value_same (Go n ∷ ss) p w h = value_same ss p (InCall n ∷ w) h
     value_same (Take n ∷ ss) p w h =
@@ -149,7 +149,7 @@ module _ {S : Type 0} (dom : Operations S) (engine : Engine) (s t : ℕ) where
         ∙ ap (λ vs. value_of_target old g ∷ vs) (values_same f ts (all_right Same (demanded_in old g.steps g.last []) (demanded old ts) h))
 
 -- One row asks for its one input.
-module _ {S : Type 0} (dom : Operations S) (engine : Engine) (program : List Routine) (same : CellName → CellName → Bool) where
+module _ {S : Type 0} (dom : Operations S) (engine : LoopOptions) (program : List Routine) (same : CellName → CellName → Bool) where
   abbrev rows : Rows CellName (Cell S)
   rows = rows_of dom engine program same
 
@@ -160,9 +160,9 @@ module _ {S : Type 0} (dom : Operations S) (engine : Engine) (program : List Rou
       ∙ gather-some (value_of rows) (λ vs. asks_row dom engine (One (Posts (Does e)) a) vs) 0 [] a refl
       ∙ ap (λ xs. a ∷ xs) (gather-none (value_of rows) (λ vs. asks_row dom engine (One (Posts (Does e)) a) vs) 0 (value_of rows a ∷ []) refl)
 
-module _ {S : Type 0} (dom : Operations S) (covers : S → Heap → List Variables → Type 0) (laws : Laws dom covers) (rises : MarksRise) (dead : KeepsDead dom) (names : InputsAreNames dom)
-    (engine : Engine) (s t : ℕ) (f : Effect) (program : List Routine) (same : CellName → CellName → Bool) (is : IsSame same) (checked : IsChecked program) (after : IsChecked (swap_all s t f program))
-    (simple : IsSimple s program) (marked : SameMarks s t f engine.widening (reverse program)) (fresh : Absent t (routine_numbers program))
+module _ {S : Type 0} (dom : Operations S) (covers : S → Heap → List Variables → Type 0) (laws : Laws dom covers) (rises : ThresholdsRise) (dead : KeepsDead dom) (names : InputsAreNames dom)
+    (engine : LoopOptions) (s t : ℕ) (f : Effect) (program : List Routine) (same : CellName → CellName → Bool) (is : IsSame same) (checked : IsChecked program) (after : IsChecked (swap_all s t f program))
+    (simple : IsSimple s program) (marked : SameThresholds s t f engine.widening (reverse program)) (fresh : Absent t (routine_numbers program))
     (l : Location) (string : List ℕ) (p : ℕ) (ts : List Target) (there : targets program p l string ≡ Some ts) (unused : IsUpstream dom engine program same l string p ts s → ⊥) where
   abbrev others : List Routine
   others = swap_all s t f program
@@ -185,7 +185,7 @@ module _ {S : Type 0} (dom : Operations S) (covers : S → Heap → List Variabl
   named : (x : CellName) → Need x → HasName engine program x
   named x n = needed_named dom engine program same is checked names l string p ts x there n
 
-  in_new : (w : List Frame) (q : Point) (r : Row) → flat_row engine (swap_all s t f back) w q ≡ Some r → flat_row engine (reverse others) w q ≡ Some r
+  in_new : (w : List NameFrame) (q : Point) (r : Row) → flat_row engine (swap_all s t f back) w q ≡ Some r → flat_row engine (reverse others) w q ≡ Some r
   in_new w q r e = ap (λ ps. flat_row engine ps w q) (swapped_reversed s t f program) ∙ e
 
   numbers_fresh : Absent t (keys (flat back))
@@ -202,7 +202,7 @@ module _ {S : Type 0} (dom : Operations S) (covers : S → Heap → List Variabl
   }
 
   -- What is behind the exchanged statement has no live value in front of it.
-  idle_row : (w : List Frame) → Need (name w (Post s)) → (r : Row) → flat_row engine back w (Post s) ≡ Some r → TurnedRow old new (shift s t) (name w (Post s))
+  idle_row : (w : List NameFrame) → Need (name w (Post s)) → (r : Row) → flat_row engine back w (Post s) ≡ Some r → TurnedRow old new (shift s t) (name w (Post s))
   idle_row w n r e =
       let x = exchanged s t f engine back (simple_reversed s program simple) marked numbers_fresh w r e in
       let row : flat_row engine back w (Post s) ≡ Some (One (Posts (Does x.effect)) (name w x.front)) = e ∙ ap (λ r. Some r) x.old in

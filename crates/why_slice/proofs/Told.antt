@@ -8,21 +8,21 @@ use Rattle.std.proofs.Common.{◌≡◌, ◌↔◌, ℕ, ◌<◌, List, [], ◌�
 use Rattle.imp_syntax.specs.declared.edit.Location.{Location}
 use Rattle.imp_slots.specs.Plain.{Routine}
 use Rattle.imp_slots.specs.Fits.{IsChecked}
-use Rattle.program_chains.specs.Chains.{selected}
+use Rattle.imp_chains.specs.Chains.{selected}
 use Rattle.domain_laws.specs.Operations.{Operations}
-use Rattle.batch_meaning.specs.Batch.{Engine}
-use Rattle.demand_order.specs.Order.{member}
-use Rattle.demand_order.proofs.AskingProofs.{system-acyclic}
-use Rattle.demand_order.proofs.TheoremProofs.{needed}
+use Rattle.batch_meaning.specs.Batch.{LoopOptions}
+use Rattle.daig_order.specs.Order.{member}
+use Rattle.daig_order.proofs.AskingProofs.{system-acyclic}
+use Rattle.daig_order.proofs.TheoremProofs.{needed}
 use Rattle.cell_names.specs.Paths.{CellName}
-use Rattle.plain_values.proofs.Members.{Member, here, there, in_left, in_right, either, contains_of, member_of}
+use Rattle.base_values.proofs.Members.{Member, here, there, in_left, in_right, either, contains_of, member_of}
 use Rattle.cell_rows.specs.Names.{IsSame}
 use Rattle.cell_rows.specs.Rows.{Row}
 use Rattle.cell_rows.specs.Flat.{flat_row}
 use Rattle.cell_rows.specs.Targets.{Target, demanded}
-use Rattle.demand_laws.specs.Claims.{found_by, names_of}
-use Rattle.demand_laws.proofs.Machine.{rows, law}
-use Rattle.why_slice.specs.Upstream.{located, listed, all_of, pointed, matters, HangsOn, NeededBy, IsUpstream, at_location, in_chain, by_name, hung_on, all_hung, needed_by, upstream}
+use Rattle.daig_demands.specs.Claims.{found_by, names_of}
+use Rattle.daig_demands.proofs.Machine.{rows, law}
+use Rattle.why_slice.specs.Upstream.{statement_at, listed, all_of, statement_of_name, matters, HangsOn, NeededBy, IsUpstream, at_location, in_chain, by_name, hung_on, all_hung, needed_by, upstream}
 use Rattle.why_slice.proofs.Rising.{Strict, rising_strict, in_rising, of_rising}
 
 pub is_member : {A : Type 0} (same : A → A → Bool) → ((x y : A) → same x y ≡ true → x ≡ y) → (xs : List A) (x : A) → member same xs x ≡ true → Member x xs
@@ -62,7 +62,7 @@ strict_sorted (k ∷ ks) s = (above ks s.0, strict_sorted ks s.1)
     above [] h = tt
     above (i ∷ is) h = (sym (nat_cmp_is k i Less (h i here)), above is (λ j m. h j (there m)))
 
-module _ {S : Type 0} (dom : Operations S) (engine : Engine) (program : List Routine) (same : CellName → CellName → Bool) (is : IsSame same) (checked : IsChecked program) where
+module _ {S : Type 0} (dom : Operations S) (engine : LoopOptions) (program : List Routine) (same : CellName → CellName → Bool) (is : IsSame same) (checked : IsChecked program) where
   abbrev row_at : CellName → Option Row
   row_at x = flat_row engine (reverse program) x.path x.point
 
@@ -70,14 +70,14 @@ module _ {S : Type 0} (dom : Operations S) (engine : Engine) (program : List Rou
   hung_only x None n e m = elim m [ ]
   hung_only x (Some r) n e m = go (matters dom (found_by dom engine program same) r) refl m
     where
-      go : (b : Bool) → matters dom (found_by dom engine program same) r ≡ b → Member n (if b then listed (pointed x.path x.point) else []) → HangsOn dom engine program same x n
-      go true h m = record { row = r; is = e; names = listed_only (pointed x.path x.point) n m; counts = h }
+      go : (b : Bool) → matters dom (found_by dom engine program same) r ≡ b → Member n (if b then listed (statement_of_name x.path x.point) else []) → HangsOn dom engine program same x n
+      go true h m = record { row = r; is = e; names = listed_only (statement_of_name x.path x.point) n m; counts = h }
       go false h m = elim m [ ]
 
   hung_there : (x : CellName) (n : ℕ) → HangsOn dom engine program same x n → Member n (hung_on dom engine program same x (row_at x))
   hung_there x n h =
       subst (λ o. Member n (hung_on dom engine program same x o)) (sym h.is)
-      (subst (λ b. Member n (if b then listed (pointed x.path x.point) else [])) (sym h.counts) (listed_there (pointed x.path x.point) n h.names))
+      (subst (λ b. Member n (if b then listed (statement_of_name x.path x.point) else [])) (sym h.counts) (listed_there (statement_of_name x.path x.point) n h.names))
 
   pub all_hung_only : (xs : List CellName) (n : ℕ) → Member n (all_hung dom engine program same xs) → (x : CellName) × Member x xs × HangsOn dom engine program same x n
   all_hung_only [] n m = elim m [ ]
@@ -103,8 +103,8 @@ module _ {S : Type 0} (dom : Operations S) (engine : Engine) (program : List Rou
     unfolding chains
     told n = (
       λ c.
-          elim (either n (listed (located l)) (all_of chains ++ all_hung dom engine program same (needed_by dom engine program same ts)) (of_rising _ n (member_of n _ c))) [
-            | inl a ↦ at_location (listed_only (located l) n a)
+          elim (either n (listed (statement_at l)) (all_of chains ++ all_hung dom engine program same (needed_by dom engine program same ts)) (of_rising _ n (member_of n _ c))) [
+            | inl a ↦ at_location (listed_only (statement_at l) n a)
             | inr b ↦ elim (either n (all_of chains) (all_hung dom engine program same (needed_by dom engine program same ts)) b) [
               | inl d ↦ (let z = all_only chains n d in in_chain z.0 (contains_of z.0 chains z.1) (contains_of n z.0 z.2))
               | inr h ↦ (let x = all_hung_only (needed_by dom engine program same ts) n h in by_name x.0 ((needs x.0).0 (as_member same is.same_refl (needed_by dom engine program same ts) x.0 x.1)) x.2)
@@ -113,13 +113,13 @@ module _ {S : Type 0} (dom : Operations S) (engine : Engine) (program : List Rou
       λ u. contains_of n _ (in_rising _ n (there_if u)),
     )
       where
-        there_if : IsUpstream dom engine program same l string p ts n → Member n (listed (located l) ++ (all_of (selected program p string) ++ all_hung dom engine program same (needed_by dom engine program same ts)))
-        there_if (at_location e) = in_left (all_of (selected program p string) ++ all_hung dom engine program same (needed_by dom engine program same ts)) (listed_there (located l) n e)
+        there_if : IsUpstream dom engine program same l string p ts n → Member n (listed (statement_at l) ++ (all_of (selected program p string) ++ all_hung dom engine program same (needed_by dom engine program same ts)))
+        there_if (at_location e) = in_left (all_of (selected program p string) ++ all_hung dom engine program same (needed_by dom engine program same ts)) (listed_there (statement_at l) n e)
         there_if (in_chain z c k) =
-            in_right (listed (located l)) (in_left (all_hung dom engine program same (needed_by dom engine program same ts)) (all_there (selected program p string) z n (member_of z (selected program p string) c) (member_of n z k)))
+            in_right (listed (statement_at l)) (in_left (all_hung dom engine program same (needed_by dom engine program same ts)) (all_there (selected program p string) z n (member_of z (selected program p string) c) (member_of n z k)))
         there_if (by_name x k h) =
-            in_right (listed (located l)) (in_right (all_of (selected program p string))
+            in_right (listed (statement_at l)) (in_right (all_of (selected program p string))
             (all_hung_there (needed_by dom engine program same ts) x n (is_member same is.same_true (needed_by dom engine program same ts) x ((needs x).1 k)) h))
 
     pub rises : IsStrictlySortedBy nat_cmp (upstream dom engine program same l string p ts)
-    rises = strict_sorted _ (rising_strict (listed (located l) ++ (all_of (selected program p string) ++ all_hung dom engine program same (needed_by dom engine program same ts))))
+    rises = strict_sorted _ (rising_strict (listed (statement_at l) ++ (all_of (selected program p string) ++ all_hung dom engine program same (needed_by dom engine program same ts))))

@@ -1,9 +1,9 @@
 -- Two tables with the same rows but for the names, and for operations that give the same on the values that are there.
 use Rattle.std.proofs.Common.{◌≡◌, ℕ, zero, suc, ◌<◌, Bool, true, List, [], ◌∷◌, ◌++◌, map, Option, Some, option_map, refl, sym, ap, ◌∙◌, arith}
-use Rattle.demand_order.specs.Order.{member}
-use Rattle.demand_order.specs.Asking.{Rows, AreRows, gather, value_of, inputs_of}
+use Rattle.daig_order.specs.Order.{member}
+use Rattle.daig_order.specs.Asking.{Rows, AreRows, gather, value_of, inputs_of}
 use Rattle.std.proofs.lemmas.Bool.{or_left, or_right}
-use Rattle.demand_order.proofs.AskingProofs.{by_option, gather-none, gather-some, value-is, system-acyclic}
+use Rattle.daig_order.proofs.AskingProofs.{by_option, gather-none, gather-some, value-is, system-acyclic}
 
 -- The values of what is asked for are the same where names are turned.
 gather_turned : {T V : Type 0} (same : T → T → Bool) → ((x : T) → same x x ≡ true) → (turn : T → T) (v w : T → V) (a b : List V → Option T) → ((vs : List V) → b vs ≡ option_map turn (a vs)) → (n : ℕ) (vs : List V) → ((y : T) → member same (gather v a n vs) y ≡ true → w (turn y) ≡ v y) → map w (gather w b n vs) ≡ map v (gather v a n vs)

@@ -5,13 +5,13 @@ use Rattle.std.specs.Ordering.{nat_cmp}
 use Rattle.imp_syntax.specs.declared.edit.Location.{Location}
 use Rattle.imp_syntax.specs.declared.edit.Location.TheVariants.{Before, After, Head, End}
 use Rattle.imp_slots.specs.Plain.{Act, DoBreak, Does, Routine}
-use Rattle.program_chains.specs.Chains.{selected}
+use Rattle.imp_chains.specs.Chains.{selected}
 use Rattle.domain_laws.specs.Operations.{Operations}
 use Rattle.batch_meaning.specs.Values.{Value, State, Over}
-use Rattle.batch_meaning.specs.Batch.{Engine}
-use Rattle.demand_order.specs.OrderLaws.{Needed, order}
-use Rattle.cell_names.specs.declared.frame.Frame.{Frame}
-use Rattle.cell_names.specs.declared.frame.Frame.TheVariants.{InCall, InLoop}
+use Rattle.batch_meaning.specs.Batch.{LoopOptions}
+use Rattle.daig_order.specs.OrderLaws.{Needed, order}
+use Rattle.cell_names.specs.declared.frame.NameFrame.{NameFrame}
+use Rattle.cell_names.specs.declared.frame.NameFrame.TheVariants.{InCall, InLoop}
 use Rattle.cell_names.specs.declared.frame.Point.{Point}
 use Rattle.cell_names.specs.declared.frame.Point.TheVariants.{Entry, Then, Else, Body, Post, Iterate, Fix, Exit, Leap}
 use Rattle.cell_names.specs.Paths.{CellName}
@@ -19,35 +19,35 @@ use Rattle.cell_rows.specs.Rows.{Unary, Posts, Assumes, Enters, Exits, Row, Init
 use Rattle.cell_rows.specs.Cells.{Cell}
 use Rattle.cell_rows.specs.Flat.{flat_row}
 use Rattle.cell_rows.specs.Targets.{Target, demanded}
-use Rattle.demand_laws.specs.Claims.{found_by, names_of}
+use Rattle.daig_demands.specs.Claims.{found_by, names_of}
 
 -- the statement that a location names
-abbrev pub located : Location → Option ℕ
-located (Before n) = Some n
-located (After n) = Some n
-located (Head n) = Some n
-located (End x) = None
+abbrev pub statement_at : Location → Option ℕ
+statement_at (Before n) = Some n
+statement_at (After n) = Some n
+statement_at (Head n) = Some n
+statement_at (End x) = None
 
 -- The statement that a name names: the one of its point, of a break's point behind a loop the break; of a body's start the
 -- call or the loop of the last frame. The start of main names none.
-abbrev pub pointed : List Frame → Point → Option ℕ
-pointed [] Entry = None
-pointed (InCall n ∷ w) Entry = Some n
-pointed (InLoop n k ∷ w) Entry = None
-pointed [] Body = None
-pointed (InCall n ∷ w) Body = None
-pointed (InLoop n k ∷ w) Body = Some n
-pointed w (Then n) = Some n
-pointed w (Else n) = Some n
-pointed w (Post n) = Some n
-pointed w (Iterate n k) = Some n
-pointed w (Fix n) = Some n
-pointed w (Exit n) = Some n
-pointed w (Leap n b) = Some b
+abbrev pub statement_of_name : List NameFrame → Point → Option ℕ
+statement_of_name [] Entry = None
+statement_of_name (InCall n ∷ w) Entry = Some n
+statement_of_name (InLoop n k ∷ w) Entry = None
+statement_of_name [] Body = None
+statement_of_name (InCall n ∷ w) Body = None
+statement_of_name (InLoop n k ∷ w) Body = Some n
+statement_of_name w (Then n) = Some n
+statement_of_name w (Else n) = Some n
+statement_of_name w (Post n) = Some n
+statement_of_name w (Iterate n k) = Some n
+statement_of_name w (Fix n) = Some n
+statement_of_name w (Exit n) = Some n
+statement_of_name w (Leap n b) = Some b
 
 -- Numbers, rising, each once.
-abbrev pub rising : List ℕ → List ℕ
-rising ns = fold (insert_key nat_cmp) [] ns
+abbrev pub sorted_once : List ℕ → List ℕ
+sorted_once ns = fold (insert_key nat_cmp) [] ns
 
 abbrev pub listed : Option ℕ → List ℕ
 listed None = []
@@ -82,12 +82,12 @@ module _ {S : Type 0} (dom : Operations S) where
   matters found (Fixed n z w p) = true
   matters found (Joins stays l n w p) = true
 
-  module _ (engine : Engine) (program : List Routine) (same : CellName → CellName → Bool) where
+  module _ (engine : LoopOptions) (program : List Routine) (same : CellName → CellName → Bool) where
     -- The name hangs on the statement n that it names.
     pub record HangsOn (x : CellName) (n : ℕ) : Type 0 where
       pub row : Row
       pub is : flat_row engine (reverse program) x.path x.point ≡ Some row
-      pub names : pointed x.path x.point ≡ Some n
+      pub names : statement_of_name x.path x.point ≡ Some n
       pub counts : matters (found_by dom engine program same) row ≡ true
 
     -- the names that the answer at these targets needs
@@ -97,14 +97,14 @@ module _ {S : Type 0} (dom : Operations S) where
     -- The statements that the answer at a location of procedure p with these targets depends on: the one that the
     -- location names, the call sites of the selected chains, and those on which a name that is needed hangs.
     pub data IsUpstream (l : Location) (string : List ℕ) (p : ℕ) (ts : List Target) (n : ℕ) : Type 0 where
-      at_location : located l ≡ Some n → IsUpstream l string p ts n
+      at_location : statement_at l ≡ Some n → IsUpstream l string p ts n
       in_chain : (z : List ℕ) → Contains (selected program p string) z → Contains z n → IsUpstream l string p ts n
       by_name : (x : CellName) → NeededBy ts x → HangsOn x n → IsUpstream l string p ts n
 
     -- The same as a list: that of the names in the order in which they are filled.
     abbrev pub hung_on : CellName → Option Row → List ℕ
     hung_on x None = []
-    hung_on x (Some r) = if matters (found_by dom engine program same) r then listed (pointed x.path x.point) else []
+    hung_on x (Some r) = if matters (found_by dom engine program same) r then listed (statement_of_name x.path x.point) else []
 
     abbrev pub all_hung : List CellName → List ℕ
     all_hung [] = []
@@ -115,4 +115,4 @@ module _ {S : Type 0} (dom : Operations S) where
 
     -- The list of the statements that an answer depends on, rising, each once.
     abbrev pub upstream : Location → (string : List ℕ) → (p : ℕ) → List Target → List ℕ
-    upstream l string p ts = rising (listed (located l) ++ (all_of (selected program p string) ++ all_hung (needed_by ts)))
+    upstream l string p ts = sorted_once (listed (statement_at l) ++ (all_of (selected program p string) ++ all_hung (needed_by ts)))

@@ -3,16 +3,16 @@ ghost use Rattle.why_slice.specs.Claims.{AnswersStay, UpstreamIsTold, UpstreamRi
 
 use cell_rows::rows_give_values;
 use domain_laws::Domain;
-use program_chains::marks_rise;
+use imp_chains::thresholds_rise;
 
 /// Where an accepted edit replaces a simple statement by another one, neither of them a call or a break, each answer that
-/// does not depend on the statement stays, an Over too, if the marks of all procedures stay. So it is where the statement is
+/// does not depend on the statement stays, an Over too, if the thresholds of all procedures stay. So it is where the statement is
 /// not in the list of those that the answer depends on.
 pub fn answers_stay<D: Domain>()
     ensures stay { (d : D) → AnswersStay (D.operations d) }
     ensures listed { (d : D) → UpstreamSuffices (D.operations d) }
 {
-    marks_rise();
+    thresholds_rise();
     rows_give_values::<D>();
 }
 

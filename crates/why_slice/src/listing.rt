@@ -2,10 +2,10 @@
 ghost use Rattle.std.specs.Prelude.{◌≡◌, ◌++◌, fold, IfOk, OnOk};
 ghost use Rattle.std.specs.BTreeSet.{insert_key};
 ghost use Rattle.std.specs.Ordering.{nat_cmp};
-ghost use Rattle.why_slice.specs.Upstream.{all_of, listed, located, rising};
+ghost use Rattle.why_slice.specs.Upstream.{all_of, listed, statement_at, sorted_once};
 
+use base_values::{Items, Memory};
 use imp_syntax::{Chain, Location, StmtId};
-use plain_values::{Items, Memory};
 use std::alloc::Global;
 use std::collections::BTreeSet;
 
@@ -42,7 +42,7 @@ fn put_chains(numbers: &mut BTreeSet<u32>, chains: &[Chain]) -> Result<(), Memor
 
 /// Puts the statement that a location names among the others.
 fn put_place(numbers: &mut BTreeSet<u32>, at: &Location) -> Result<(), Memory>
-    ensures put { OnOk result (numbers.new.keys ≡ fold (insert_key nat_cmp) numbers.old.keys (listed (located at.now))) }
+    ensures put { OnOk result (numbers.new.keys ≡ fold (insert_key nat_cmp) numbers.old.keys (listed (statement_at at.now))) }
 {
     match at {
         Location::Before(stmt) | Location::After(stmt) | Location::Head(stmt) => {
@@ -76,7 +76,7 @@ pub fn upstream(
     chains: &[Chain],
     hung: &[u32],
 ) -> Result<Items<StmtId>, Memory>
-    ensures is { IfOk result (λ stmts. stmts ≡ rising (listed (located at.now) ++ (all_of chains.now ++ hung.now))) }
+    ensures is { IfOk result (λ stmts. stmts ≡ sorted_once (listed (statement_at at.now) ++ (all_of chains.now ++ hung.now))) }
 {
     let mut numbers = BTreeSet::new(alloc);
     put_place(&mut numbers, at)?;

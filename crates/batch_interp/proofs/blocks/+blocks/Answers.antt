@@ -2,8 +2,8 @@ use Rattle.std.proofs.Common.{◌≡◌, ◌+◌, ◌-◌, suc, sym, ap, ◌∙�
 use Rattle.batch_meaning.specs.Values as plain
 use Rattle.batch_meaning.specs.Values.{lift}
 use Rattle.batch_meaning.specs.Batch as meaning
-use Rattle.batch_meaning.specs.Batch.{after, iterate, head_of}
-use Rattle.batch_interp.specs.Frames.{marks_at, calls_in, passed}
+use Rattle.batch_meaning.specs.Batch.{with_leaving, iterate, head_of}
+use Rattle.batch_interp.specs.Frames.{thresholds_at, calls_in, passed}
 use Rattle.batch_interp.specs.Passing.{states}
 use Rattle.batch_interp.proofs.BlockLemmas.{ends_along, block_on, block_left, block_end, while_at, while_over, of_callee, stopped, round_over, round_stops, round_goes_on}
 use Rattle.batch_interp.proofs.Procedures.{call_gone}
@@ -14,7 +14,7 @@ block_answer-loop-node-init g t c =
     let dom = g.D.Domain.operations c.args.interpreter.now.dom.now in
     record {
       is = c.statements-node-items.ensures.same;
-      told = ap (λ b. after (states c.args.leaving.now) (passed dom c.args.interpreter.now.plan.now c.args.interpreter.now.frame.now.place c.args.interpreter.now.frame.now.sites b (plain.State c.args.state))) c.statements-node-items.ensures.same;
+      told = ap (λ b. with_leaving (states c.args.leaving.now) (passed dom c.args.interpreter.now.plan.now c.args.interpreter.now.frame.now.place c.args.interpreter.now.frame.now.sites b (plain.State c.args.state))) c.statements-node-items.ensures.same;
     }
 
 pub block_answer-returns-in-Over : goal.block_answer-returns-in-Over
@@ -25,7 +25,7 @@ block_answer-returns-in-Over g t c =
     let z = c.args.interpreter.now.frame.now.sites in
     let h = rw c.in-Over.is at c.in_ok-next.ensures.is in
     record {
-      is = block_left dom plan.engine (marks_at plan place) z (calls_in dom plan place z) c.statements-node-items.result.now c.loop-node.node-index c.node-item.result c.loop-node.now c.in-Over.head (reverse c.in-Over.chain) c.args.leaving.now c.loop-node.leaving (passed dom plan place z c.args.block.now (plain.State c.args.state)) c.loop-node.invariant.told c.loop-node-test.true c.node-item.is h;
+      is = block_left dom plan.engine (thresholds_at plan place) z (calls_in dom plan place z) c.statements-node-items.result.now c.loop-node.node-index c.node-item.result c.loop-node.now c.in-Over.head (reverse c.in-Over.chain) c.args.leaving.now c.loop-node.leaving (passed dom plan place z c.args.block.now (plain.State c.args.state)) c.loop-node.invariant.told c.loop-node-test.true c.node-item.is h;
     }
 
 pub block_answer-loop-node-preserved : goal.block_answer-loop-node-preserved
@@ -37,7 +37,7 @@ block_answer-loop-node-preserved g t c =
     let h = rw c.in-State.is at c.in_ok-next.ensures.is in
     record {
       is = c.loop-node.invariant.is;
-      told = block_on dom plan.engine (marks_at plan place) z (calls_in dom plan place z) c.statements-node-items.result.now c.loop-node.node-index c.node-item.result c.loop-node.now c.in-State.next c.args.leaving.now c.loop-node.leaving c.node_answer.new.leaving (passed dom plan place z c.args.block.now (plain.State c.args.state)) c.loop-node.invariant.told c.loop-node-test.true c.node-item.is h;
+      told = block_on dom plan.engine (thresholds_at plan place) z (calls_in dom plan place z) c.statements-node-items.result.now c.loop-node.node-index c.node-item.result c.loop-node.now c.in-State.next c.args.leaving.now c.loop-node.leaving c.node_answer.new.leaving (passed dom plan place z c.args.block.now (plain.State c.args.state)) c.loop-node.invariant.told c.loop-node-test.true c.node-item.is h;
     }
 
 pub block_answer-returns : goal.block_answer-returns
@@ -49,7 +49,7 @@ block_answer-returns g t c =
     record {
       is =
           sym c.loop-node.invariant.told
-          ∙ block_end dom plan.engine (marks_at plan place) z (calls_in dom plan place z) c.statements-node-items.result.now c.loop-node.node-index c.loop-node.now c.loop-node.leaving c.loop-node-test.false;
+          ∙ block_end dom plan.engine (thresholds_at plan place) z (calls_in dom plan place z) c.statements-node-items.result.now c.loop-node.node-index c.loop-node.now c.loop-node.leaving c.loop-node-test.false;
     }
 
 pub callee_answer-returns-in-None : goal.callee_answer-returns-in-None
@@ -72,7 +72,7 @@ loop_head-returns-in-Over g t c =
       is =
           ap (λ (f : meaning.Fixed g.row.D-State.Denot). f.value)
           (sym c.loop-k.invariant.told
-          ∙ round_over dom plan.engine (marks_at plan place) z (calls_in dom plan place z) c.args.cond.now c.args.body.now (plain.Over c.args.n z) c.loop-k.now (plan.engine.budget - c.loop-k.k) (plan.engine.budget - (c.loop-k.k + 1)) c.loop-k.k c.in-Over.head (reverse c.in-Over.chain) e h);
+          ∙ round_over dom plan.engine (thresholds_at plan place) z (calls_in dom plan place z) c.args.cond.now c.args.body.now (plain.Over c.args.n z) c.loop-k.now (plan.engine.budget - c.loop-k.k) (plan.engine.budget - (c.loop-k.k + 1)) c.loop-k.k c.in-Over.head (reverse c.in-Over.chain) e h);
     }
 
 pub loop_head-returns-then-eq : goal.loop_head-returns-then-eq
@@ -88,8 +88,8 @@ loop_head-returns-then-eq g t c =
       is = (
         ap (λ (f : meaning.Fixed g.row.D-State.Denot). f.value)
             (sym c.loop-k.invariant.told
-            ∙ round_stops dom plan.engine (marks_at plan place) z (calls_in dom plan place z) c.args.cond.now c.args.body.now (plain.Over c.args.n z) c.loop-k.now c.in-State.end c.in_ok-next.next (plan.engine.budget - c.loop-k.k) (plan.engine.budget - (c.loop-k.k + 1)) c.loop-k.k c.new-leaving.result c.block_under.new.leaving e h c.in_ok-next.ensures.value same),
-        stopped dom plan.engine (marks_at plan place) z (calls_in dom plan place z) c.args.cond.now c.args.body.now c.loop-k.now c.in-State.end c.new-leaving.result c.block_under.new.leaving c.new-leaving.ensures.empty h,
+            ∙ round_stops dom plan.engine (thresholds_at plan place) z (calls_in dom plan place z) c.args.cond.now c.args.body.now (plain.Over c.args.n z) c.loop-k.now c.in-State.end c.in_ok-next.next (plan.engine.budget - c.loop-k.k) (plan.engine.budget - (c.loop-k.k + 1)) c.loop-k.k c.new-leaving.result c.block_under.new.leaving e h c.in_ok-next.ensures.value same),
+        stopped dom plan.engine (thresholds_at plan place) z (calls_in dom plan place z) c.args.cond.now c.args.body.now c.loop-k.now c.in-State.end c.new-leaving.result c.block_under.new.leaving c.new-leaving.ensures.empty h,
       );
     }
 
@@ -102,12 +102,12 @@ loop_head-loop-k-preserved g t c =
     let h = rw c.in-State.is at c.in_ok-end.ensures.is in
     let e : plan.engine.budget - c.loop-k.k ≡ suc (plan.engine.budget - (c.loop-k.k + 1)) = omega arith in
     let other : dom.same c.in_ok-next.next c.loop-k.now ≡ false = g.met.D.Domain.tests_equality c.args.interpreter.now.dom.now c.in_ok-next.next c.loop-k.now ∙ sym c.if-eq.ensures in
-    let F = iterate dom plan.engine (marks_at plan place) (λ x. (passed dom plan place z c.args.body.now (lift (dom.assume c.args.cond.now true) x)).value) (plain.Over c.args.n z) in
+    let F = iterate dom plan.engine (thresholds_at plan place) (λ x. (passed dom plan place z c.args.body.now (lift (dom.assume c.args.cond.now true) x)).value) (plain.Over c.args.n z) in
     let k : c.loop-k.k + 1 ≡ suc c.loop-k.k = omega arith in
     record {
       told =
           ap (λ j. F (plan.engine.budget - (c.loop-k.k + 1)) j c.in_ok-next.next) k
-          ∙ sym (round_goes_on dom plan.engine (marks_at plan place) z (calls_in dom plan place z) c.args.cond.now c.args.body.now (plain.Over c.args.n z) c.loop-k.now c.in-State.end c.in_ok-next.next (plan.engine.budget - c.loop-k.k) (plan.engine.budget - (c.loop-k.k + 1)) c.loop-k.k c.new-leaving.result c.block_under.new.leaving e h c.in_ok-next.ensures.value other)
+          ∙ sym (round_goes_on dom plan.engine (thresholds_at plan place) z (calls_in dom plan place z) c.args.cond.now c.args.body.now (plain.Over c.args.n z) c.loop-k.now c.in-State.end c.in_ok-next.next (plan.engine.budget - c.loop-k.k) (plan.engine.budget - (c.loop-k.k + 1)) c.loop-k.k c.new-leaving.result c.block_under.new.leaving e h c.in_ok-next.ensures.value other)
           ∙ c.loop-k.invariant.told;
     }
 
@@ -118,7 +118,7 @@ while_answer-returns-in_ok-all-in-At g t c =
     let place = c.args.interpreter.now.frame.now.place in
     let z = c.args.interpreter.now.frame.now.sites in
     let body = passed dom plan place z c.args.body.now in
-    let v = (head_of dom plan.engine (marks_at plan place) z c.args.n c.args.cond.now body (plain.State c.args.state.now)).value in
+    let v = (head_of dom plan.engine (thresholds_at plan place) z c.args.n c.args.cond.now body (plain.State c.args.state.now)).value in
     let h = rw c.in-At.is at c.in_ok-head.ensures.is in
     record { is = while_at dom plan.engine c.args.cond.now body v c.in-At.head c.in_ok-out-in-At.out c.in_ok-all-in-At.all c.in-At.leaving c.as_slice.result.now h.0 h.1 c.in_ok-out-in-At.ensures.value c.as_slice.ensures.same (c.in_ok-all-in-At.ensures.value plan.engine) }
 
@@ -129,7 +129,7 @@ while_answer-returns-in-Over g t c =
     let place = c.args.interpreter.now.frame.now.place in
     let z = c.args.interpreter.now.frame.now.sites in
     let body = passed dom plan place z c.args.body.now in
-    let v = (head_of dom plan.engine (marks_at plan place) z c.args.n c.args.cond.now body (plain.State c.args.state.now)).value in
+    let v = (head_of dom plan.engine (thresholds_at plan place) z c.args.n c.args.cond.now body (plain.State c.args.state.now)).value in
     let h = rw c.in-Over.is at c.in_ok-head.ensures.is in
     record { is = while_over dom plan.engine c.args.cond.now body v c.in-Over.head (reverse c.in-Over.chain) h }
 

@@ -2,10 +2,10 @@ use Rattle.std.proofs.Common.{◌≡◌, ◌+◌, ◌*◌, ◌-◌, drop}
 use Rattle.imp_slots.specs.Sizes.{code_size}
 use Rattle.imp_slots.specs.BlockViews.{code_of, node_size}
 use Rattle.batch_meaning.specs.Values as plain
-use Rattle.batch_meaning.specs.Batch.{after, iterate}
+use Rattle.batch_meaning.specs.Batch.{with_leaving, iterate}
 use Rattle.batch_meaning.specs.Values.{lift}
 use Rattle.std.proofs.Common.{true}
-use Rattle.batch_interp.specs.Frames.{passed, marks_at}
+use Rattle.batch_interp.specs.Frames.{passed, thresholds_at}
 use Rattle.batch_interp.specs.Passing.{states}
 use Rattle.batch_interp.proofs.Weights.{weight}
 use Rattle.batch_interp.proofs.blocks.+blocks.Given as goal
@@ -40,7 +40,7 @@ invariant-block_answer-loop-node g l =
     let rest = passed (g.D.Domain.operations l.interpreter.dom.now) l.interpreter.plan.now l.interpreter.frame.now.place l.interpreter.frame.now.sites in
     record {
       is : code_of l.node-items ≡ l.block;
-      told : after (states l.leaving) (rest (code_of (drop l.node-index l.node-items)) (plain.State l.now)) ≡ after (states l.initial.leaving) (rest l.block (plain.State l.fn.state));
+      told : with_leaving (states l.leaving) (rest (code_of (drop l.node-index l.node-items)) (plain.State l.now)) ≡ with_leaving (states l.initial.leaving) (rest l.block (plain.State l.fn.state));
     }
 
 -- the iterates that are left, from the state so far, come to what all do
@@ -48,7 +48,7 @@ abbrev pub invariant-loop_head-loop-k : goal.invariant-loop_head-loop-k
 invariant-loop_head-loop-k g l =
     let dom = g.D.Domain.operations l.interpreter.dom.now in
     let body = passed dom l.interpreter.plan.now l.interpreter.frame.now.place l.interpreter.frame.now.sites l.body in
-    let from = iterate dom l.interpreter.plan.now.engine (marks_at l.interpreter.plan.now l.interpreter.frame.now.place) (λ x. (body (lift (dom.assume l.cond true) x)).value) (plain.Over l.n l.interpreter.frame.now.sites) in
+    let from = iterate dom l.interpreter.plan.now.engine (thresholds_at l.interpreter.plan.now l.interpreter.frame.now.place) (λ x. (body (lift (dom.assume l.cond true) x)).value) (plain.Over l.n l.interpreter.frame.now.sites) in
     record {
       told : from (l.interpreter.plan.now.engine.budget - l.k) l.k l.now ≡ from l.interpreter.plan.now.engine.budget 0 l.state;
     }

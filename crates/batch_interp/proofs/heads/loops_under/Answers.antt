@@ -1,5 +1,5 @@
 use Rattle.std.proofs.Common.{ap, map}
-use Rattle.program_chains.specs.Chains.{chains}
+use Rattle.imp_chains.specs.Chains.{chains}
 use Rattle.batch_interp.specs.Handing.{IsEnteredBy}
 use Rattle.batch_interp.specs.Heads.{under_told}
 use Rattle.batch_interp.proofs.HeadLemmas.{loops_next, loops_end}

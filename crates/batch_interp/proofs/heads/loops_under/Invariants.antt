@@ -1,5 +1,5 @@
 use Rattle.std.proofs.Common.{◌≡◌, map, take}
-use Rattle.program_chains.specs.Chains.{chains}
+use Rattle.imp_chains.specs.Chains.{chains}
 use Rattle.cert_meaning.specs.Written.{loops}
 use Rattle.batch_interp.specs.Frames.{body_at}
 use Rattle.batch_interp.specs.Heads.{under_told, told_under}

@@ -1,5 +1,5 @@
 use Rattle.std.proofs.Common.{sym, reverse}
-use Rattle.batch_interp.specs.Frames.{marks_at, calls_in}
+use Rattle.batch_interp.specs.Frames.{thresholds_at, calls_in}
 use Rattle.batch_interp.proofs.BlockLemmas.{over_batch}
 use Rattle.batch_interp.proofs.spots.behind_block.Goals as goal
 
@@ -9,4 +9,4 @@ returns-in-Over g c =
     let plan = c.args.interpreter.now.plan.now in
     let place = c.args.interpreter.now.frame.now.place in
     let z = c.args.interpreter.now.frame.now.sites in
-    record { is = rw c.in-Over.is (sym (over_batch dom plan.engine (marks_at plan place) z (calls_in dom plan place z) c.args.block.now c.in-Over.head (reverse c.in-Over.chain))) }
+    record { is = rw c.in-Over.is (sym (over_batch dom plan.engine (thresholds_at plan place) z (calls_in dom plan place z) c.args.block.now c.in-Over.head (reverse c.in-Over.chain))) }

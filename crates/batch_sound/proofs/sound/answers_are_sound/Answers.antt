@@ -5,5 +5,5 @@ use Rattle.batch_sound.proofs.sound.answers_are_sound.Goals as goal
 pub returns : goal.returns
 returns g c =
     let e = c.steps_keep_data.ensures in
-    let keeps : Kept = record { effects = e.effects; calls = e.calls; returns = e.returns; last_alone = e.last_alone; starts = e.starts; rises = c.marks_rise.ensures.rising } in
+    let keeps : Kept = record { effects = e.effects; calls = e.calls; returns = e.returns; last_alone = e.last_alone; starts = e.starts; rises = c.thresholds_rise.ensures.rising } in
     record { sound = λ d. answers_sound (g.D.Domain.operations d) (g.D.Domain.covers d) (g.met.D.Domain.laws d) keeps c.places_are_found.ensures.found }

@@ -1,6 +1,6 @@
 use Rattle.std.proofs.Common.{◌≡◌, ◌++◌, drop, map}
 use Rattle.imp_slots.specs.CallViews.{argument_of}
-use Rattle.program_chains.specs.Marks.{argument_literals}
+use Rattle.imp_chains.specs.Thresholds.{argument_literals}
 use Rattle.call_contexts.proofs.literals.add_arguments.Given as goal
 
 abbrev pub invariant-loop-argument : goal.invariant-loop-argument

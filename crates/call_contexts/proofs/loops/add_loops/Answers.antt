@@ -3,11 +3,11 @@ use Rattle.std.proofs.Common.{ℕ, ◌+◌, ◌||◌, ◌&&◌, List, take, ap, 
 use Rattle.std.specs.BTreeSet.{contains}
 use Rattle.std.specs.Ordering.{nat_cmp}
 use Rattle.imp_check.specs.Entries.{entries_of, entry_of}
-use Rattle.program_chains.specs.Chains.{has}
+use Rattle.imp_chains.specs.Chains.{has}
 use Rattle.call_contexts.specs.Loops.{loop_in}
 use Rattle.call_contexts.proofs.Looped.{adds_none, adds_one, take_none}
 use Rattle.call_contexts.proofs.loops.add_loops.Goals as goal
-use Rattle.plain_values.proofs.Lists.{take_item}
+use Rattle.base_values.proofs.Lists.{take_item}
 
 pub loop-stmt-init : goal.loop-stmt-init
 loop-stmt-init c = record { added = adds_none (contains nat_cmp c.args.found.now) (λ n. loop_in c.args.proc (entry_of (entries_of c.args.prog.now) n)) (take 0 c.args.stmts.now) (take_none c.args.stmts.now) }

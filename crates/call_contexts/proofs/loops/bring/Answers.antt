@@ -1,7 +1,7 @@
 use Rattle.std.proofs.Common.{ℕ, ◌≡◌, List, Some, slice_get, sym, ap, subst, ◌∙◌}
 use Rattle.std.specs.List.Sorted.{IsStrictlySortedBy}
 use Rattle.std.specs.Ordering.{nat_cmp}
-use Rattle.program_chains.specs.Chains.{has}
+use Rattle.imp_chains.specs.Chains.{has}
 use Rattle.call_contexts.specs.Loops.{IsGap}
 use Rattle.call_contexts.proofs.Rising.{inserted_rises, has_inserted, has_again}
 use Rattle.call_contexts.proofs.loops.bring.Goals as goal

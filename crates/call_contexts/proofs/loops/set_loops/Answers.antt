@@ -2,8 +2,8 @@ use Rattle.std.proofs.lemmas.List.{take_all}
 use Rattle.std.proofs.Common.{ℕ, ◌≡◌, ◌+◌, ◌==◌, Bool, List, take, ap, ◌∙◌}
 use Rattle.std.specs.Prelude.{if◌then◌else◌}
 use Rattle.imp_check.specs.Entries.{entries_of, entry_of}
-use Rattle.program_table.specs.declared.change.Put.{Put}
-use Rattle.program_chains.specs.Chains.{has}
+use Rattle.imp_table.specs.declared.change.Put.{Put}
+use Rattle.imp_chains.specs.Chains.{has}
 use Rattle.call_contexts.specs.Loops.{loop_in, put_numbers}
 use Rattle.call_contexts.proofs.Looped.{sets_none, sets_one, put_step, take_none}
 use Rattle.call_contexts.proofs.loops.set_loops.Goals as goal

@@ -1,5 +1,5 @@
 use Rattle.std.proofs.Common.{sym, ap, ◌∙◌}
-use Rattle.analysis_words.specs.declared.refusal.Refusal.TheVariants.{NoStatement}
+use Rattle.imp_words.specs.declared.refusal.QueryRefusal.TheVariants.{NoStatement}
 use Rattle.batch_meaning.specs.Answers.{found_or}
 use Rattle.call_contexts.proofs.Placed.{proc_of, holder_is}
 use Rattle.call_contexts.proofs.places.holder.Goals as goal

@@ -1,6 +1,6 @@
 use Rattle.std.proofs.Common.{◌≡◌, ap, ◌∙◌, arith}
 use Rattle.imp_check.specs.Slots.{routines_of}
-use Rattle.program_chains.specs.Chains.{chains}
+use Rattle.imp_chains.specs.Chains.{chains}
 use Rattle.call_contexts.proofs.table.chains_to.Goals as goal
 
 pub returns : goal.returns

@@ -1,6 +1,6 @@
 use Rattle.std.proofs.Common.{◌≡◌, ◌≤◌, ◌-◌}
 use Rattle.imp_check.specs.Slots.{routines_of}
-use Rattle.program_chains.specs.Chains.{chains}
+use Rattle.imp_chains.specs.Chains.{chains}
 use Rattle.call_contexts.specs.Tables.{chains_up}
 use Rattle.call_contexts.proofs.table.chains_to.Given as goal
 

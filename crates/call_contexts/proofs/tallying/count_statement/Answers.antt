@@ -1,5 +1,5 @@
 use Rattle.std.proofs.Common.{◌+◌, subst, ap, ◌∙◌}
-use Rattle.program_chains.specs.Chains.{has}
+use Rattle.imp_chains.specs.Chains.{has}
 use Rattle.call_contexts.specs.Literals.{literals_in}
 use Rattle.call_contexts.specs.Tallies.{one_if, Tells, capped}
 use Rattle.call_contexts.proofs.tallying.count_statement.Goals as goal

@@ -1,4 +1,4 @@
-use Rattle.demand_order.specs.Asking.{value_of}
+use Rattle.daig_order.specs.Asking.{value_of}
 use Rattle.cell_rows.specs.Claims.{rows_of}
 use Rattle.cell_rows.proofs.Ways.{targets_some}
 use Rattle.cell_rows.proofs.Answered.{answer_is, total_batch}

@@ -6,7 +6,7 @@ use Rattle.cell_rows.proofs.Kept.{kept_value}
 use Rattle.cell_rows.proofs.Package.{inputs_have}
 use Rattle.cell_rows.proofs.TotalRows.{is_total, total_inputs}
 use Rattle.cell_rows.proofs.laws.rows_give_values.Goals as goal
-use Rattle.demand_order.specs.Order.{member}
+use Rattle.daig_order.specs.Order.{member}
 
 pub returns : goal.returns
 returns g c = record {

@@ -1,7 +1,7 @@
 use Rattle.std.proofs.Common.{◌≡◌, ◌+◌, ◌*◌, drop}
 use Rattle.imp_slots.specs.Sizes.{code_size}
 use Rattle.imp_slots.specs.BlockViews.{code_of, node_size}
-use Rattle.cert_meaning.specs.Followed.{after}
+use Rattle.cert_meaning.specs.Followed.{with_leaving}
 use Rattle.batch_interp.proofs.Weights.{weight}
 use Rattle.cert_check.specs.Following.{followed_in}
 use Rattle.cert_check.proofs.following.+following.Given as goal
@@ -36,5 +36,5 @@ invariant-follow_block-loop-node g l =
     let rest = followed_in (g.D.Domain.operations l.follower.dom.now) (g.D.Portable.port l.follower.dom.now).leq l.follower.written.now l.follower.routines.now l.follower.frame.now.place l.follower.frame.now.sites in
     record {
       is : code_of l.node-items ≡ l.block;
-      told : after l.leaving (rest (code_of (drop l.node-index l.node-items)) l.now) ≡ after l.initial.leaving (rest l.block l.fn.state);
+      told : with_leaving l.leaving (rest (code_of (drop l.node-index l.node-items)) l.now) ≡ with_leaving l.initial.leaving (rest l.block l.fn.state);
     }

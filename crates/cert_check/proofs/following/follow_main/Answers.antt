@@ -1,6 +1,6 @@
 use Rattle.std.proofs.Common.{◌≡◌, ◌-◌, suc, length, get_or, ap, ◌∙◌, arith}
-use Rattle.batch_interp.specs.declared.frames.Frame.{Frame}
-use Rattle.plain_values.proofs.Lists.{get_there}
+use Rattle.batch_interp.specs.declared.frames.CallFrame.{CallFrame}
+use Rattle.base_values.proofs.Lists.{get_there}
 use Rattle.cert_check.proofs.FollowLemmas.{main_ends}
 use Rattle.cert_check.proofs.following.follow_main.Goals as goal
 
@@ -11,7 +11,7 @@ returns g c =
     let last = length program - 1 in
     let some = c.requires.some in
     let count : length program ≡ suc last = omega (arith, some) in
-    let place : c.main-frame.result.place ≡ last = ap (λ (f : Frame). f.place) c.main-frame.ensures.is in
+    let place : c.main-frame.result.place ≡ last = ap (λ (f : CallFrame). f.place) c.main-frame.ensures.is in
     let main = c.index-routines-frame.result in
     let there = get_there program last main (omega (arith, some)) (c.index-routines-frame.is ∙ ap (λ k. get_or program k main) place) in
     record {

@@ -4,7 +4,7 @@ use Rattle.imp_check.specs.Slots.{routines_of}
 use Rattle.cert_reading.specs.Reading.{entry_told}
 use Rattle.cert_reading.proofs.ReadLemmas.{added}
 use Rattle.cert_reading.proofs.reading.add_line.Goals as goal
-use Rattle.plain_values.proofs.Cases.{none_of}
+use Rattle.base_values.proofs.Cases.{none_of}
 
 pub returns : goal.returns
 returns g c =

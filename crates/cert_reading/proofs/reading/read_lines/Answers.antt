@@ -1,5 +1,5 @@
 use Rattle.std.proofs.Common.{[], arith}
-use Rattle.script_loop.specs.Lines.{all_lines}
+use Rattle.serve_script.specs.Lines.{all_lines}
 use Rattle.imp_check.specs.Slots.{routines_of}
 use Rattle.cert_lines.specs.Lines.{entries}
 use Rattle.cert_reading.proofs.ReadLemmas.{one_byte, bad_byte, last_read}

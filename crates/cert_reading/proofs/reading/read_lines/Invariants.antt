@@ -1,5 +1,5 @@
 use Rattle.std.proofs.Common.{◌+◌, ◌≤◌, [], drop}
-use Rattle.script_loop.specs.Lines.{all_lines}
+use Rattle.serve_script.specs.Lines.{all_lines}
 use Rattle.imp_check.specs.Slots.{routines_of}
 use Rattle.cert_lines.specs.Lines.{entries}
 use Rattle.cert_reading.specs.Reading.{lines_from, IsReading}

@@ -1,8 +1,8 @@
 use Rattle.std.proofs.Common.{◌≡◌, ℕ, ◌-◌, map, Ok, Err, refl, sym, ◌∙◌, arith}
 use Rattle.std.proofs.lemmas.Result.{err_from_is_err_and}
-use Rattle.plain_values.specs.declared.error.Memory.{Memory}
+use Rattle.base_values.specs.declared.error.Memory.{Memory}
 use Rattle.imp_flow.specs.Reached.{target_of}
-use Rattle.daig_query.specs.Filled.{added}
+use Rattle.daig_query.specs.Filled.{cells_added}
 use Rattle.daig_query.specs.Turned.{stacked_names}
 use Rattle.daig_query.proofs.Demands.{limit_met, demand_failed, demand_spent, demand_done, come_pushed, pushed_smaller, come_filled, filled_smaller}
 use Rattle.daig_query.proofs.Growing.{few_more, few_same}
@@ -22,7 +22,7 @@ turns-init g c =
       within = within_start dom plan ts c.args.limit store;
       least = omega arith;
       most = omega arith;
-      few = few_more store store 0 (added store store) (omega arith) (few_same store store refl refl);
+      few = few_more store store 0 (cells_added store store) (omega arith) (few_same store store refl refl);
     }
 
 pub returns-in_err-take_turn : goal.returns-in_err-take_turn
@@ -121,8 +121,8 @@ turns-preserved g c =
       most = c.take_turn.ensures.most;
     } in
     let count = c.kept_count.result - c.kept_count-before.result in
-    let counted : count ≡ added c.args.store.now c.turns.store = omega (arith, c.kept_count.ensures.count, c.kept_count-before.ensures.count) in
-    come_filled dom plan ts c.args.store.now c.args.limit each c.args.steps.now c.turns.store c.take_turn.new.store c.turns.walk c.take_turn.new.walk c.eq-spent.result c.turns.steps c.take_turn.new.steps c.turns.invariant c.in_ok-take_turn.field-0 t c.in-Filled.is (λ o. limit_open c.args.limit count (added c.args.store.now c.turns.store) counted (sym c.eq-spent.ensures ∙ o))
+    let counted : count ≡ cells_added c.args.store.now c.turns.store = omega (arith, c.kept_count.ensures.count, c.kept_count-before.ensures.count) in
+    come_filled dom plan ts c.args.store.now c.args.limit each c.args.steps.now c.turns.store c.take_turn.new.store c.turns.walk c.take_turn.new.walk c.eq-spent.result c.turns.steps c.take_turn.new.steps c.turns.invariant c.in_ok-take_turn.field-0 t c.in-Filled.is (λ o. limit_open c.args.limit count (cells_added c.args.store.now c.turns.store) counted (sym c.eq-spent.ensures ∙ o))
 
 pub returns-in-Spent : goal.returns-in-Spent
 returns-in-Spent g c =
@@ -142,7 +142,7 @@ returns-in-Spent g c =
       most = c.take_turn.ensures.most;
     } in
     let count = c.kept_count.result - c.kept_count-before.result in
-    let counted : count ≡ added c.args.store.now c.turns.store = omega (arith, c.kept_count.ensures.count, c.kept_count-before.ensures.count) in
+    let counted : count ≡ cells_added c.args.store.now c.turns.store = omega (arith, c.kept_count.ensures.count, c.kept_count-before.ensures.count) in
     let d = demand_spent dom plan ts c.args.store.now c.args.limit each c.args.steps.now c.turns.store c.take_turn.new.store c.turns.walk c.take_turn.new.walk c.eq-spent.result c.turns.steps c.take_turn.new.steps c.turns.invariant c.in_ok-take_turn.field-0 t count counted c.in-Spent.is (λ o. limit_met c.args.limit count (sym c.eq-spent.ensures ∙ o)) {F = Memory} in
     record { fills = d.fills; walk = d.walk; within = d.within; counted = d.counted; all = d.all; done = d.done; more = d.more; limited = d.limited; least = d.least; ticked = d.ticked; most = d.most }
 
@@ -164,6 +164,6 @@ returns-in-Done g c =
       most = c.take_turn.ensures.most;
     } in
     let count = c.kept_count.result - c.kept_count-before.result in
-    let counted : count ≡ added c.args.store.now c.turns.store = omega (arith, c.kept_count.ensures.count, c.kept_count-before.ensures.count) in
+    let counted : count ≡ cells_added c.args.store.now c.turns.store = omega (arith, c.kept_count.ensures.count, c.kept_count-before.ensures.count) in
     let d = demand_done dom plan ts c.args.store.now c.args.limit each c.args.steps.now c.turns.store c.take_turn.new.store c.turns.walk c.take_turn.new.walk c.eq-spent.result c.turns.steps c.take_turn.new.steps c.turns.invariant c.in_ok-take_turn.field-0 t count counted c.in-Done.is {F = Memory} in
     record { fills = d.fills; walk = d.walk; within = d.within; counted = d.counted; all = d.all; done = d.done; more = d.more; limited = d.limited; least = d.least; ticked = d.ticked; most = d.most }

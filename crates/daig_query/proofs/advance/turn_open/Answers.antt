@@ -1,7 +1,7 @@
 use Rattle.std.proofs.Common.{[], ◌∷◌, ◌++◌, map, Some, None, option_map, refl, sym, ap, subst, ◌∙◌, inl, inr}
 use Rattle.std.proofs.lemmas.Result.{err_from_is_err_and}
-use Rattle.plain_values.specs.declared.error.Memory.{Memory}
-use Rattle.flow_rows.specs.Near.{row_in}
+use Rattle.base_values.specs.declared.error.Memory.{Memory}
+use Rattle.imp_flow_rows.specs.Near.{row_in}
 use Rattle.imp_flow.specs.Reached.{target_of}
 use Rattle.daig_query.specs.Opened.{name_of, Looks}
 use Rattle.daig_query.specs.Turned.{stacked_names}

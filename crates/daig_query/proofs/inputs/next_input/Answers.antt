@@ -1,7 +1,7 @@
 use Rattle.std.proofs.Common.{◌≡◌, None, length, sym, subst, ap, ◌∙◌, option_map}
 use Rattle.loop_unroll.specs.Iterates.{iterate_of, GoesOnTo, StopsWithin}
-use Rattle.flow_rows.specs.Near.{input_name}
-use Rattle.flow_rows.specs.Inputs.{iterate_of as iterate_in}
+use Rattle.imp_flow_rows.specs.Near.{input_name}
+use Rattle.imp_flow_rows.specs.Inputs.{iterate_of as iterate_in}
 use Rattle.daig_query.specs.Asked.{by_count, joined_next}
 use Rattle.daig_query.specs.Opened.{name_of}
 use Rattle.daig_query.proofs.Asked.{asked_operation, asked_joined, X, r}

@@ -4,8 +4,8 @@ use Rattle.cell_names.specs.Owners.{owner}
 use Rattle.cell_names.specs.Paths.{path_at}
 use Rattle.daig_graph.specs.Cells.{AreCells, Filled}
 use Rattle.daig_query.specs.declared.held.Held.{Held}
-use Rattle.named_cells.specs.Named.{AreNumbers}
-use Rattle.named_cells.specs.Asked.{inputs}
+use Rattle.cell_graph.specs.Named.{AreNumbers}
+use Rattle.cell_graph.specs.Asked.{inputs}
 use Rattle.daig_query.specs.Right.{IsCellOf}
 use Rattle.daig_query.specs.Opened.{name_of}
 use Rattle.daig_query.proofs.Growing.{few_more, few_same, few_trans, keeps_refl}

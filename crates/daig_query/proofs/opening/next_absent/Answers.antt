@@ -1,6 +1,6 @@
 use Rattle.std.proofs.Common.{◌≡◌, refl, sym, ap, subst, ◌∙◌}
 use Rattle.std.specs.FinMap.{get}
-use Rattle.flow_rows.specs.Near.{input_name}
+use Rattle.imp_flow_rows.specs.Near.{input_name}
 use Rattle.cell_names.specs.Known.{Known, KeepsNumbers, IsOnce}
 use Rattle.domain_laws.specs.Operations.{Operations}
 use Rattle.imp_flow.specs.Plans.{Plan}
@@ -11,7 +11,7 @@ use Rattle.daig_query.specs.Right.{IsRight}
 use Rattle.daig_query.proofs.Growing.{keeps_same, keeps_trans, names_trans, right_named}
 use Rattle.daig_query.proofs.Looking.{named_by, later, looks, more, fewer}
 use Rattle.daig_query.proofs.opening.next_absent.Goals as goal
-use Rattle.plain_values.proofs.Cases.{none_of}
+use Rattle.base_values.proofs.Cases.{none_of}
 
 -- a store that has more paths alone, by the names that stand at the end
 paths_more : {S : Type 0} (old : Store S) (mid last : Known) → KeepsNumbers old.names.paths mid.paths → mid.names ≡ old.names.names → last ≡ mid → Names old (record old { names = last })

@@ -1,6 +1,6 @@
 use Rattle.std.proofs.Common.{◌≡◌, ◌-◌, length}
 use Rattle.daig_query.specs.Kept.{Names}
-use Rattle.named_cells.specs.Asked.{inputs}
+use Rattle.cell_graph.specs.Asked.{inputs}
 use Rattle.daig_query.specs.Opened.{name_of, IsAt}
 use Rattle.daig_query.proofs.opening.next_absent.Given as goal
 

@@ -4,13 +4,13 @@ use Rattle.std.specs.Prelude.{is_some}
 use Rattle.std.specs.FinMap.{get}
 use Rattle.std.proofs.lemmas.List.{length-map}
 use Rattle.std.proofs.lemmas.Option.{slice_get_within}
-use Rattle.plain_values.specs.declared.error.Memory.{Memory}
+use Rattle.base_values.specs.declared.error.Memory.{Memory}
 use Rattle.cell_names.specs.declared.path.Name.{Name}
 use Rattle.cell_names.specs.Paths.{name_in}
-use Rattle.demand_laws.specs.Walks.{asks, goes}
-use Rattle.demand_laws.specs.Walks as law
+use Rattle.daig_demands.specs.Walks.{asks, goes}
+use Rattle.daig_demands.specs.Walks as law
 use Rattle.imp_flow.specs.Reached.{target_of, step_of}
-use Rattle.named_cells.proofs.Numbers.{filled_number}
+use Rattle.cell_graph.proofs.Numbers.{filled_number}
 use Rattle.daig_query.specs.declared.opening.Open.{Open}
 use Rattle.daig_query.specs.declared.store.Store.{Store}
 use Rattle.daig_query.specs.Right.{found}
@@ -19,7 +19,7 @@ use Rattle.daig_query.proofs.Stepping.{place_end, fewer_left, placed_left}
 use Rattle.daig_query.proofs.Taking.{target_here, asking, step_fails, step_leaves}
 use Rattle.daig_query.proofs.walk.last.Goals as goal
 use Rattle.daig_query.proofs.Growing.{names_refl}
-use Rattle.plain_values.proofs.Cases.{none_of}
+use Rattle.base_values.proofs.Cases.{none_of}
 
 pub returns-in_err-cell : goal.returns-in_err-cell
 returns-in_err-cell g c =

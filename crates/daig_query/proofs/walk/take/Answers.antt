@@ -2,14 +2,14 @@ use Rattle.std.proofs.Common.{◌≡◌, ◌<◌, map, length, Some, refl, sym, 
 use Rattle.std.proofs.lemmas.Result.{err_from_is_err_and}
 use Rattle.std.specs.FinMap.{get}
 use Rattle.std.proofs.lemmas.Option.{slice_get_within}
-use Rattle.cell_names.specs.declared.frame.Frame.TheVariants.{InLoop}
+use Rattle.cell_names.specs.declared.frame.NameFrame.TheVariants.{InLoop}
 use Rattle.cell_names.specs.declared.frame.Point.TheVariants.{Fix}
-use Rattle.plain_values.specs.declared.error.Memory.{Memory}
+use Rattle.base_values.specs.declared.error.Memory.{Memory}
 use Rattle.cell_names.specs.declared.path.Name.{Name}
 use Rattle.cell_rows.specs.Targets as plain
-use Rattle.demand_laws.specs.Walks.{asks}
+use Rattle.daig_demands.specs.Walks.{asks}
 use Rattle.imp_flow.specs.Reached.{target_of}
-use Rattle.imp_flow.specs.declared.steps.Step.TheVariants.{Take}
+use Rattle.imp_flow.specs.declared.steps.TargetStep.TheVariants.{Take}
 use Rattle.daig_query.specs.declared.opening.Open.{Open}
 use Rattle.daig_query.specs.declared.store.Store.{Store}
 use Rattle.daig_query.specs.Walked.{IsAsked}
@@ -18,7 +18,7 @@ use Rattle.daig_query.proofs.Stepping.{place_step, fewer_left, fewer_steps, plac
 use Rattle.daig_query.proofs.Taking.{target_here, step_here, asking, step_fails, entered, entered_right, step_enters, step_leaves}
 use Rattle.daig_query.proofs.walk.take.Goals as goal
 use Rattle.daig_query.proofs.Growing.{names_refl}
-use Rattle.plain_values.proofs.Cases.{none_of}
+use Rattle.base_values.proofs.Cases.{none_of}
 
 pub returns-in_err-cell : goal.returns-in_err-cell
 returns-in_err-cell g c =

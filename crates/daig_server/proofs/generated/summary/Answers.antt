@@ -1,7 +1,7 @@
 use Rattle.std.proofs.Common.{◌≡◌, string_bytes}
-use Rattle.line_answers.specs.Fine.{opening}
-use Rattle.server_jobs.specs.Jobs.{engine_of}
-use Rattle.server_jobs.specs.Output.{gen_bytes}
+use Rattle.serve_answers.specs.Fine.{opening}
+use Rattle.serve_output.specs.Jobs.{engine_of}
+use Rattle.serve_output.specs.Output.{gen_bytes}
 use Rattle.daig_server.proofs.TallyLemmas.{from_opening}
 use Rattle.daig_server.proofs.generated.summary.Goals as goal
 

@@ -1,6 +1,6 @@
 use Rattle.std.proofs.Common.{◌∙◌, sym}
-use Rattle.line_answers.specs.Lines.{line_turn}
-use Rattle.server_jobs.specs.Domains.{meaning_of}
+use Rattle.serve_answers.specs.Lines.{line_turn}
+use Rattle.serve_output.specs.Domains.{meaning_of}
 use Rattle.daig_server.proofs.TallyLemmas.{line_cost}
 use Rattle.daig_server.proofs.generated.tally_line.Goals as goal
 

@@ -1,9 +1,9 @@
 use Rattle.std.proofs.Common.{◌∙◌, [], ◌∷◌, suc, take, slice_index_or, ap, sym, refl, arith}
 use Rattle.gen_summary.specs.Summary.{nothing}
-use Rattle.script_loop.specs.Lines.{whole_lines}
-use Rattle.script_loop.proofs.LineLemmas.{lines_more, part_more}
-use Rattle.server_jobs.specs.Domains.{meaning_of}
-use Rattle.server_jobs.specs.Output.{served_after, tallied}
+use Rattle.serve_script.specs.Lines.{whole_lines}
+use Rattle.serve_script.proofs.LineLemmas.{lines_more, part_more}
+use Rattle.serve_output.specs.Domains.{meaning_of}
+use Rattle.serve_output.specs.Output.{served_after, tally_output}
 use Rattle.daig_server.proofs.TallyLemmas.{after-append, tallied-append}
 use Rattle.daig_server.proofs.generated.tally_lines.Goals as goal
 
@@ -31,6 +31,6 @@ loop-byte-preserved g c =
           rw (sym more, after-append dom before (whole_lines part (b ∷ [])) s) (call.next (served_after dom before s) (c.loop-byte.invariant.next s stands));
       tally = λ s stands.
           call.tally (served_after dom before s) (c.loop-byte.invariant.next s stands)
-          ∙ ap (tallied dom (whole_lines part (b ∷ [])) (served_after dom before s)) (c.loop-byte.invariant.tally s stands)
-          ∙ sym (tallied-append dom before (whole_lines part (b ∷ [])) s nothing) ∙ ap (λ lines. tallied dom lines s nothing) more;
+          ∙ ap (tally_output dom (whole_lines part (b ∷ [])) (served_after dom before s)) (c.loop-byte.invariant.tally s stands)
+          ∙ sym (tallied-append dom before (whole_lines part (b ∷ [])) s nothing) ∙ ap (λ lines. tally_output dom lines s nothing) more;
     }

@@ -1,10 +1,10 @@
 use Rattle.std.proofs.Common.{◌≡◌, ◌≤◌, ◌+◌, ◌^◌, ℕ, [], take}
 use Rattle.gen_summary.specs.Summary.{nothing, IsWithin}
 use Rattle.daig_session.specs.Holds.{Holds, IsReady}
-use Rattle.script_loop.specs.Lines.{last_part, whole_lines}
-use Rattle.line_answers.specs.Lines.{Served}
-use Rattle.server_jobs.specs.Domains.{meaning_of}
-use Rattle.server_jobs.specs.Output.{served_after, tallied}
+use Rattle.serve_script.specs.Lines.{last_part, whole_lines}
+use Rattle.serve_answers.specs.Lines.{Served}
+use Rattle.serve_output.specs.Domains.{meaning_of}
+use Rattle.serve_output.specs.Output.{served_after, tally_output}
 use Rattle.daig_server.proofs.generated.tally_lines.Given as goal
 
 -- the lines that end in the bytes so far are tallied
@@ -19,5 +19,5 @@ invariant-loop-byte g l =
       lasts : (n : ℕ) → (started.book.tickets.next + (l.byte-index + n) ≤ 2 ^ 63) → IsReady (g.D.Domain.operations now.engine.domain) now.engine.store now.book × (now.book.tickets.next + n ≤ 2 ^ 63);
       within : IsWithin l.byte-index l.tally;
       next : (s : Served) → Holds (g.D.Domain.operations started.engine.domain) started.engine.store started.book s.machine → Holds (g.D.Domain.operations now.engine.domain) now.engine.store now.book (served_after dom lines s).machine;
-      tally : (s : Served) → Holds (g.D.Domain.operations started.engine.domain) started.engine.store started.book s.machine → l.tally ≡ tallied dom lines s nothing;
+      tally : (s : Served) → Holds (g.D.Domain.operations started.engine.domain) started.engine.store started.book s.machine → l.tally ≡ tally_output dom lines s nothing;
     }

@@ -1,4 +1,4 @@
-use Rattle.server_jobs.specs.Output.{usage}
+use Rattle.serve_output.specs.Output.{usage}
 use Rattle.daig_server.proofs.run.refuse_words.Goals as goal
 
 pub returns-in-Err-clause-wrote : goal.returns-in-Err-clause-wrote

@@ -1,4 +1,4 @@
-use Rattle.server_jobs.proofs.OutputLemmas.{loaded, loaded_output}
+use Rattle.serve_output.proofs.OutputLemmas.{loaded, loaded_output}
 use Rattle.daig_server.proofs.run.run_file.Goals as goal
 
 pub returns-in-Ok-clause-fits : goal.returns-in-Ok-clause-fits

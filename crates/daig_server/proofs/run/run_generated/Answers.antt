@@ -1,5 +1,5 @@
 use Rattle.std.proofs.Common.{◌∙◌, [], ap, length, arith}
-use Rattle.server_jobs.specs.Sources.{source_of}
+use Rattle.serve_output.specs.Sources.{source_of}
 use Rattle.daig_server.proofs.GeneratedLemmas.{generated_accepted, generated_ends}
 use Rattle.daig_server.proofs.run.run_generated.Goals as goal
 

@@ -1,6 +1,6 @@
 use Rattle.std.proofs.Common.{Err, ap, refl}
-use Rattle.script_loop.specs.Lines.{all_lines}
-use Rattle.server_jobs.specs.Domains.{meaning_of}
+use Rattle.serve_script.specs.Lines.{all_lines}
+use Rattle.serve_output.specs.Domains.{meaning_of}
 use Rattle.daig_server.proofs.LineLemmas.{wrote_whole}
 use Rattle.daig_server.proofs.work.serve_lines.Goals as goal
 

@@ -1,5 +1,5 @@
-use Rattle.line_answers.specs.Fine.{opening}
-use Rattle.server_jobs.specs.Jobs.{engine_of}
+use Rattle.serve_answers.specs.Fine.{opening}
+use Rattle.serve_output.specs.Jobs.{engine_of}
 use Rattle.daig_server.proofs.work.serve_program.Goals as goal
 
 pub returns-in-Ok-clause-wrote : goal.returns-in-Ok-clause-wrote

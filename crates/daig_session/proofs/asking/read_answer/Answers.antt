@@ -1,5 +1,5 @@
 use Rattle.std.proofs.Common.{Some, sym, subst}
-use Rattle.analysis_words.specs.declared.refusal.Refusal.TheVariants.{NoChain}
+use Rattle.imp_words.specs.declared.refusal.QueryRefusal.TheVariants.{NoChain}
 use Rattle.batch_meaning.specs.Answers.{In, answer_in}
 use Rattle.daig_query.specs.Answered.{Covers, Says}
 use Rattle.daig_session.proofs.Asked.{asked_is, not_refused}

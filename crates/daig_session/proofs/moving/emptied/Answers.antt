@@ -4,7 +4,7 @@ use Rattle.daig_graph.specs.Cells.{Cells}
 use Rattle.cell_removal.specs.Removal.{IsRising}
 use Rattle.edit_invalidate.specs.Touched.{AreNamed}
 use Rattle.edit_invalidate.proofs.Rising.{are_named, rise}
-use Rattle.edits_keep_cells.specs.Claims.{flow_of}
+use Rattle.edit_keeps.specs.Apart.{flow_of}
 use Rattle.daig_query.specs.declared.held.Held.{Held}
 use Rattle.daig_query.proofs.Holding.{right_holds}
 use Rattle.daig_session.proofs.moving.emptied.Goals as goal

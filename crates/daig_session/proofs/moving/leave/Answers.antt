@@ -1,5 +1,5 @@
 use Rattle.std.proofs.Common.{sym, subst}
-use Rattle.edits_keep_cells.specs.Claims.{flow_of}
+use Rattle.edit_keeps.specs.Apart.{flow_of}
 use Rattle.daig_query.specs.Swept.{most_held, IsWithin, StaysRight}
 use Rattle.daig_query.proofs.Sweeps.{lessens-in-tables, swept-bounded}
 use Rattle.daig_session.proofs.Moved.{leaves}

@@ -1,7 +1,7 @@
 use Rattle.std.proofs.Common.{◌≡◌, ap, subst, ◌∙◌}
 use Rattle.std.specs.Prelude.{IfOk}
 use Rattle.imp_slots.specs.ActionViews.{act_of}
-use Rattle.analysis_words.specs.declared.findings.Finding.{Finding}
+use Rattle.imp_words.specs.declared.findings.Finding.{Finding}
 use Rattle.domain_laws.specs.Checks.{kind_of}
 use Rattle.alarm_report.specs.Reporting.{verdict_for}
 use Rattle.daig_session.proofs.CheckLemmas.{is_of, ok_finding}

@@ -3,15 +3,15 @@ use Rattle.std.proofs.lemmas.Option.{slice_get_within}
 use Rattle.std.specs.Prelude.{IfErr, IfOk, IfSome}
 use Rattle.imp_flow.specs.Plans.{Plan}
 use Rattle.batch_meaning.specs.Answers.{answer}
-use Rattle.open_tickets.specs.declared.tickets.Open.{Open}
-use Rattle.open_tickets.specs.Tickets.{anew}
+use Rattle.daig_tickets.specs.declared.tickets.OpenTicket.{OpenTicket}
+use Rattle.daig_tickets.specs.Tickets.{anew}
 use Rattle.daig_session.specs.declared.book.Going.{Going}
 use Rattle.daig_session.specs.Books.{flow_in}
 use Rattle.daig_session.specs.Going.{IsGoing, IsRefused}
 use Rattle.daig_session.proofs.TicketLemmas.{read_is, set_there}
 use Rattle.daig_session.proofs.Waiting.{waiting_get}
 use Rattle.daig_session.proofs.stepping.resumed.Goals as goal
-use Rattle.plain_values.proofs.Lists.{get_some}
+use Rattle.base_values.proofs.Lists.{get_some}
 
 pub index-one-requires : goal.index-one-requires
 index-one-requires g c =
@@ -37,7 +37,7 @@ returns-in-None-clause-going g c = λ o e.
     let one = c.index-one.result.now in
     let there = subst (λ us. slice_get us c.args.place ≡ Some (anew o)) (sym (c.take_going.ensures.left o e)) (set_there book.tickets.open_ones.items c.args.place o (anew o) e) in
     let is = read_is c.take_going.new.open_ones.items c.args.place one (anew o) c.index-one.ensures there in
-    subst (λ (x : Open Going). IfOk c.begun.result (IsGoing dom (flow_in book) store x.at x.string)) is (
+    subst (λ (x : OpenTicket Going). IfOk c.begun.result (IsGoing dom (flow_in book) store x.at x.string)) is (
     subst (λ (p : Plan). IfOk c.begun.result (IsGoing dom p store one.at one.string)) c.flow-flow.ensures.is (
     subst (λ (xs : List ℕ). IfOk c.begun.result (IsGoing dom c.flow-flow.result store one.at xs)) c.as_slice.ensures.same c.begun.ensures.going))
 
@@ -48,6 +48,6 @@ returns-in-None-clause-refused g c = λ o e.
     let one = c.index-one.result.now in
     let there = subst (λ us. slice_get us c.args.place ≡ Some (anew o)) (sym (c.take_going.ensures.left o e)) (set_there book.tickets.open_ones.items c.args.place o (anew o) e) in
     let is = read_is c.take_going.new.open_ones.items c.args.place one (anew o) c.index-one.ensures there in
-    subst (λ (x : Open Going). IfErr c.begun.result (IsRefused (answer dom (flow_in book).engine (flow_in book).program x.at x.string))) is (
+    subst (λ (x : OpenTicket Going). IfErr c.begun.result (IsRefused (answer dom (flow_in book).engine (flow_in book).program x.at x.string))) is (
     subst (λ (p : Plan). IfErr c.begun.result (IsRefused (answer dom p.engine p.program one.at one.string))) c.flow-flow.ensures.is (
     subst (λ (xs : List ℕ). IfErr c.begun.result (IsRefused (answer dom c.flow-flow.result.engine c.flow-flow.result.program one.at xs))) c.as_slice.ensures.same c.begun.ensures.refused))

@@ -1,5 +1,5 @@
 use Rattle.std.proofs.Common.{◌≡◌, ◌++◌, drop}
-use Rattle.interval_meaning.specs.Operations as operations
+use Rattle.dom_interval_meaning.specs.Operations as operations
 use Rattle.dom_interval.proofs.calls.filled.Given as goal
 
 -- what is there and what is still to be done are all

@@ -1,5 +1,5 @@
 use Rattle.std.proofs.Common.{◌≡◌, ◌++◌, drop}
-use Rattle.interval_meaning.specs.Text.{ranges_text, slots_text}
+use Rattle.dom_interval_meaning.specs.Text.{ranges_text, slots_text}
 use Rattle.dom_interval.proofs.text.slots_text.Given as goal
 
 -- what is written and what is still to be written are the text

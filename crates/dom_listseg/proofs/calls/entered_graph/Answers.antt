@@ -1,7 +1,7 @@
 use Rattle.std.proofs.Common.{sym, subst, ◌∙◌}
 use Rattle.shape_graph.specs.Shape.{nodes}
 use Rattle.shape_steps.specs.Steps.{AreTargets}
-use Rattle.listseg_meaning.proofs.CallLaws.{argument-node}
+use Rattle.dom_listseg_meaning.proofs.CallLaws.{argument-node}
 use Rattle.dom_listseg.proofs.calls.entered_graph.Goals as goal
 
 pub push_frame-requires : goal.push_frame-requires

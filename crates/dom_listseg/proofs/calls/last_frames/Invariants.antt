@@ -3,7 +3,7 @@ use Rattle.std.specs.List.{flat_map}
 use Rattle.shape_graph.specs.Shape.{Shape}
 use Rattle.shape_graph.proofs.Function.{fold_of}
 use Rattle.shape_steps.specs.Steps.{last_frame_of}
-use Rattle.listseg_meaning.specs.Sets.{union}
+use Rattle.dom_listseg_meaning.specs.Sets.{union}
 use Rattle.dom_listseg.proofs.calls.last_frames.Given as goal
 
 abbrev pub invariant-loop-graph : goal.invariant-loop-graph

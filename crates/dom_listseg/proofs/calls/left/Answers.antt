@@ -1,8 +1,8 @@
 use Rattle.std.proofs.Common.{◌≡◌, sym, ◌∙◌, ap, rules, arith}
 use Rattle.std.proofs.lemmas.Grind.{common_steps}
 use Rattle.imp_slots.specs.CallViews.{taken_of}
-use Rattle.listseg_meaning.specs.State.{Top}
-use Rattle.listseg_meaning.specs.Operations as operations
+use Rattle.dom_listseg_meaning.specs.State.{Top}
+use Rattle.dom_listseg_meaning.specs.Operations as operations
 use Rattle.dom_listseg.proofs.Left.{leave_top}
 use Rattle.dom_listseg.proofs.calls.left.Goals as goal
 

@@ -1,6 +1,6 @@
 use Rattle.std.proofs.Common.{◌≡◌, ◌++◌, map, drop}
 use Rattle.imp_slots.specs.CallViews.{argument_of}
-use Rattle.listseg_meaning.specs.Operations as operations
+use Rattle.dom_listseg_meaning.specs.Operations as operations
 use Rattle.dom_listseg.proofs.calls.link_arguments.Given as goal
 
 -- the links so far, and those to come

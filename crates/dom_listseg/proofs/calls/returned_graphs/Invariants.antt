@@ -3,8 +3,8 @@ use Rattle.std.specs.List.{flat_map}
 use Rattle.imp_slots.specs.CallViews.{taken_of}
 use Rattle.shape_graph.specs.Shape.{Shape}
 use Rattle.shape_graph.proofs.Function.{fold_of}
-use Rattle.listseg_meaning.specs.Sets.{union}
-use Rattle.listseg_meaning.specs.Operations.{returned}
+use Rattle.dom_listseg_meaning.specs.Sets.{union}
+use Rattle.dom_listseg_meaning.specs.Operations.{returned}
 use Rattle.dom_listseg.proofs.calls.returned_graphs.Given as goal
 
 abbrev pub invariant-loop-graph : goal.invariant-loop-graph

@@ -1,6 +1,6 @@
 use Rattle.std.proofs.Common.{◌≡◌, map, take}
 use Rattle.shape_graph.proofs.Function.{fold_of}
-use Rattle.listseg_meaning.specs.Sets.{union}
+use Rattle.dom_listseg_meaning.specs.Sets.{union}
 use Rattle.dom_listseg.proofs.sets.put_all.Given as goal
 
 abbrev pub invariant-loop-other : goal.invariant-loop-other

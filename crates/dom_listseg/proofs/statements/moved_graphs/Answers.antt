@@ -1,6 +1,6 @@
 use Rattle.std.proofs.Common.{arith}
 use Rattle.imp_slots.specs.ActionViews.{effect_of}
-use Rattle.listseg_meaning.specs.Operations.{stepped}
+use Rattle.dom_listseg_meaning.specs.Operations.{stepped}
 use Rattle.dom_listseg.proofs.Collected.{step_next}
 use Rattle.dom_listseg.proofs.statements.moved_graphs.Goals as goal
 

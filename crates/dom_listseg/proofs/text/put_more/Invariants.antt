@@ -1,5 +1,5 @@
 use Rattle.std.proofs.Common.{◌≡◌, ◌++◌, drop}
-use Rattle.listseg_meaning.specs.Text.{more_text}
+use Rattle.dom_listseg_meaning.specs.Text.{more_text}
 use Rattle.dom_listseg.proofs.text.put_more.Given as goal
 
 abbrev pub invariant-loop-graph : goal.invariant-loop-graph

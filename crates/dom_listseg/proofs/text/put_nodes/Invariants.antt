@@ -1,5 +1,5 @@
 use Rattle.std.proofs.Common.{◌≡◌, ◌++◌, drop}
-use Rattle.listseg_meaning.specs.Text.{nodes_text}
+use Rattle.dom_listseg_meaning.specs.Text.{nodes_text}
 use Rattle.dom_listseg.proofs.text.put_nodes.Given as goal
 
 abbrev pub invariant-loop-node : goal.invariant-loop-node

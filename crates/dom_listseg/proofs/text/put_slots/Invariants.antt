@@ -1,5 +1,5 @@
 use Rattle.std.proofs.Common.{◌≡◌, ◌++◌, drop}
-use Rattle.listseg_meaning.specs.Text.{slots_text}
+use Rattle.dom_listseg_meaning.specs.Text.{slots_text}
 use Rattle.dom_listseg.proofs.text.put_slots.Given as goal
 
 -- what is written and what is still to be written are the text

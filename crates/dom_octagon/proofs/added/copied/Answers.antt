@@ -1,6 +1,6 @@
 use Rattle.dom_octagon.proofs.Tables.{if_ok-by}
-use Rattle.octagon_states.proofs.Tight.{limited_ready}
-use Rattle.octagon_states.specs.Limits.{IsReady}
+use Rattle.dom_octagon_states.proofs.Tight.{limited_ready}
+use Rattle.dom_octagon_states.specs.Limits.{IsReady}
 use Rattle.dom_octagon.proofs.added.copied.Goals as goal
 
 pub returns-clause-ready : goal.returns-clause-ready

@@ -2,7 +2,7 @@ use Rattle.std.proofs.Common.{sym, subst}
 use Rattle.std.proofs.lemmas.Int.{to_z-of_z}
 use mir.Syntax.{w128}
 use Rattle.dom_octagon.proofs.Tables.{carried-is_ready}
-use Rattle.octagon_states.specs.Limits.{IsReady}
+use Rattle.dom_octagon_states.specs.Limits.{IsReady}
 use Rattle.dom_octagon.proofs.assign.carried.Goals as goal
 
 pub returns-clause-ready : goal.returns-clause-ready

@@ -4,8 +4,8 @@ use Rattle.std.proofs.lemmas.Int.{to_z-of_z}
 use mir.Syntax.{w128}
 use Rattle.dbm_core.proofs.HalfLemmas.{entry-coherent}
 use Rattle.dbm_core.specs.Half.{HalfMatrix, entry}
-use Rattle.octagon_meaning.proofs.Matrices.{shifted-coherent}
-use Rattle.octagon_meaning.specs.Matrices.{shifted}
+use Rattle.dom_octagon_meaning.proofs.Matrices.{shifted-coherent}
+use Rattle.dom_octagon_meaning.specs.Matrices.{shifted}
 use Rattle.dom_octagon.proofs.Tables.{coherent-diagonal}
 use Rattle.dom_octagon.proofs.Triangles.{carried_outside, carried_updated}
 use Rattle.dom_octagon.proofs.assign.carry.Goals as goal

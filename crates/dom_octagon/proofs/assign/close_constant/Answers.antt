@@ -2,7 +2,7 @@ use Rattle.std.proofs.Common.{sym, subst}
 use Rattle.std.proofs.lemmas.Int.{to_z-of_z}
 use mir.Syntax.{w128}
 use Rattle.dom_octagon.proofs.Triangles.{constant_changes, constant_obeys}
-use Rattle.octagon_states.specs.Limits.{ChangesOnly, ObeysTriangles}
+use Rattle.dom_octagon_states.specs.Limits.{ChangesOnly, ObeysTriangles}
 use Rattle.dom_octagon.proofs.assign.close_constant.Goals as goal
 
 pub close_changed-requires-clause-keeps : goal.close_changed-requires-clause-keeps

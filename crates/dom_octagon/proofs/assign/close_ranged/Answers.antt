@@ -1,6 +1,6 @@
 use Rattle.std.proofs.Common.{sym, subst}
 use Rattle.dom_octagon.proofs.Triangles.{range_changes, range_obeys}
-use Rattle.octagon_states.specs.Limits.{ChangesOnly, ObeysTriangles}
+use Rattle.dom_octagon_states.specs.Limits.{ChangesOnly, ObeysTriangles}
 use Rattle.dom_octagon.proofs.assign.close_ranged.Goals as goal
 
 pub close_changed-requires-clause-keeps : goal.close_changed-requires-clause-keeps

@@ -4,8 +4,8 @@ use Rattle.std.proofs.lemmas.Int.{to_z-of_z, ints}
 use mir.Syntax.{w128}
 use Rattle.dbm_core.specs.Half.{entry, nodes}
 use Rattle.dbm_core.specs.Weights.{add_weight}
-use Rattle.octagon_meaning.specs.Matrices.{shift, turned}
-use Rattle.octagon_meaning.proofs.Matrices.{turned-below}
+use Rattle.dom_octagon_meaning.specs.Matrices.{shift, turned}
+use Rattle.dom_octagon_meaning.proofs.Matrices.{turned-below}
 use Rattle.dom_octagon.proofs.assign.shifted.Goals as goal
 
 pub plus-requires-clause-bound : goal.plus-requires-clause-bound

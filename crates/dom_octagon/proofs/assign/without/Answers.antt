@@ -3,14 +3,14 @@ use Rattle.dbm_core.proofs.ValuationLemmas.{entries-if_ok-then}
 use Rattle.dbm_core.specs.Half.{HasEntries, entry}
 use Rattle.dbm_core.specs.Limits.{IsLimited}
 use Rattle.dbm_core.specs.Operations.{forgotten}
-use Rattle.octagon_meaning.proofs.Exact.{without-is}
-use Rattle.octagon_meaning.specs.Matrices as matrices
+use Rattle.dom_octagon_meaning.proofs.Exact.{without-is}
+use Rattle.dom_octagon_meaning.specs.Matrices as matrices
 use Rattle.dbm_incremental.proofs.KeepLemmas.{forget-closed}
 use Rattle.dbm_incremental.proofs.LawLemmas.{closed-same}
 use Rattle.dbm_incremental.specs.ClosedMatrices.{IsClosed}
 use Rattle.dom_octagon.proofs.Bounds.{without-entries}
-use Rattle.octagon_states.proofs.Tight.{limited_ready}
-use Rattle.octagon_states.specs.Limits.{IsReady}
+use Rattle.dom_octagon_states.proofs.Tight.{limited_ready}
+use Rattle.dom_octagon_states.specs.Limits.{IsReady}
 use Rattle.dom_octagon.proofs.assign.without.Goals as goal
 
 pub returns-clause-value : goal.returns-clause-value

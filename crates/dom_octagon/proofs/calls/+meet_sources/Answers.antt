@@ -1,5 +1,5 @@
 use Rattle.std.proofs.Common.{ap, length, arith}
-use Rattle.octagon_meaning.proofs.Exact.{sources-outside}
+use Rattle.dom_octagon_meaning.proofs.Exact.{sources-outside}
 use Rattle.dom_octagon.proofs.calls.+meet_sources.Goals as goal
 
 pub returns-then-k-kinds-clause-value : goal.returns-then-k-kinds-clause-value

@@ -1,9 +1,9 @@
 use Rattle.std.specs.Prelude.{◌≡◌}
 use Rattle.std.proofs.Common.{◌∙◌, ap, sym, subst}
 use Rattle.dbm_core.specs.Tables.{matrix_of}
-use Rattle.octagon_meaning.specs.Operations.{entered, meet_sources}
+use Rattle.dom_octagon_meaning.specs.Operations.{entered, meet_sources}
 use Rattle.dom_octagon.proofs.Entering.{enter_obeys}
-use Rattle.octagon_states.specs.Limits.{ObeysTriangles}
+use Rattle.dom_octagon_states.specs.Limits.{ObeysTriangles}
 use Rattle.dom_octagon.proofs.calls.close_entered.Goals as goal
 
 pub close_kept-requires-clause-keeps : goal.close_kept-requires-clause-keeps

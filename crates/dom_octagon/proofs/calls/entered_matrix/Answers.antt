@@ -1,10 +1,10 @@
 use Rattle.std.specs.Prelude.{IfOk, ◌≡◌, ◌*◌}
 use Rattle.std.proofs.Common.{length, sym, ◌∙◌}
-use Rattle.octagon_meaning.proofs.Calls.{entered-coherent}
-use Rattle.octagon_meaning.specs.Operations.{entered}
+use Rattle.dom_octagon_meaning.proofs.Calls.{entered-coherent}
+use Rattle.dom_octagon_meaning.specs.Operations.{entered}
 use Rattle.dbm_core.specs.Tables.{matrix_of}
 use Rattle.dom_octagon.proofs.Tables.{table-if_ok, if_ok-by, coherent-diagonal, entered-is_ready}
-use Rattle.octagon_states.specs.Limits.{IsReady}
+use Rattle.dom_octagon_states.specs.Limits.{IsReady}
 use Rattle.dom_octagon.proofs.calls.entered_matrix.Goals as goal
 
 pub from_fn-requires-clause-diagonal : goal.from_fn-requires-clause-diagonal

@@ -1,9 +1,9 @@
 use Rattle.std.specs.Prelude.{IfOk, ◌≡◌, ◌*◌, Some, pos}
 use Rattle.std.proofs.Common.{length}
-use Rattle.octagon_meaning.proofs.Calls.{zeros-coherent}
+use Rattle.dom_octagon_meaning.proofs.Calls.{zeros-coherent}
 use Rattle.dbm_core.specs.Tables.{matrix_of}
 use Rattle.dom_octagon.proofs.Tables.{table-if_ok, if_ok-by, zeros-are_ready}
-use Rattle.octagon_states.specs.Limits.{IsReady}
+use Rattle.dom_octagon_states.specs.Limits.{IsReady}
 use Rattle.dom_octagon.proofs.calls.zeros.Goals as goal
 
 pub returns : goal.returns

@@ -1,7 +1,7 @@
 use Rattle.std.specs.Prelude.{◌≡◌, refl}
 use Rattle.std.proofs.Common.{◌∙◌, ap}
 use Rattle.dbm_core.specs.Half.{HalfMatrix}
-use Rattle.octagon_meaning.specs.Operations.{at_most_matrix}
+use Rattle.dom_octagon_meaning.specs.Operations.{at_most_matrix}
 use Rattle.dom_octagon.proofs.Bounds.{bound-kinds}
 use Rattle.dom_octagon.specs.Added.{with_bound_if}
 use Rattle.dom_octagon.proofs.compare.met.Goals as goal

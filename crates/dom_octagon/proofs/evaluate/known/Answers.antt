@@ -1,6 +1,6 @@
 use Rattle.std.proofs.Common.{subst, sym}
-use Rattle.octagon_meaning.specs.Claims.{IsSmallForm}
-use Rattle.octagon_meaning.proofs.Small.{forms-are_small}
+use Rattle.dom_octagon_meaning.specs.Claims.{IsSmallForm}
+use Rattle.dom_octagon_meaning.proofs.Small.{forms-are_small}
 use Rattle.dom_octagon.proofs.Words.{ranges-are}
 use Rattle.dom_octagon.proofs.evaluate.known.Goals as goal
 

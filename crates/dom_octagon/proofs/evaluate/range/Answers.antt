@@ -1,11 +1,11 @@
 use Rattle.std.proofs.Common.{◌≡◌, ◌<◌, ◌∙◌, FitsSigned, subst, sym, ap, length, arith, ◌≤ℤ◌, to_z, of_z, w64}
 use mir.Syntax.{w128}
-use Rattle.plain_values.proofs.Integers.{at_most}
+use Rattle.base_values.proofs.Integers.{at_most}
 use Rattle.dbm_core.specs.Half.{entry}
 use Rattle.dbm_close.specs.Close.{slot_high, slot_low}
 use Rattle.num_bounds.specs.Bounds.{IsRange, least, greatest}
-use Rattle.octagon_meaning.specs.Ranges.{range_at}
-use Rattle.octagon_meaning.proofs.Ranges.{range_at-outside}
+use Rattle.dom_octagon_meaning.specs.Ranges.{range_at}
+use Rattle.dom_octagon_meaning.proofs.Ranges.{range_at-outside}
 use Rattle.dom_octagon.proofs.Words.{word-fits, word-same, slot-range}
 use Rattle.dom_octagon.proofs.evaluate.range.Goals as goal
 

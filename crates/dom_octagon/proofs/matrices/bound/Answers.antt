@@ -1,7 +1,7 @@
 use Rattle.std.proofs.Common.{◌≡◌, length, arith, ap, inl, inr}
 use Rattle.std.proofs.lemmas.Int.{to_z-of_z}
 use mir.Syntax.{w128}
-use Rattle.octagon_meaning.proofs.Exact.{bound-is, bound-outside}
+use Rattle.dom_octagon_meaning.proofs.Exact.{bound-is, bound-outside}
 use Rattle.dom_octagon.proofs.matrices.bound.Goals as goal
 use Rattle.dom_octagon.proofs.matrices.bound.Goals.{else-i-nodes-via-then-i-nodes+else-j-nodes, else-i-nodes-via-else-i-nodes}
 

@@ -1,6 +1,6 @@
 use Rattle.std.specs.Option.{option_copied}
 use Rattle.std.proofs.Common.{sym}
-use Rattle.octagon_states.proofs.Tight.{closed_again}
+use Rattle.dom_octagon_states.proofs.Tight.{closed_again}
 use Rattle.dom_octagon.proofs.statements.linked.Goals as goal
 
 pub returns : goal.returns

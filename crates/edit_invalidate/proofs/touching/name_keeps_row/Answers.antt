@@ -1,5 +1,5 @@
 use Rattle.std.proofs.Common.{◌==◌, Option, Some, refl, subst}
-use Rattle.flow_rows.specs.declared.row.Row.{Row}
+use Rattle.imp_flow_rows.specs.declared.row.Row.{Row}
 use Rattle.edit_invalidate.proofs.Keeping.{Finds, none_told, both_have}
 use Rattle.edit_invalidate.proofs.touching.name_keeps_row.Goals as goal
 

@@ -1,7 +1,7 @@
 use Rattle.std.proofs.Common.{◌≡◌, ◌+◌, ◌-◌, ◌<◌, ◌∷◌, length, drop, sym, ap, ◌∙◌, arith}
 use Rattle.imp_check.specs.Chains.{chains_to}
 use Rattle.imp_check.specs.Tallies.{tally_of, tallies_of}
-use Rattle.plain_values.proofs.Lists.{rest_whole}
+use Rattle.base_values.proofs.Lists.{rest_whole}
 use Rattle.imp_check.proofs.ChainLemmas.{tallies_before}
 use Rattle.imp_check.proofs.chains.tallies.Goals as goal
 

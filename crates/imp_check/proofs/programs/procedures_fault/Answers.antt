@@ -2,7 +2,7 @@ use Rattle.std.proofs.Common.{◌+◌, ◌&&◌, take, drop, sym, ap, ◌∙◌}
 use Rattle.imp_check.specs.Faults.{first, in_procedure}
 use Rattle.imp_check.specs.Small.{small_program}
 use Rattle.imp_check.specs.Programs.{procedure_fault, procedures_fault}
-use Rattle.plain_values.proofs.Lists.{rest_whole}
+use Rattle.base_values.proofs.Lists.{rest_whole}
 use Rattle.imp_check.proofs.Going.{procedures_step}
 use Rattle.imp_check.proofs.SmallLemmas.{programs_step}
 use Rattle.imp_check.proofs.programs.procedures_fault.Goals as goal

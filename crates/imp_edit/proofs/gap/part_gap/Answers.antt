@@ -1,6 +1,6 @@
 use Rattle.std.proofs.Common.{ℕ, ◌+◌, List, [], ◌∷◌, ◌++◌, sym, ap, ◌∙◌, arith}
 use Rattle.imp_check.specs.Programs.{program_count}
-use Rattle.imp_edit.proofs.QuietLemmas.{gap_found}
+use Rattle.imp_edit.proofs.CallFreeLemmas.{gap_found}
 use Rattle.imp_edit.proofs.gap.part_gap.Goals as goal
 
 pub returns : goal.returns

@@ -1,6 +1,6 @@
 use Rattle.std.proofs.Common.{◌≡◌, length, drop}
 use Rattle.imp_flow.specs.Changed.{same_leaves}
-use Rattle.flow_rows.specs.Entered.{leaves_now}
+use Rattle.imp_flow_rows.specs.Entered.{leaves_now}
 use Rattle.imp_flow.proofs.changed.same_leaves.Given as goal
 
 -- the breaks so far are the same

@@ -1,7 +1,7 @@
 use Rattle.std.proofs.Common.{◌&&◌, MatchBool, sym, ap, subst, ◌∙◌}
 use Rattle.std.specs.Option.{option_map}
-use Rattle.flow_rows.specs.Entered.{node_now}
-use Rattle.imp_flow.specs.Plans.{marks_at}
+use Rattle.imp_flow_rows.specs.Entered.{node_now}
+use Rattle.imp_flow.specs.Plans.{thresholds_at}
 use Rattle.imp_flow.specs.Changed.{Stays, IsChanged, same_shapes}
 use Rattle.imp_flow.proofs.ChangedRows.{by_verdict}
 use Rattle.imp_flow.proofs.ChangedStays.{found_fine, none_stays, bare_stays, gone_changed, told_found}
@@ -33,7 +33,7 @@ returns-then-eq c =
     record {
       is =
           subst (λ b. MatchBool b (Stays old new n) (IsChanged old new n))
-          (ap (λ b. b && same_shapes old.engine (marks_at old x.place) (marks_at new y.place) x.shape y.shape) (sym c.eq.ensures ∙ c.if-eq.true) ∙ sym c.same_shapes.ensures.is)
+          (ap (λ b. b && same_shapes old.engine (thresholds_at old x.place) (thresholds_at new y.place) x.shape y.shape) (sym c.eq.ensures ∙ c.if-eq.true) ∙ sym c.same_shapes.ensures.is)
           (by_verdict v);
     }
 
@@ -50,6 +50,6 @@ returns-else-eq c =
     record {
       is =
           subst (λ b. MatchBool b (Stays old new n) (IsChanged old new n))
-          (ap (λ b. b && same_shapes old.engine (marks_at old x.place) (marks_at new y.place) x.shape y.shape) (sym c.eq.ensures ∙ c.if-eq.false) ∙ sym c.if-eq.false)
+          (ap (λ b. b && same_shapes old.engine (thresholds_at old x.place) (thresholds_at new y.place) x.shape y.shape) (sym c.eq.ensures ∙ c.if-eq.false) ∙ sym c.if-eq.false)
           (by_verdict v);
     }

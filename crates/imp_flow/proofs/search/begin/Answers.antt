@@ -3,7 +3,7 @@ use Rattle.std.specs.List.{list_any}
 use Rattle.std.specs.BTreeMap.{is_at}
 use Rattle.std.specs.BTreeSet.{contains}
 use Rattle.std.specs.Ordering.{nat_cmp}
-use Rattle.plain_values.specs.Equal.{same}
+use Rattle.base_values.specs.Equal.{same}
 use Rattle.imp_slots.specs.Fits.{IsChecked}
 use Rattle.imp_slots.specs.Plain.{Routine}
 use Rattle.imp_slots.specs.PartCodes.{layout_code}

@@ -1,5 +1,5 @@
 use Rattle.std.proofs.Common.{ℕ, ◌≡◌, ◌<◌, Some, slice_get}
-use Rattle.program_table.specs.declared.change.Put.{Put}
+use Rattle.imp_table.specs.declared.change.Put.{Put}
 use Rattle.imp_flow.specs.Searches.{GoesOn}
 use Rattle.imp_flow.proofs.ChangedSet.{IsPutLooked}
 use Rattle.imp_flow.proofs.search.look_at_puts.Given as goal

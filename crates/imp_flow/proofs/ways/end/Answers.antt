@@ -5,7 +5,7 @@ use Rattle.std.specs.Str.{bytes_eq}
 use Rattle.imp_slots.specs.Plain.{Routine}
 use Rattle.cell_names.specs.declared.frame.Point.{Point}
 use Rattle.cell_names.specs.declared.frame.Point.TheVariants.{Entry}
-use Rattle.flow_rows.specs.Entered.{behind_or}
+use Rattle.imp_flow_rows.specs.Entered.{behind_or}
 use Rattle.imp_flow.proofs.EnteredLemmas.{ending, end_there, end_gone}
 use Rattle.imp_flow.proofs.ways.end.Goals as goal
 

@@ -1,6 +1,6 @@
 use Rattle.std.proofs.Common.{map, reverse, ap, ◌∙◌, subst}
 use Rattle.imp_slots.specs.Fits.{IsChecked}
-use Rattle.selected_chains.specs.Targets.{targets_of}
+use Rattle.call_chains.specs.Targets.{targets_of}
 use Rattle.imp_flow.proofs.TargetLists.{targets_are}
 use Rattle.imp_flow.proofs.ways.targets.Goals as goal
 

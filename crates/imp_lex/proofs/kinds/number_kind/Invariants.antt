@@ -1,5 +1,5 @@
 use Rattle.std.proofs.Common.{◌≡◌, ◌≤◌, drop}
-use Rattle.plain_values.specs.Numbers.{greatest}
+use Rattle.base_values.specs.Numbers.{greatest}
 use Rattle.imp_lex.specs.Numbers.{value_on}
 use Rattle.imp_lex.proofs.kinds.number_kind.Given as goal
 

@@ -7,7 +7,7 @@ use Rattle.imp_lex.proofs.Fronts.{front_bounded}
 use Rattle.imp_lex.proofs.Laws.{answered, answered_fault, answered_only}
 use Rattle.imp_lex.proofs.Spelled.{lexed_in_order, lexed_spelled}
 use Rattle.imp_lex.proofs.lexer.tokens.Goals as goal
-use Rattle.plain_values.proofs.Lists.{rest_whole}
+use Rattle.base_values.proofs.Lists.{rest_whole}
 
 pub each-preserved-in-Skip : goal.each-preserved-in-Skip
 each-preserved-in-Skip c =

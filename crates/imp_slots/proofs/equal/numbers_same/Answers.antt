@@ -1,5 +1,5 @@
 use Rattle.std.proofs.Common.{◌∙◌}
-use Rattle.plain_values.specs.Equal.{list_same}
+use Rattle.base_values.specs.Equal.{list_same}
 use Rattle.imp_slots.specs.PartCodes.{numeric_to}
 use Rattle.imp_slots.proofs.equal.numbers_same.Goals as goal
 

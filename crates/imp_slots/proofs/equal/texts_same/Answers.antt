@@ -1,5 +1,5 @@
 use Rattle.std.proofs.Common.{◌∙◌}
-use Rattle.plain_values.specs.Equal.{text_same}
+use Rattle.base_values.specs.Equal.{text_same}
 use Rattle.imp_slots.proofs.equal.texts_same.Goals as goal
 
 pub returns : goal.returns

@@ -1,7 +1,7 @@
 use Rattle.std.proofs.Common.{◌≡◌, suc, ◌<◌, ◌≤◌, length, refl, ap, ◌∙◌, arith}
 use Rattle.std.proofs.lemmas.Option.{slice_get_within}
 use Rattle.state_table.proofs.MarkLemmas.{length-then, numbers-else, numbers-first, numbers-marked, numbers-then, numbers-unmarked}
-use Rattle.plain_values.proofs.Lists.{get_some}
+use Rattle.base_values.proofs.Lists.{get_some}
 use Rattle.state_table.proofs.sweep.number_marked.Goals as goal
 use Rattle.state_table.proofs.sweep.number_marked.Goals.{then-mark_of-gt0, else-mark_of-gt0}
 

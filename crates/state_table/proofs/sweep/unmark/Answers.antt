@@ -2,7 +2,7 @@ use Rattle.std.proofs.Common.{◌≡◌, ◌+◌, ◌<◌, length, refl, sym, ap
 use Rattle.indexmap.specs.IndexMap.{set_value_at}
 use Rattle.state_table.specs.Marks.{rank, states_in}
 use Rattle.state_table.proofs.MarkLemmas.{length-set, rank-all, rank-before, rank-suc, rank-zero, set-here, states-set}
-use Rattle.plain_values.proofs.Lists.{get_some}
+use Rattle.base_values.proofs.Lists.{get_some}
 use Rattle.state_table.proofs.sweep.unmark.Goals as goal
 
 pub loop-place-init : goal.loop-place-init

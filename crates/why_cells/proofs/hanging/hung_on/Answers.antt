@@ -1,6 +1,6 @@
 use Rattle.std.proofs.Common.{ap, sym, refl, ◌∙◌, true, false, slice_get, option_map}
 use Rattle.cell_names.specs.Paths.{name_in}
-use Rattle.flow_rows.specs.Near.{row_in}
+use Rattle.imp_flow_rows.specs.Near.{row_in}
 use Rattle.why_cells.proofs.Hung.{hung_by}
 use Rattle.why_cells.proofs.hanging.hung_on.Goals as goal
 

@@ -1,6 +1,6 @@
 use Rattle.std.proofs.Common.{sym, ap, subst, ◌∙◌, IsSome}
 use Rattle.std.specs.FinMap as map
-use Rattle.flow_rows.specs.Near.{row_in}
+use Rattle.imp_flow_rows.specs.Near.{row_in}
 use Rattle.why_cells.proofs.Hung.{effect_matters, effect_first}
 use Rattle.why_cells.proofs.hanging.matters.Goals as goal
 

@@ -1,11 +1,11 @@
 use Rattle.std.proofs.Common.{◌≡◌, ◌<◌, ◌++◌, map, reverse, length, Some, slice_get, IfOk, IsSome, sym, ap, subst, ◌∙◌}
 use Rattle.std.specs.FinMap as finite
 use Rattle.std.proofs.lemmas.Option.{slice_get_within}
-use Rattle.selected_chains.specs.Targets.{selected_at, targets_of}
-use Rattle.program_chains.specs.Chains.{selected}
-use Rattle.named_cells.specs.Named.{AreNumbers}
-use Rattle.named_cells.specs.Same.{same_name}
-use Rattle.why_slice.specs.Upstream.{all_hung, all_of, listed, located, rising}
+use Rattle.call_chains.specs.Targets.{selected_at, targets_of}
+use Rattle.imp_chains.specs.Chains.{selected}
+use Rattle.cell_graph.specs.Named.{AreNumbers}
+use Rattle.cell_graph.specs.Same.{same_name}
+use Rattle.why_slice.specs.Upstream.{all_hung, all_of, listed, statement_at, sorted_once}
 use Rattle.why_cells.specs.Reached.{AreReached}
 use Rattle.why_cells.proofs.Sliced.{found_named, keys_named, keys_there, seeds_are, seeds_there, upstream_is}
 use Rattle.why_cells.proofs.slicing.upstream.Goals as goal
@@ -59,8 +59,8 @@ returns g c = record {
       c.as_slice-4.ensures.value ∙ c.in_ok-hung.ensures.are xs.0 (subst (λ ns. AreNumbers store.names.names ns xs.0) (sym c.as_slice-2.ensures.keys) xs.1) in
       let all = chains ∙ ap (λ o. map reverse (selected_at plan.program string o)) place in
       subst (λ ks. IfOk c.upstream.result (λ stmts. stmts ≡ ks))
-      (ap (λ zs. rising (listed (located l) ++ (all_of zs ++ c.as_slice-4.result.now))) all
-      ∙ ap (λ zs. rising (listed (located l) ++ (all_of (map reverse (selected plan.program p string)) ++ zs))) hung
+      (ap (λ zs. sorted_once (listed (statement_at l) ++ (all_of zs ++ c.as_slice-4.result.now))) all
+      ∙ ap (λ zs. sorted_once (listed (statement_at l) ++ (all_of (map reverse (selected plan.program p string)) ++ zs))) hung
       ∙ upstream_is dom plan ts store walk filled.right filled.done c.in_ok-seeds.seeds.items are c.in_ok-cells.cells.keys at xs.0 xs.1 l string p)
       c.upstream.ensures.is;
 }

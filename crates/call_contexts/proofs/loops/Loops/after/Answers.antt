@@ -3,7 +3,7 @@ use Rattle.std.specs.Prelude.{if◌then◌else◌}
 use Rattle.std.specs.List.Sorted.{IsStrictlySortedBy}
 use Rattle.std.specs.Ordering.{nat_cmp}
 use Rattle.imp_check.specs.Entries.{entries_of, entry_of}
-use Rattle.program_chains.specs.Chains.{has}
+use Rattle.imp_chains.specs.Chains.{has}
 use Rattle.call_contexts.specs.Loops.{loop_in, put_numbers}
 use Rattle.call_contexts.proofs.Looped.{loops_changed, loops_kept, loops_rise}
 use Rattle.call_contexts.proofs.loops.Loops.after.Goals as goal

@@ -4,7 +4,7 @@ use Rattle.std.specs.BTreeMap.{is_at}
 use Rattle.std.specs.BTreeSet.{contains}
 use Rattle.std.specs.Ordering.{nat_cmp}
 use Rattle.imp_check.specs.Entries.{entries_of, entry_of}
-use Rattle.program_chains.specs.Chains.{has}
+use Rattle.imp_chains.specs.Chains.{has}
 use Rattle.call_contexts.specs.Loops.{loop_in}
 use Rattle.call_contexts.proofs.Looped.{loops_made}
 use Rattle.call_contexts.proofs.loops.Loops.new.Goals as goal

@@ -1,7 +1,7 @@
 use Rattle.std.proofs.Common.{Ok, sym, ap, ◌∙◌}
 use Rattle.std.proofs.lemmas.Iterator.{items_from_collect}
 use Rattle.std.proofs.lemmas.Iterator.Consumers.{YieldsList-from_rest}
-use Rattle.program_chains.specs.Chains.{has}
+use Rattle.imp_chains.specs.Chains.{has}
 use Rattle.call_contexts.proofs.TallyLemmas.{any_is}
 use Rattle.call_contexts.proofs.loops.Loops.of.Goals as goal
 

@@ -1,6 +1,6 @@
 use Rattle.std.proofs.Common.{◌≡◌, [], ap, ◌∙◌, arith, map, reverse}
 use Rattle.imp_check.specs.Slots.{routines_of}
-use Rattle.program_chains.specs.Chains.{chains}
+use Rattle.imp_chains.specs.Chains.{chains}
 use Rattle.call_contexts.proofs.Few.{as_many}
 use Rattle.cert_lines.specs.Lines.{is_chain}
 use Rattle.cert_lines.proofs.Turned.{chains_turned}

@@ -1,6 +1,6 @@
 use Rattle.std.proofs.Common.{◌+◌, ◌*◌, ◌≤◌, Bool, length, map, sym, ap, subst, ◌∙◌, if◌then◌else◌}
 use Rattle.std.specs.Prelude.{IfOk}
-use Rattle.analysis_words.specs.declared.refusal.Refusal.TheVariants.{LongString}
+use Rattle.imp_words.specs.declared.refusal.QueryRefusal.TheVariants.{LongString}
 use Rattle.batch_meaning.specs.Answers.{In, Refuses, answer_in, procedure_of}
 use Rattle.cell_rows.specs.Targets.{value_of_target}
 use Rattle.daig_query.specs.Right.{found}

@@ -2,10 +2,10 @@ use Rattle.std.proofs.Common.{◌≡◌, ◌≤◌, suc, ◌+◌, ◌*◌, [], L
 use Rattle.imp_syntax.specs.Plain.{Procedure}
 use Rattle.imp_syntax.specs.declared.edit.Location.TheVariants.{Before}
 use Rattle.domain_laws.specs.Checks.{kind_of}
-use Rattle.batch_meaning.specs.Report.{Checked, verdict_on}
+use Rattle.batch_meaning.specs.Report.{CheckedStatement, verdict_on}
 use Rattle.imp_check.specs.Slots.{routines_of}
-use Rattle.daig_query.specs.Filled.{added}
-use Rattle.session_machine.specs.Turns.{answer_at}
+use Rattle.daig_query.specs.Filled.{cells_added}
+use Rattle.daig_machine.specs.Turns.{answer_at}
 use Rattle.daig_session.specs.Reports.{chain_count, checked_at, work_on, HasCheck, HoldsAll, HoldsPart}
 use Rattle.daig_session.proofs.Reporting.{at_is, checked_is, found_none, found_one, none_all, none_part}
 use Rattle.daig_session.proofs.session.Session.add_finding.Goals as goal
@@ -111,7 +111,7 @@ returns-clause-ticked g c =
     let n = c.args.id in
     let new = c.known_before.new.self in
     let there = c.if-not-has_check.ensures.there refl in
-    ok_always c.push.result (λ m h. subst (λ (cs : List Checked). c.known_before.new.steps ≤ c.args.steps.now + g.D.Domain.counted s.engine.domain * work_on dom m cs) (sym (checked_is dom s.engine.store s.book m n h there)) (c.in_ok-known.ensures.ticked m there.0 there.1 h))
+    ok_always c.push.result (λ m h. subst (λ (cs : List CheckedStatement). c.known_before.new.steps ≤ c.args.steps.now + g.D.Domain.counted s.engine.domain * work_on dom m cs) (sym (checked_is dom s.engine.store s.book m n h there)) (c.in_ok-known.ensures.ticked m there.0 there.1 h))
 
 pub returns-then-not-has_check-clause-most : goal.returns-then-not-has_check-clause-most
 returns-then-not-has_check-clause-most g c = λ m h. omega arith
@@ -122,7 +122,7 @@ returns-in_err-known-clause-most g c = λ m h.
     let dom = g.D.Domain.operations s.engine.domain in
     let n = c.args.id in
     let there = c.if-not-has_check.ensures.there refl in
-    subst (λ (cs : List Checked). c.known_before.new.steps ≤ c.args.steps.now + g.D.Domain.counted s.engine.domain * suc (added s.engine.store c.known_before.new.self.engine.store + 2 * chain_count (routines_of m.program) cs)) (sym (checked_is dom s.engine.store s.book m n h there)) (c.known_before.ensures.most m there.0 there.1 h)
+    subst (λ (cs : List CheckedStatement). c.known_before.new.steps ≤ c.args.steps.now + g.D.Domain.counted s.engine.domain * suc (cells_added s.engine.store c.known_before.new.self.engine.store + 2 * chain_count (routines_of m.program) cs)) (sym (checked_is dom s.engine.store s.book m n h there)) (c.known_before.ensures.most m there.0 there.1 h)
 
 pub returns-in_err-finding-clause-most : goal.returns-in_err-finding-clause-most
 returns-in_err-finding-clause-most g c = λ m h.
@@ -130,7 +130,7 @@ returns-in_err-finding-clause-most g c = λ m h.
     let dom = g.D.Domain.operations s.engine.domain in
     let n = c.args.id in
     let there = c.if-not-has_check.ensures.there refl in
-    subst (λ (cs : List Checked). c.known_before.new.steps ≤ c.args.steps.now + g.D.Domain.counted s.engine.domain * suc (added s.engine.store c.known_before.new.self.engine.store + 2 * chain_count (routines_of m.program) cs)) (sym (checked_is dom s.engine.store s.book m n h there)) (c.known_before.ensures.most m there.0 there.1 h)
+    subst (λ (cs : List CheckedStatement). c.known_before.new.steps ≤ c.args.steps.now + g.D.Domain.counted s.engine.domain * suc (cells_added s.engine.store c.known_before.new.self.engine.store + 2 * chain_count (routines_of m.program) cs)) (sym (checked_is dom s.engine.store s.book m n h there)) (c.known_before.ensures.most m there.0 there.1 h)
 
 pub returns-clause-most : goal.returns-clause-most
 returns-clause-most g c = λ m h.
@@ -138,4 +138,4 @@ returns-clause-most g c = λ m h.
     let dom = g.D.Domain.operations s.engine.domain in
     let n = c.args.id in
     let there = c.if-not-has_check.ensures.there refl in
-    subst (λ (cs : List Checked). c.known_before.new.steps ≤ c.args.steps.now + g.D.Domain.counted s.engine.domain * suc (added s.engine.store c.known_before.new.self.engine.store + 2 * chain_count (routines_of m.program) cs)) (sym (checked_is dom s.engine.store s.book m n h there)) (c.known_before.ensures.most m there.0 there.1 h)
+    subst (λ (cs : List CheckedStatement). c.known_before.new.steps ≤ c.args.steps.now + g.D.Domain.counted s.engine.domain * suc (cells_added s.engine.store c.known_before.new.self.engine.store + 2 * chain_count (routines_of m.program) cs)) (sym (checked_is dom s.engine.store s.book m n h there)) (c.known_before.ensures.most m there.0 there.1 h)

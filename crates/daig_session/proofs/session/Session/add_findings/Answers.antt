@@ -1,9 +1,9 @@
 use Rattle.std.proofs.Common.{◌≡◌, ◌≤◌, suc, ◌+◌, ◌*◌, ◌++◌, List, length, take, Some, sym, ap, subst, ◌∙◌, arith}
 use Rattle.std.proofs.lemmas.Option.{slice_get-get_or}
-use Rattle.batch_meaning.specs.Report.{Checked}
+use Rattle.batch_meaning.specs.Report.{CheckedStatement}
 use Rattle.imp_check.specs.Slots.{routines_of}
-use Rattle.daig_query.specs.Filled.{added}
-use Rattle.session_machine.specs.Machine.{Machine}
+use Rattle.daig_query.specs.Filled.{cells_added}
+use Rattle.daig_machine.specs.Machine.{Machine}
 use Rattle.daig_session.specs.Holds.{Holds, IsReady}
 use Rattle.daig_session.specs.Reports.{chain_count, checked_among, checked_at, findings, missing_of, work_on, HoldsAll, HoldsPart}
 use Rattle.daig_session.proofs.Reported.{all_part, behind}
@@ -92,7 +92,7 @@ returns-clause-ticked g c = λ m h.
     let ns = c.args.stmts.now in
     let i = c.loop-stmt.stmt-index in
     let e = among_end m.program ns i (omega (arith, c.loop-stmt-test.false)) in
-    subst (λ (cs : List Checked). c.loop-stmt.steps ≤ c.args.steps.now + g.D.Domain.counted old.engine.domain * work_on dom m cs) e (c.loop-stmt.invariant.ticked m h)
+    subst (λ (cs : List CheckedStatement). c.loop-stmt.steps ≤ c.args.steps.now + g.D.Domain.counted old.engine.domain * work_on dom m cs) e (c.loop-stmt.invariant.ticked m h)
 
 pub returns-in_err-add_finding-clause-most : goal.returns-in_err-add_finding-clause-most
 returns-in_err-add_finding-clause-most g c = λ m h.
@@ -113,7 +113,7 @@ returns-in_err-add_finding-clause-most g c = λ m h.
     (subst (λ d. IsReady (ops d) new.engine.store new.book) (c.add_finding.ensures.domain ∙ inv.domain) c.add_finding.ensures.ready)
     (subst (λ d. HoldsPart (ops d) (then m) new.engine.store new.book (checked_at m.program n)) inv.domain (c.add_finding.ensures.part (then m) (stands m h)))
     (inv.ticked m h)
-    (subst (λ d. c.add_finding.new.steps ≤ c.loop-stmt.steps + g.D.Domain.counted d * suc (added mid.engine.store new.engine.store + 2 * chain_count (routines_of m.program) (checked_at m.program n))) inv.domain (c.add_finding.ensures.most (then m) (stands m h)))
+    (subst (λ d. c.add_finding.new.steps ≤ c.loop-stmt.steps + g.D.Domain.counted d * suc (cells_added mid.engine.store new.engine.store + 2 * chain_count (routines_of m.program) (checked_at m.program n))) inv.domain (c.add_finding.ensures.most (then m) (stands m h)))
 
 pub returns-clause-most : goal.returns-clause-most
 returns-clause-most g c = λ m h.
@@ -126,6 +126,6 @@ returns-clause-most g c = λ m h.
     let inv = c.loop-stmt.invariant in
     let e = among_end m.program ns i (omega (arith, c.loop-stmt-test.false)) in
     let all = subst (HoldsAll dom m last.engine.store last.book) e (inv.all m h) in
-    let ticks = subst (λ (cs : List Checked). c.loop-stmt.steps ≤ c.args.steps.now + g.D.Domain.counted old.engine.domain * work_on dom m cs) e (inv.ticked m h) in
-    work_within c.args.steps.now c.loop-stmt.steps (g.D.Domain.counted old.engine.domain) (length (missing_of dom m (checked_among m.program ns))) (added old.engine.store last.engine.store) (chain_count (routines_of m.program) (checked_among m.program ns))
+    let ticks = subst (λ (cs : List CheckedStatement). c.loop-stmt.steps ≤ c.args.steps.now + g.D.Domain.counted old.engine.domain * work_on dom m cs) e (inv.ticked m h) in
+    work_within c.args.steps.now c.loop-stmt.steps (g.D.Domain.counted old.engine.domain) (length (missing_of dom m (checked_among m.program ns))) (cells_added old.engine.store last.engine.store) (chain_count (routines_of m.program) (checked_among m.program ns))
     (all_added dom old.engine.store last.engine.store old.book last.book m (checked_among m.program ns) c.requires.ready h (subst (λ d. IsReady (ops d) last.engine.store last.book) inv.domain inv.ready) all) ticks

@@ -1,6 +1,6 @@
 use Rattle.std.proofs.Common.{◌≡◌, ◌+◌, ◌*◌, ◌≤◌, ◌++◌, take}
 use Rattle.daig_query.specs.Swept.{IsBounded}
-use Rattle.session_machine.specs.Machine.{Machine}
+use Rattle.daig_machine.specs.Machine.{Machine}
 use Rattle.daig_session.specs.Holds.{Holds, IsReady}
 use Rattle.daig_session.specs.Reports.{checked_among, findings, work_on, HoldsAll}
 use Rattle.daig_session.proofs.session.Session.add_findings.Given as goal

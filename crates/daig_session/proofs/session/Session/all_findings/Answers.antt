@@ -1,9 +1,9 @@
 use Rattle.std.proofs.Common.{◌≤◌, suc, ◌+◌, ◌*◌, ◌++◌, List, ap, subst, ◌∙◌, arith}
 use Rattle.imp_syntax.specs.Plain.{program_numbers}
 use Rattle.imp_check.specs.Slots.{routines_of}
-use Rattle.analysis_words.specs.declared.findings.Finding.{Finding}
-use Rattle.batch_meaning.specs.Report.{Checked, checked_statements}
-use Rattle.daig_query.specs.Filled.{added}
+use Rattle.imp_words.specs.declared.findings.Finding.{Finding}
+use Rattle.batch_meaning.specs.Report.{CheckedStatement, checked_statements}
+use Rattle.daig_query.specs.Filled.{cells_added}
 use Rattle.daig_session.specs.Reports.{chain_count, checked_among, findings, work_on, HoldsAll, HoldsPart}
 use Rattle.daig_session.proofs.Reported.{part_none}
 use Rattle.daig_session.proofs.Reporting.{all_among}
@@ -59,7 +59,7 @@ returns-clause-ticked g c = λ m h.
     let dom = ops s.engine.domain in
     let new = c.add_findings.new.self in
     let same = all_among dom s.engine.store s.book m c.as_slice.result.now h c.requires.ready.order.fine.numbered (c.as_slice.ensures.same ∙ (c.in_ok-stmts.ensures.are ∙ ap program_numbers (c.view.ensures.is ∙ c.table.ensures.is))) in
-    subst (λ (cs : List Checked). c.add_findings.new.steps ≤ c.args.steps.now + g.D.Domain.counted s.engine.domain * work_on dom m cs) same (c.in_ok-add_findings.ensures.ticked m h)
+    subst (λ (cs : List CheckedStatement). c.add_findings.new.steps ≤ c.args.steps.now + g.D.Domain.counted s.engine.domain * work_on dom m cs) same (c.in_ok-add_findings.ensures.ticked m h)
 
 pub returns-in_err-add_findings-clause-most : goal.returns-in_err-add_findings-clause-most
 returns-in_err-add_findings-clause-most g c = λ m h.
@@ -68,7 +68,7 @@ returns-in_err-add_findings-clause-most g c = λ m h.
     let dom = ops s.engine.domain in
     let new = c.add_findings.new.self in
     let same = all_among dom s.engine.store s.book m c.as_slice.result.now h c.requires.ready.order.fine.numbered (c.as_slice.ensures.same ∙ (c.in_ok-stmts.ensures.are ∙ ap program_numbers (c.view.ensures.is ∙ c.table.ensures.is))) in
-    subst (λ (cs : List Checked). c.add_findings.new.steps ≤ c.args.steps.now + g.D.Domain.counted s.engine.domain * suc (added s.engine.store new.engine.store + 2 * chain_count (routines_of m.program) cs)) same (c.add_findings.ensures.most m h)
+    subst (λ (cs : List CheckedStatement). c.add_findings.new.steps ≤ c.args.steps.now + g.D.Domain.counted s.engine.domain * suc (cells_added s.engine.store new.engine.store + 2 * chain_count (routines_of m.program) cs)) same (c.add_findings.ensures.most m h)
 
 pub returns-clause-most : goal.returns-clause-most
 returns-clause-most g c = λ m h.
@@ -77,7 +77,7 @@ returns-clause-most g c = λ m h.
     let dom = ops s.engine.domain in
     let new = c.add_findings.new.self in
     let same = all_among dom s.engine.store s.book m c.as_slice.result.now h c.requires.ready.order.fine.numbered (c.as_slice.ensures.same ∙ (c.in_ok-stmts.ensures.are ∙ ap program_numbers (c.view.ensures.is ∙ c.table.ensures.is))) in
-    subst (λ (cs : List Checked). c.add_findings.new.steps ≤ c.args.steps.now + g.D.Domain.counted s.engine.domain * suc (added s.engine.store new.engine.store + 2 * chain_count (routines_of m.program) cs)) same (c.add_findings.ensures.most m h)
+    subst (λ (cs : List CheckedStatement). c.add_findings.new.steps ≤ c.args.steps.now + g.D.Domain.counted s.engine.domain * suc (cells_added s.engine.store new.engine.store + 2 * chain_count (routines_of m.program) cs)) same (c.add_findings.ensures.most m h)
 
 pub returns-in_err-stmts-clause-most : goal.returns-in_err-stmts-clause-most
 returns-in_err-stmts-clause-most g c = λ m h. omega arith

@@ -1,8 +1,8 @@
 use Rattle.std.proofs.Common.{◌≡◌, List, ℕ, Err, map, rules, sym, ap, subst, ◌∙◌, arith}
 use Rattle.std.proofs.lemmas.Result.{err_from_is_err_and}
 use Rattle.imp_flow.specs.Reached.{target_of}
-use Rattle.session_machine.specs.Machine.{Machine}
-use Rattle.open_tickets.specs.Tickets.{ticket}
+use Rattle.daig_machine.specs.Machine.{Machine}
+use Rattle.daig_tickets.specs.Tickets.{ticket}
 use Rattle.daig_session.specs.Books.{flow_in}
 use Rattle.daig_session.specs.Going.{AreWaiting, IsAnswered, IsGoing}
 use Rattle.daig_session.specs.Holds.{Holds}

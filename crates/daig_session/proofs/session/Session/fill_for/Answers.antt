@@ -2,9 +2,9 @@ use Rattle.std.proofs.Common.{suc, ◌+◌, ◌*◌, ◌≤◌, ◌≡◌, lengt
 use Rattle.std.specs.Prelude.{IfErr, IfOk}
 use Rattle.imp_flow.specs.Reached.{target_of}
 use Rattle.daig_query.specs.Answered.{AreFilled}
-use Rattle.daig_query.specs.Filled.{added}
+use Rattle.daig_query.specs.Filled.{cells_added}
 use Rattle.daig_query.proofs.Sweeps.{filled-bounded, right-in-tables}
-use Rattle.session_machine.specs.Turns.{asked, missing_at, IsBetween}
+use Rattle.daig_machine.specs.Turns.{after_question, missing_at, IsBetween}
 use Rattle.daig_query.specs.Swept.{IsBounded}
 use Rattle.daig_session.specs.Books.{flow_in}
 use Rattle.daig_session.specs.Holds.{Holds}
@@ -53,7 +53,7 @@ returns-clause-answered g c = λ m h.
     let ops = g.D.Domain.operations in
     let mid = c.sweep.new.self in
     let stood = behind-holds (ops s.engine.domain) (ops mid.domain) (ap ops c.sweep.ensures.domain) s.engine.store mid.store c.sweep.ensures.swept s.book in
-    subst (λ d. IfOk c.fill_now.result (λ f. Holds (ops d) c.fill_now.new.self.engine.store (record s.book { cost = f.count }) (asked (ops d) c.args.at.now c.args.string.now m))) c.sweep.ensures.domain
+    subst (λ d. IfOk c.fill_now.result (λ f. Holds (ops d) c.fill_now.new.self.engine.store (record s.book { cost = f.count }) (after_question (ops d) c.args.at.now c.args.string.now m))) c.sweep.ensures.domain
     (c.fill_now.ensures.answered m (stood m h))
 
 pub returns-clause-unanswered : goal.returns-clause-unanswered
@@ -84,5 +84,5 @@ pub returns-clause-most : goal.returns-clause-most
 returns-clause-most g c =
     let new = c.fill_now.new.self.engine.store in
     let same = swept-added c.args.self.now.engine.store c.sweep.new.self.store new c.sweep.ensures.swept in
-    subst (λ d. c.fill_now.new.steps ≤ c.args.steps.now + g.D.Domain.counted d * suc (added c.args.self.now.engine.store new)) c.sweep.ensures.domain
+    subst (λ d. c.fill_now.new.steps ≤ c.args.steps.now + g.D.Domain.counted d * suc (cells_added c.args.self.now.engine.store new)) c.sweep.ensures.domain
     (subst (λ n. c.fill_now.new.steps ≤ c.args.steps.now + g.D.Domain.counted c.sweep.new.self.domain * suc n) same c.fill_now.ensures.most)

@@ -5,10 +5,10 @@ use Rattle.imp_flow.specs.Plans.{Plan}
 use Rattle.imp_flow.specs.Reached.{target_of}
 use Rattle.batch_meaning.specs.Answers.{answer}
 use Rattle.daig_query.specs.Answered.{AreFilled}
-use Rattle.daig_query.specs.Filled.{added}
+use Rattle.daig_query.specs.Filled.{cells_added}
 use Rattle.daig_query.specs.Right.{IsRight}
 use Rattle.daig_query.proofs.Sweeps.{few-none}
-use Rattle.session_machine.specs.Turns.{missing_at, IsBetween}
+use Rattle.daig_machine.specs.Turns.{missing_at, IsBetween}
 use Rattle.daig_session.specs.Books.{flow_in}
 use Rattle.daig_session.specs.Going.{IsAsked, IsGoing, IsRefused}
 use Rattle.daig_session.specs.Holds.{Holds, IsReady}
@@ -51,7 +51,7 @@ returns-in_err-count-clause-ready g c =
     let ops = g.D.Domain.operations in
     let new = c.fill_all.new.engine.store in
     let ts = map target_of c.in_ok-going.going.targets in
-    subst (λ d. IsReady (ops d) new s.book) (sym c.fill_all.ensures.domain) (fills_ready (ops s.engine.domain) s.book s.engine.store new ts (added s.engine.store new) c.requires.ready c.fill_all.ensures.fills)
+    subst (λ d. IsReady (ops d) new s.book) (sym c.fill_all.ensures.domain) (fills_ready (ops s.engine.domain) s.book s.engine.store new ts (cells_added s.engine.store new) c.requires.ready c.fill_all.ensures.fills)
 
 pub returns-in_err-count-clause-fails : goal.returns-in_err-count-clause-fails
 returns-in_err-count-clause-fails g c = λ m h.
@@ -65,7 +65,7 @@ returns-in_err-count-clause-fails g c = λ m h.
     let going = subst (λ (p : Plan). IsGoing dom p s.engine.store l string c.in_ok-going.going) c.flow-flow.ensures.is c.in_ok-going.ensures.going in
     let p = err_from_is_err_and c.from_residual-in_err-count.result c.from_residual-in_err-count.ensures.1 in
     rw (p.1, p.2) (subst (λ d. IsBetween (missing_at dom l string m) m (Holds (ops d) new s.book)) (sym c.fill_all.ensures.domain) (
-    between_some dom s.book s.engine.store new l string ts (added s.engine.store new) c.requires.ready.right.checked going.asked c.fill_all.ensures.fills (c.questions_keep_cells.ensures.question s.engine.domain) m h))
+    between_some dom s.book s.engine.store new l string ts (cells_added s.engine.store new) c.requires.ready.right.checked going.asked c.fill_all.ensures.fills (c.questions_keep_cells.ensures.question s.engine.domain) m h))
 
 pub returns-clause-ready : goal.returns-clause-ready
 returns-clause-ready g c =
@@ -73,7 +73,7 @@ returns-clause-ready g c =
     let ops = g.D.Domain.operations in
     let new = c.fill_all.new.engine.store in
     let ts = map target_of c.in_ok-going.going.targets in
-    subst (λ d. IsReady (ops d) new s.book) (sym c.fill_all.ensures.domain) (fills_ready (ops s.engine.domain) s.book s.engine.store new ts (added s.engine.store new) c.requires.ready c.fill_all.ensures.fills)
+    subst (λ d. IsReady (ops d) new s.book) (sym c.fill_all.ensures.domain) (fills_ready (ops s.engine.domain) s.book s.engine.store new ts (cells_added s.engine.store new) c.requires.ready c.fill_all.ensures.fills)
 
 pub returns-clause-targets : goal.returns-clause-targets
 returns-clause-targets g c =
@@ -108,7 +108,7 @@ returns-clause-answered g c = λ m h.
     let new = c.fill_all.new.engine.store in
     let ts = map target_of c.in_ok-going.going.targets in
     let e = c.in_ok-count.ensures.all ∙ ap length (missing_here dom s.book s.engine.store new m l string ts h going.asked) in
-    asked_holds dom s.book s.engine.store new l string ts (added s.engine.store new) c.requires.ready.right.checked going.asked c.fill_all.ensures.fills (c.questions_keep_cells.ensures.question s.engine.domain) m c.in_ok-count.count h e (sym c.in_ok-count.ensures.counted ∙ e)
+    asked_holds dom s.book s.engine.store new l string ts (cells_added s.engine.store new) c.requires.ready.right.checked going.asked c.fill_all.ensures.fills (c.questions_keep_cells.ensures.question s.engine.domain) m c.in_ok-count.count h e (sym c.in_ok-count.ensures.counted ∙ e)
 
 pub returns-clause-unanswered : goal.returns-clause-unanswered
 returns-clause-unanswered g c = λ m h.
@@ -120,4 +120,4 @@ returns-clause-unanswered g c = λ m h.
     let ops = g.D.Domain.operations in
     let new = c.fill_all.new.engine.store in
     subst (λ d. IsBetween (missing_at dom l string m) m (Holds (ops d) new s.book)) (sym c.fill_all.ensures.domain) (
-    between_some dom s.book s.engine.store new l string (map target_of c.in_ok-going.going.targets) (added s.engine.store new) c.requires.ready.right.checked going.asked c.fill_all.ensures.fills (c.questions_keep_cells.ensures.question s.engine.domain) m h)
+    between_some dom s.book s.engine.store new l string (map target_of c.in_ok-going.going.targets) (cells_added s.engine.store new) c.requires.ready.right.checked going.asked c.fill_all.ensures.fills (c.questions_keep_cells.ensures.question s.engine.domain) m h)

@@ -1,7 +1,7 @@
 use Rattle.std.proofs.Common.{◌≡◌, List, ap, subst, ◌∙◌}
 use Rattle.std.specs.Prelude.{IfOk}
 use Rattle.imp_syntax.specs.Plain.{Procedure}
-use Rattle.analysis_words.specs.declared.findings.Finding.{Finding}
+use Rattle.imp_words.specs.declared.findings.Finding.{Finding}
 use Rattle.domain_laws.specs.Checks.{kind_of}
 use Rattle.batch_meaning.specs.Report.{verdict_on}
 use Rattle.daig_session.specs.Reports.{checked_at}

@@ -3,8 +3,8 @@ use Rattle.imp_syntax.specs.declared.edit.Location.TheVariants.{Before}
 use Rattle.imp_slots.specs.Plain.{Skip}
 use Rattle.domain_laws.specs.Checks.{IsCell}
 use Rattle.batch_meaning.specs.Report.{checked_one}
-use Rattle.session_machine.specs.Turns.{asked}
-use Rattle.daig_query.specs.Filled.{added}
+use Rattle.daig_machine.specs.Turns.{after_question}
+use Rattle.daig_query.specs.Filled.{cells_added}
 use Rattle.daig_session.specs.declared.error.QueryError.{QueryError}
 use Rattle.daig_session.specs.Holds.{Holds}
 use Rattle.daig_session.specs.Reports.{IsUnticked}
@@ -83,7 +83,7 @@ returns-in-Ok-clause-all g c = λ m e k h.
     let dom = ops s.engine.domain in
     let new = c.query.new.self in
     let n = c.args.id in
-    one_answered dom m n e k new.engine.store new.book (subst (λ d. Holds (ops d) new.engine.store new.book (asked dom (Before n) [] m)) c.query.ensures.domain (c.in-Ok.ensures.answers m h).1)
+    one_answered dom m n e k new.engine.store new.book (subst (λ d. Holds (ops d) new.engine.store new.book (after_question dom (Before n) [] m)) c.query.ensures.domain (c.in-Ok.ensures.answers m h).1)
 
 pub returns-in-Ok-clause-tells : goal.returns-in-Ok-clause-tells
 returns-in-Ok-clause-tells g c = λ m h. (c.in-Ok.ensures.answers m h).0
@@ -122,14 +122,14 @@ returns-in-Err-Refused-clause-ticked g c = λ m e k h.
 pub returns-in-Ok-clause-most : goal.returns-in-Ok-clause-most
 returns-in-Ok-clause-most g c = λ m e k h.
     let s = c.args.self.now in
-    subst (λ w. c.query.new.steps ≤ c.args.steps.now + g.D.Domain.counted s.engine.domain * suc (added s.engine.store c.query.new.self.engine.store + 2 * w)) (one_chains (g.D.Domain.operations s.engine.domain) m c.args.id e k) (c.query.ensures.most m h)
+    subst (λ w. c.query.new.steps ≤ c.args.steps.now + g.D.Domain.counted s.engine.domain * suc (cells_added s.engine.store c.query.new.self.engine.store + 2 * w)) (one_chains (g.D.Domain.operations s.engine.domain) m c.args.id e k) (c.query.ensures.most m h)
 
 pub returns-in-Err-Refused-clause-most : goal.returns-in-Err-Refused-clause-most
 returns-in-Err-Refused-clause-most g c = λ m e k h.
     let s = c.args.self.now in
-    subst (λ w. c.query.new.steps ≤ c.args.steps.now + g.D.Domain.counted s.engine.domain * suc (added s.engine.store c.query.new.self.engine.store + 2 * w)) (one_chains (g.D.Domain.operations s.engine.domain) m c.args.id e k) (c.query.ensures.most m h)
+    subst (λ w. c.query.new.steps ≤ c.args.steps.now + g.D.Domain.counted s.engine.domain * suc (cells_added s.engine.store c.query.new.self.engine.store + 2 * w)) (one_chains (g.D.Domain.operations s.engine.domain) m c.args.id e k) (c.query.ensures.most m h)
 
 pub returns-clause-most : goal.returns-clause-most
 returns-clause-most g c = λ m e k h.
     let s = c.args.self.now in
-    subst (λ w. c.query.new.steps ≤ c.args.steps.now + g.D.Domain.counted s.engine.domain * suc (added s.engine.store c.query.new.self.engine.store + 2 * w)) (one_chains (g.D.Domain.operations s.engine.domain) m c.args.id e k) (c.query.ensures.most m h)
+    subst (λ w. c.query.new.steps ≤ c.args.steps.now + g.D.Domain.counted s.engine.domain * suc (cells_added s.engine.store c.query.new.self.engine.store + 2 * w)) (one_chains (g.D.Domain.operations s.engine.domain) m c.args.id e k) (c.query.ensures.most m h)

@@ -3,7 +3,7 @@ use Rattle.imp_syntax.specs.Plain.{Procedure}
 use Rattle.imp_check.specs.Slots.{routines_of}
 use Rattle.imp_edit.specs.Edited.{edited}
 use Rattle.call_contexts.specs.Settings.{setting_of}
-use Rattle.session_machine.specs.Turns.{committed}
+use Rattle.daig_machine.specs.Turns.{after_edit}
 use Rattle.daig_session.specs.Holds.{Holds, IsReady}
 use Rattle.daig_query.proofs.Sweeps.{right-in-tables}
 use Rattle.daig_session.specs.Books.{flow_in}
@@ -37,4 +37,4 @@ returns-clause-committed g c = λ e m p h.
     let s = c.args.self.now in
     let ops = g.D.Domain.operations in
     let left = c.leave.ensures.leaves s.book.setting.engine s.book.history.now (edited e s.book.history.now) (inl (edit_apart (ops s.engine.domain) s.engine.store s.book c.args.planned e c.requires.ready p)) c.requires.ready.right p.moving.empties in
-    subst (λ d. Holds (ops d) c.leave.new.engine.store c.remember.new.self (committed (ops s.engine.domain) e m)) (sym c.leave.ensures.domain) (edit_holds (ops s.engine.domain) s.engine.store c.leave.new.engine.store s.book c.remember.new.self c.args.planned e c.requires.ready p c.remember.ensures.turned left m h)
+    subst (λ d. Holds (ops d) c.leave.new.engine.store c.remember.new.self (after_edit (ops s.engine.domain) e m)) (sym c.leave.ensures.domain) (edit_holds (ops s.engine.domain) s.engine.store c.leave.new.engine.store s.book c.remember.new.self c.args.planned e c.requires.ready p c.remember.ensures.turned left m h)

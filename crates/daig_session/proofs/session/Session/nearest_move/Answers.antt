@@ -2,8 +2,8 @@ use Rattle.std.proofs.Common.{◌≡◌, List, sym, subst}
 use Rattle.imp_syntax.specs.Plain.{Procedure}
 use Rattle.imp_check.specs.Slots.{routines_of}
 use Rattle.call_contexts.specs.Settings.{setting_of}
-use Rattle.edit_history.specs.After.{after, Leads, LeadsOn}
-use Rattle.edits_keep_cells.specs.Claims.{flow_of}
+use Rattle.edit_history.specs.After.{changed_program, Leads, LeadsOn}
+use Rattle.edit_keeps.specs.Apart.{flow_of}
 use Rattle.daig_query.specs.Right.{IsRight}
 use Rattle.daig_session.specs.Moves.{IsMoving, IsNearest}
 use Rattle.daig_session.proofs.Moved.{leads_first, moving_first}
@@ -33,4 +33,4 @@ returns-clause-moving g c = λ side is.
     let h = s.book.history in
     let near : LeadsOn h.room h.now c.in-Some.change.now side = subst (λ o. IsNearest s.book o (λ c. c.now) side) c.in-Some.is is in
     moving_first s.engine.store s.book.setting.engine h.room h.now c.in-Some.change.now side c.in_ok-moving.moving near (
-    subst (λ (p : List Procedure). IsMoving s.engine.store s.book.setting.engine p (after p c.in-Some.change.now) c.in_ok-moving.moving) c.table-table.ensures.is c.in_ok-moving.ensures.moving)
+    subst (λ (p : List Procedure). IsMoving s.engine.store s.book.setting.engine p (changed_program p c.in-Some.change.now) c.in_ok-moving.moving) c.table-table.ensures.is c.in_ok-moving.ensures.moving)

@@ -4,8 +4,8 @@ use Rattle.imp_check.specs.Slots.{routines_of}
 use Rattle.imp_edit.specs.Edited.{edited}
 use Rattle.imp_edit.specs.Refusals.{edit_refusal}
 use Rattle.call_contexts.specs.Settings.{setting_of}
-use Rattle.edit_history.specs.After.{after, Leads}
-use Rattle.edits_keep_cells.specs.Claims.{flow_of}
+use Rattle.edit_history.specs.After.{changed_program, Leads}
+use Rattle.edit_keeps.specs.Apart.{flow_of}
 use Rattle.daig_query.specs.Right.{IsRight}
 use Rattle.daig_session.specs.Books.{AreBelow}
 use Rattle.daig_session.specs.Moves.{IsMoving}
@@ -55,7 +55,7 @@ returns-clause-planned g c =
       below = subst (λ (p : List Procedure). AreBelow e.next (edited ed p)) same c.in_ok-edited.ensures.still_below;
       moving =
           subst (λ (q : List Procedure). IsMoving s.engine.store s.book.setting.engine h.now q c.in_ok-moving.moving) is (
-          subst (λ (p : List Procedure). IsMoving s.engine.store s.book.setting.engine p (after p e.change) c.in_ok-moving.moving) c.table-2.ensures.is c.in_ok-moving.ensures.moving);
+          subst (λ (p : List Procedure). IsMoving s.engine.store s.book.setting.engine p (changed_program p e.change) c.in_ok-moving.moving) c.table-2.ensures.is c.in_ok-moving.ensures.moving);
     }
 
 pub returns-clause-accepted : goal.returns-clause-accepted

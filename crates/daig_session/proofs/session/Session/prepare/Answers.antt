@@ -1,6 +1,6 @@
 use Rattle.std.proofs.Common.{◌≡◌, refl, sym, ap, subst}
 use Rattle.daig_query.specs.declared.store.Store.{Store}
-use Rattle.open_tickets.specs.declared.tickets.Tickets.{Tickets}
+use Rattle.daig_tickets.specs.declared.tickets.Tickets.{Tickets}
 use Rattle.daig_session.specs.declared.book.Going.{Going}
 use Rattle.daig_session.specs.Holds.{Holds, IsReady}
 use Rattle.daig_session.proofs.Unchanged.{same_holds, same_ready}

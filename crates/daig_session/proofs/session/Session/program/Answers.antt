@@ -1,5 +1,5 @@
 use Rattle.std.proofs.Common.{ap, ◌∙◌}
-use Rattle.session_machine.specs.Machine.{Machine}
+use Rattle.daig_machine.specs.Machine.{Machine}
 use Rattle.daig_session.proofs.session.Session.program.Goals as goal
 
 pub returns : goal.returns

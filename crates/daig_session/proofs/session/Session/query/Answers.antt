@@ -5,8 +5,8 @@ use Rattle.imp_check.specs.Slots.{routines_of}
 use Rattle.imp_flow.specs.Reached.{target_of}
 use Rattle.batch_meaning.specs.Answers.{answer}
 use Rattle.daig_query.specs.Answered.{AreFilled, Covers, Says}
-use Rattle.daig_query.specs.Filled.{added}
-use Rattle.session_machine.specs.Turns.{asked, targets_of}
+use Rattle.daig_query.specs.Filled.{cells_added}
+use Rattle.daig_machine.specs.Turns.{after_question, targets_of}
 use Rattle.daig_session.specs.Books.{flow_in}
 use Rattle.daig_session.specs.Holds.{Holds}
 use Rattle.daig_session.specs.Reports.{IsUnticked}
@@ -30,7 +30,7 @@ returns-in_err-filled-clause-unticked g c =
 pub returns-in_err-filled-clause-most : goal.returns-in_err-filled-clause-most
 returns-in_err-filled-clause-most g c = λ m h.
     let s = c.args.self.now in
-    work_first c.args.steps.now c.fill_for.new.steps (g.D.Domain.counted s.engine.domain) (added s.engine.store c.fill_for.new.self.engine.store) (2 * length (targets_of m c.args.at.now c.args.string.now)) c.fill_for.ensures.most
+    work_first c.args.steps.now c.fill_for.new.steps (g.D.Domain.counted s.engine.domain) (cells_added s.engine.store c.fill_for.new.self.engine.store) (2 * length (targets_of m c.args.at.now c.args.string.now)) c.fill_for.ensures.most
 
 pub read_answer-requires : goal.read_answer-requires
 read_answer-requires g c =
@@ -64,7 +64,7 @@ returns-in_err-value-clause-most g c = λ m h.
     let each = g.D.Domain.counted s.engine.domain in
     let filled = subst (λ d. AreFilled (ops d) new.engine.store f.going.walk (flow_in s.book) ts) (sym c.fill_for.ensures.domain) c.in_ok-filled.ensures.filled in
     let read = subst (λ d. c.read_answer.new.steps ≤ c.fill_for.new.steps + g.D.Domain.counted d * (2 * length ts)) c.fill_for.ensures.domain (c.read_answer.ensures.ticked (flow_in s.book) ts filled) in
-    most_here dom s.book s.engine.store m l string ts c.args.steps.now c.fill_for.new.steps c.read_answer.new.steps each f.count (added s.engine.store new.engine.store) h a c.in_ok-filled.ensures.counted c.in_ok-filled.ensures.ticked read
+    most_here dom s.book s.engine.store m l string ts c.args.steps.now c.fill_for.new.steps c.read_answer.new.steps each f.count (cells_added s.engine.store new.engine.store) h a c.in_ok-filled.ensures.counted c.in_ok-filled.ensures.ticked read
 
 pub returns-clause-ready : goal.returns-clause-ready
 returns-clause-ready g c =
@@ -86,7 +86,7 @@ returns-clause-answers g c = λ m h.
     let filled = subst (λ d. AreFilled (ops d) new.engine.store f.going.walk (flow_in s.book) ts) (sym c.fill_for.ensures.domain) c.in_ok-filled.ensures.filled in
     let says = subst (λ d. Says (answer (ops d) (flow_in s.book).engine (flow_in s.book).program l string) (Some v)) c.fill_for.ensures.domain (c.in_ok-value.ensures.says (flow_in s.book) l string ts a filled) in (
       says_here dom s.book s.engine.store m l string v h says,
-      answered_costing (ops new.engine.domain) dom new.engine.store s.book new.book f.count (asked dom l string m) (ap ops c.fill_for.ensures.domain) c.fill_for.ensures.book (c.in_ok-filled.ensures.answered m h),
+      answered_costing (ops new.engine.domain) dom new.engine.store s.book new.book f.count (after_question dom l string m) (ap ops c.fill_for.ensures.domain) c.fill_for.ensures.book (c.in_ok-filled.ensures.answered m h),
     )
 
 pub returns-clause-sound : goal.returns-clause-sound
@@ -132,4 +132,4 @@ returns-clause-most g c = λ m h.
     let each = g.D.Domain.counted s.engine.domain in
     let filled = subst (λ d. AreFilled (ops d) new.engine.store f.going.walk (flow_in s.book) ts) (sym c.fill_for.ensures.domain) c.in_ok-filled.ensures.filled in
     let read = subst (λ d. c.read_answer.new.steps ≤ c.fill_for.new.steps + g.D.Domain.counted d * (2 * length ts)) c.fill_for.ensures.domain (c.read_answer.ensures.ticked (flow_in s.book) ts filled) in
-    most_here dom s.book s.engine.store m l string ts c.args.steps.now c.fill_for.new.steps c.read_answer.new.steps each f.count (added s.engine.store new.engine.store) h a c.in_ok-filled.ensures.counted c.in_ok-filled.ensures.ticked read
+    most_here dom s.book s.engine.store m l string ts c.args.steps.now c.fill_for.new.steps c.read_answer.new.steps each f.count (cells_added s.engine.store new.engine.store) h a c.in_ok-filled.ensures.counted c.in_ok-filled.ensures.ticked read

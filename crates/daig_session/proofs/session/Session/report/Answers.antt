@@ -1,9 +1,9 @@
 use Rattle.std.proofs.Common.{suc, ◌+◌, ◌*◌, ◌≤◌, length, sym, ap, subst}
 use Rattle.std.specs.Prelude.{OnOk}
-use Rattle.daig_query.specs.Filled.{added}
+use Rattle.daig_query.specs.Filled.{cells_added}
 use Rattle.daig_query.specs.Swept.{most_held, IsWithin}
 use Rattle.daig_query.proofs.Sweeps.{right-in-tables, swept-bounded}
-use Rattle.session_machine.specs.Turns.{missing_for_report}
+use Rattle.daig_machine.specs.Turns.{missing_for_report}
 use Rattle.daig_session.specs.Books.{flow_in}
 use Rattle.daig_session.specs.Holds.{Holds}
 use Rattle.daig_session.specs.Reports.{checked_chains, Reports}
@@ -55,5 +55,5 @@ returns-clause-most g c = λ m h.
     let new = c.report_now.new.self.engine.store in
     let old = c.args.self.now.engine.store in
     let same = swept-added old c.sweep.new.self.store new c.sweep.ensures.swept in
-    subst (λ d. c.report_now.new.steps ≤ c.args.steps.now + g.D.Domain.counted d * suc (added old new + 2 * checked_chains m)) c.sweep.ensures.domain
+    subst (λ d. c.report_now.new.steps ≤ c.args.steps.now + g.D.Domain.counted d * suc (cells_added old new + 2 * checked_chains m)) c.sweep.ensures.domain
     (subst (λ n. c.report_now.new.steps ≤ c.args.steps.now + g.D.Domain.counted c.sweep.new.self.domain * suc (n + 2 * checked_chains m)) same (c.report_now.ensures.most m (stood m h)))

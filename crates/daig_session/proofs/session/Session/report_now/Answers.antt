@@ -2,10 +2,10 @@ use Rattle.std.proofs.Common.{◌-◌, ◌++◌, List, sym, subst}
 use Rattle.std.specs.Prelude.{Contains}
 use Rattle.imp_syntax.specs.Plain.{Procedure}
 use Rattle.imp_check.specs.Slots.{routines_of}
-use Rattle.analysis_words.specs.declared.findings.Finding.{Finding}
+use Rattle.imp_words.specs.declared.findings.Finding.{Finding}
 use Rattle.batch_meaning.specs.Report.{checked_statements}
-use Rattle.session_machine.specs.Machine.{keeping}
-use Rattle.session_machine.specs.Turns.{IsBetween, missing_for_report, reported}
+use Rattle.daig_machine.specs.Machine.{keeping}
+use Rattle.daig_machine.specs.Turns.{IsBetween, missing_for_report, after_report}
 use Rattle.daig_session.specs.Books.{machine_of}
 use Rattle.daig_session.specs.Holds.{Holds}
 use Rattle.daig_session.proofs.Filled.{ready_costing}
@@ -63,7 +63,7 @@ returns-in-Ok-clause-reports g c = λ m h.
     let count = as_filled dom m new.engine.store new.book c.kept_count-kept.result c.kept_count.result (c.kept_count-kept.ensures.is m h) (c.kept_count.ensures.is then (subst (λ d. Holds (ops d) new.engine.store new.book then) (sym c.all_findings.ensures.domain) (c.in-Ok.ensures.all m h))) in
     let cost = c.kept_count.result - c.kept_count-kept.result in (
       c.in-Ok.ensures.found m h,
-      subst (λ d. Holds (ops d) new.engine.store (record new.book { cost = cost }) (reported dom m)) (sym c.all_findings.ensures.domain) (ended_holds dom m new.engine.store new.book cost (c.in-Ok.ensures.all m h) count.1),
+      subst (λ d. Holds (ops d) new.engine.store (record new.book { cost = cost }) (after_report dom m)) (sym c.all_findings.ensures.domain) (ended_holds dom m new.engine.store new.book cost (c.in-Ok.ensures.all m h) count.1),
     )
 
 pub returns-in-Ok-clause-sound : goal.returns-in-Ok-clause-sound

@@ -1,11 +1,11 @@
 use Rattle.std.proofs.Common.{suc, ◌+◌, ◌*◌, ◌≤◌, ◌≡◌, length, sym, ap, subst, ◌∙◌}
 use Rattle.std.specs.Prelude.{IfOk, IfSome, MatchOption}
 use Rattle.imp_check.specs.Slots.{routines_of}
-use Rattle.daig_query.specs.Filled.{added}
+use Rattle.daig_query.specs.Filled.{cells_added}
 use Rattle.daig_query.specs.Swept.{IsBounded}
 use Rattle.daig_query.proofs.Sweeps.{filled-bounded, right-in-tables}
-use Rattle.session_machine.specs.Machine.{ticket_of}
-use Rattle.session_machine.specs.Turns.{targets_of}
+use Rattle.daig_machine.specs.Machine.{ticket_of}
+use Rattle.daig_machine.specs.Turns.{targets_of}
 use Rattle.daig_session.specs.Books.{flow_in}
 use Rattle.daig_session.specs.Holds.{Holds}
 use Rattle.daig_session.specs.Turns.{work_of, CoversDone, IsStepOf}
@@ -67,6 +67,6 @@ returns-clause-most g c = λ m h.
     let new = c.step_now.new.self.engine.store in
     let old = c.args.self.now.engine.store in
     let same = swept-added old c.sweep.new.self.store new c.sweep.ensures.swept in
-    subst (λ d. MatchOption (ticket_of c.args.ticket m.tickets) (c.step_now.new.steps ≡ c.args.steps.now) (λ t. c.step_now.new.steps ≤ c.args.steps.now + g.D.Domain.counted d * suc (added old new + 2 * length (targets_of m t.at t.string)))) c.sweep.ensures.domain
+    subst (λ d. MatchOption (ticket_of c.args.ticket m.tickets) (c.step_now.new.steps ≡ c.args.steps.now) (λ t. c.step_now.new.steps ≤ c.args.steps.now + g.D.Domain.counted d * suc (cells_added old new + 2 * length (targets_of m t.at t.string)))) c.sweep.ensures.domain
     (subst (λ n. MatchOption (ticket_of c.args.ticket m.tickets) (c.step_now.new.steps ≡ c.args.steps.now) (λ t. c.step_now.new.steps ≤ c.args.steps.now + g.D.Domain.counted c.sweep.new.self.domain * suc (n + 2 * length (targets_of m t.at t.string)))) same
     (c.step_now.ensures.most m (stood m h)))

@@ -2,13 +2,13 @@ use Rattle.std.proofs.Common.{◌≡◌, ◌*◌, ◌+◌, ◌≤◌, suc, lengt
 use Rattle.std.proofs.lemmas.Option.{slice_get_within}
 use Rattle.std.specs.Prelude.{IfOk, IfSome, MatchOption}
 use Rattle.imp_check.specs.Slots.{routines_of}
-use Rattle.edit_history.specs.Times.{Times}
+use Rattle.edit_history.specs.History.{Times}
 use Rattle.imp_flow.specs.Plans.{Plan}
-use Rattle.session_machine.specs.Machine.{ticket_of}
-use Rattle.daig_query.specs.Filled.{added}
+use Rattle.daig_machine.specs.Machine.{ticket_of}
+use Rattle.daig_query.specs.Filled.{cells_added}
 use Rattle.daig_query.proofs.Sweeps.{few-none}
-use Rattle.session_machine.specs.Turns.{missing_at, targets_of}
-use Rattle.open_tickets.specs.Tickets.{anew, ticket, tickets, IsAt}
+use Rattle.daig_machine.specs.Turns.{missing_at, targets_of}
+use Rattle.daig_tickets.specs.Tickets.{anew, ticket, tickets, IsAt}
 use Rattle.daig_session.specs.declared.error.StepError.TheVariants.{Gone, Memory, NoTicket}
 use Rattle.daig_session.specs.Going.{IsGoing}
 use Rattle.daig_session.specs.Holds.{Holds}
@@ -138,7 +138,7 @@ returns-in_default-clause-most g c = λ m h.
     let each = g.D.Domain.counted s.engine.domain in
     let steps = c.args.steps.now in
     let none = subst (λ r. MatchOption r (ticket_of c.args.ticket (tickets s.book.tickets) ≡ None) (IsAt s.book.tickets c.args.ticket)) c.in_default.is c.place_of.ensures.is in
-    subst (λ o. MatchOption o (steps ≡ steps) (λ t. steps ≤ steps + each * suc (added s.engine.store s.engine.store + 2 * length (targets_of m t.at t.string)))) (sym (no_ticket dom s.engine.store s.book m c.args.ticket h none)) refl
+    subst (λ o. MatchOption o (steps ≡ steps) (λ t. steps ≤ steps + each * suc (cells_added s.engine.store s.engine.store + 2 * length (targets_of m t.at t.string)))) (sym (no_ticket dom s.engine.store s.book m c.args.ticket h none)) refl
 
 pub returns-in-Ok-clause-most : goal.returns-in-Ok-clause-most
 returns-in-Ok-clause-most g c = λ m h.
@@ -148,7 +148,7 @@ returns-in-Ok-clause-most g c = λ m h.
     let at = c.in-Some.ensures.is in
     let w = c.resumed.ensures.left in
     let new = c.step_on.new.self in
-    subst (λ o. MatchOption o (c.step_on.new.steps ≡ c.args.steps.now) (λ t. c.step_on.new.steps ≤ c.args.steps.now + each * suc (added s.engine.store new.engine.store + 2 * length (targets_of m t.at t.string)))) (sym (ticket_here dom s.engine.store s.book m c.args.ticket c.in-Some.place at.one h c.requires.ready.order.are_open at.there at.same)) (
+    subst (λ o. MatchOption o (c.step_on.new.steps ≡ c.args.steps.now) (λ t. c.step_on.new.steps ≤ c.args.steps.now + each * suc (cells_added s.engine.store new.engine.store + 2 * length (targets_of m t.at t.string)))) (sym (ticket_here dom s.engine.store s.book m c.args.ticket c.in-Some.place at.one h c.requires.ready.order.are_open at.there at.same)) (
     c.step_on.ensures.most m (anew at.one) (without_holds dom s.engine.store c.in-Some.place s.book c.resumed.new.book w at.one at.there m h) (without_there dom s.engine.store c.in-Some.place s.book c.resumed.new.book w at.one at.there))
 
 pub returns-in-Err-Refused-clause-most : goal.returns-in-Err-Refused-clause-most
@@ -158,7 +158,7 @@ returns-in-Err-Refused-clause-most g c = λ m h.
     let each = g.D.Domain.counted s.engine.domain in
     let steps = c.args.steps.now in
     let at = c.in-Some.ensures.is in
-    subst (λ o. MatchOption o (steps ≡ steps) (λ t. steps ≤ steps + each * suc (added s.engine.store s.engine.store + 2 * length (targets_of m t.at t.string)))) (sym (ticket_here dom s.engine.store s.book m c.args.ticket c.in-Some.place at.one h c.requires.ready.order.are_open at.there at.same)) (omega arith)
+    subst (λ o. MatchOption o (steps ≡ steps) (λ t. steps ≤ steps + each * suc (cells_added s.engine.store s.engine.store + 2 * length (targets_of m t.at t.string)))) (sym (ticket_here dom s.engine.store s.book m c.args.ticket c.in-Some.place at.one h c.requires.ready.order.are_open at.there at.same)) (omega arith)
 
 pub returns-in-Err-Memory-clause-most : goal.returns-in-Err-Memory-clause-most
 returns-in-Err-Memory-clause-most g c = λ m h.
@@ -167,4 +167,4 @@ returns-in-Err-Memory-clause-most g c = λ m h.
     let each = g.D.Domain.counted s.engine.domain in
     let steps = c.args.steps.now in
     let at = c.in-Some.ensures.is in
-    subst (λ o. MatchOption o (steps ≡ steps) (λ t. steps ≤ steps + each * suc (added s.engine.store s.engine.store + 2 * length (targets_of m t.at t.string)))) (sym (ticket_here dom s.engine.store s.book m c.args.ticket c.in-Some.place at.one h c.requires.ready.order.are_open at.there at.same)) (omega arith)
+    subst (λ o. MatchOption o (steps ≡ steps) (λ t. steps ≤ steps + each * suc (cells_added s.engine.store s.engine.store + 2 * length (targets_of m t.at t.string)))) (sym (ticket_here dom s.engine.store s.book m c.args.ticket c.in-Some.place at.one h c.requires.ready.order.are_open at.there at.same)) (omega arith)

@@ -1,8 +1,8 @@
 use Rattle.std.proofs.Common.{Some, sym, ap, ◌∙◌, arith}
 use Rattle.std.proofs.lemmas.Option.{slice_get_within}
 use Rattle.std.specs.Option.{option_map}
-use Rattle.session_machine.specs.Machine.{Ticket}
-use Rattle.open_tickets.specs.declared.tickets.Open.{Open}
+use Rattle.daig_machine.specs.Machine.{Ticket}
+use Rattle.daig_tickets.specs.declared.tickets.OpenTicket.{OpenTicket}
 use Rattle.daig_session.specs.declared.book.Going.{Going}
 use Rattle.daig_session.proofs.TicketLemmas.{read_is}
 use Rattle.daig_session.proofs.Ticketed.{no_ticket, ticket_here}
@@ -25,4 +25,4 @@ returns-in-Some g c =
     let s = c.args.self.now in
     let at = c.in-Some.ensures.is in
     let is = read_is s.book.tickets.open_ones.items c.in-Some.place c.index-one.result.now at.one c.index-one.ensures at.there in
-    record { is = λ m h. ap (λ (o : Open Going). Some o.at) is ∙ sym (ap (option_map (λ (t : Ticket). t.at)) (ticket_here (g.D.Domain.operations s.engine.domain) s.engine.store s.book m c.args.ticket c.in-Some.place at.one h c.requires.ready.order.are_open at.there at.same)) }
+    record { is = λ m h. ap (λ (o : OpenTicket Going). Some o.at) is ∙ sym (ap (option_map (λ (t : Ticket). t.at)) (ticket_here (g.D.Domain.operations s.engine.domain) s.engine.store s.book m c.args.ticket c.in-Some.place at.one h c.requires.ready.order.are_open at.there at.same)) }

@@ -6,10 +6,10 @@ use Rattle.imp_flow.specs.Reached.{target_of}
 use Rattle.batch_meaning.specs.Answers.{In, procedure_of}
 use Rattle.cell_rows.specs.Targets.{Target, targets}
 use Rattle.daig_query.specs.Answered.{AreFilled}
-use Rattle.named_cells.specs.Same.{same_name}
-use Rattle.named_cells.proofs.Same.{same_is}
+use Rattle.cell_graph.specs.Same.{same_name}
+use Rattle.cell_graph.proofs.Same.{same_is}
 use Rattle.why_slice.specs.Claims.{Suffices}
-use Rattle.session_machine.specs.Turns.{asked}
+use Rattle.daig_machine.specs.Turns.{after_question}
 use Rattle.daig_session.specs.Books.{flow_in}
 use Rattle.daig_session.specs.Holds.{Holds}
 use Rattle.daig_session.specs.Reports.{IsUnticked}
@@ -69,7 +69,7 @@ returns-clause-explains g c = λ m h.
     let stmts = listed_is (ops new.engine.domain) dom new.engine.store f.going.walk c.flow-flow.result (flow_in s.book) l string c.in_ok-stmts.stmts ts (ap ops c.fill_for.ensures.domain) (c.flow-flow.ensures.is ∙ ap flow_in c.fill_for.ensures.book) c.in_ok-stmts.ensures.is a c.in_ok-filled.ensures.filled in (
       answered_here dom s.book s.engine.store m l string ts c.requires.ready.right.checked h a,
       upstream_here dom s.book s.engine.store m l string ts c.in_ok-stmts.stmts h a stmts,
-      answered_costing (ops new.engine.domain) dom new.engine.store s.book new.book f.count (asked dom l string m) (ap ops c.fill_for.ensures.domain) c.fill_for.ensures.book (c.in_ok-filled.ensures.answered m h),
+      answered_costing (ops new.engine.domain) dom new.engine.store s.book new.book f.count (after_question dom l string m) (ap ops c.fill_for.ensures.domain) c.fill_for.ensures.book (c.in_ok-filled.ensures.answered m h),
     )
 
 pub returns-clause-stays : goal.returns-clause-stays

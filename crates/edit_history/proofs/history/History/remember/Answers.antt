@@ -1,6 +1,6 @@
 use Rattle.std.proofs.Common.{◌≤◌, ◌∷◌, take, ap, ◌∙◌, arith}
 use Rattle.std.specs.VecDeque.{deque_capacity}
-use Rattle.edit_history.specs.Times.{Times}
+use Rattle.edit_history.specs.History.{Times}
 use Rattle.edit_history.proofs.AfterLemmas.{room_left, remembered, remembered_past}
 use Rattle.edit_history.proofs.history.History.remember.Goals as goal
 

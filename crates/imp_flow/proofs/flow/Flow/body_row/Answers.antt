@@ -1,7 +1,7 @@
 use Rattle.std.proofs.Common.{◌∙◌, sym}
 use Rattle.call_contexts.specs.Settings.{engine_of}
-use Rattle.flow_rows.specs.Entered.{node_now}
-use Rattle.flow_rows.specs.NodeRows.{turn_at}
+use Rattle.imp_flow_rows.specs.Entered.{node_now}
+use Rattle.imp_flow_rows.specs.NodeRows.{turn_at}
 use Rattle.imp_flow.proofs.FlowLemmas.{body_found}
 use Rattle.imp_flow.proofs.flow.Flow.body_row.Goals as goal
 

@@ -1,5 +1,5 @@
 use Rattle.std.proofs.Common.{◌∙◌, sym}
-use Rattle.flow_rows.specs.Entered.{node_now}
+use Rattle.imp_flow_rows.specs.Entered.{node_now}
 use Rattle.imp_flow.proofs.FlowLemmas.{entry_found}
 use Rattle.imp_flow.proofs.flow.Flow.entry_row.Goals as goal
 

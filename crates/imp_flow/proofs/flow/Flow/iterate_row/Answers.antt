@@ -1,7 +1,7 @@
 use Rattle.std.proofs.Common.{◌-◌, ◌∙◌, sym}
 use Rattle.call_contexts.specs.Settings.{engine_of}
-use Rattle.flow_rows.specs.Entered.{node_now}
-use Rattle.flow_rows.specs.NodeRows.{next_at}
+use Rattle.imp_flow_rows.specs.Entered.{node_now}
+use Rattle.imp_flow_rows.specs.NodeRows.{next_at}
 use Rattle.imp_flow.proofs.FlowLemmas.{iterate_found}
 use Rattle.imp_flow.proofs.flow.Flow.iterate_row.Goals as goal
 
@@ -9,6 +9,6 @@ pub returns-in-Some : goal.returns-in-Some
 returns-in-Some c = record {
   is = λ w.
       c.next_row.ensures.is w
-      ∙ (λ i. next_at w (engine_of (c.budget.ensures.is i) (c.widening.ensures.is i)) (c.marks-marks.ensures.is i) (c.args.index - 1) (node_now c.in-Some.node))
+      ∙ (λ i. next_at w (engine_of (c.budget.ensures.is i) (c.widening.ensures.is i)) (c.thresholds-thresholds.ensures.is i) (c.args.index - 1) (node_now c.in-Some.node))
       ∙ iterate_found c.args.self.now w c.args.stmt c.args.index (node_now c.in-Some.node) c.if-index-eq0.false (sym c.in-Some.ensures.is);
 }

@@ -1,6 +1,6 @@
 use Rattle.std.proofs.Common.{◌∙◌, ap, map, pos}
 use Rattle.concrete_sem.specs.Values.{Variables}
-use Rattle.imp_run.specs.declared.slots.Held.TheVariants.{Int}
+use Rattle.imp_run.specs.declared.slots.SlotValue.TheVariants.{Int}
 use Rattle.imp_run.specs.Slots.{number_of, elements_of}
 use Rattle.imp_run.proofs.SlotLemmas.{set-slot, taken-elements}
 use Rattle.imp_run.proofs.slots.Slots.take_array.Goals as goal

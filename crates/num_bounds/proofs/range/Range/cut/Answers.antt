@@ -3,7 +3,7 @@ use Rattle.std.specs.Int.{w64}
 use Rattle.std.proofs.lemmas.Int.{to_z-of_z}
 use Rattle.num_bounds.specs.Bounds.{Bounds}
 use Rattle.num_bounds.specs.Meaning.{IsMeet}
-use Rattle.num_bounds.specs.Operations.{between, cut_of}
+use Rattle.num_bounds.specs.Operations.{range_between, cut_of}
 use Rattle.num_bounds.proofs.Ends.{cut-meet}
 use Rattle.num_bounds.proofs.range.Range.cut.Goals as goal
 
@@ -18,7 +18,7 @@ returns-clause-exact c =
     let lo = simp to_z-of_z at c.max.ensures.value in
     let hi = simp to_z-of_z at c.min.ensures.value in
     (simp to_z-of_z at c.new.ensures.exact)
-    ∙ (λ i. between (lo i) (hi i))
+    ∙ (λ i. range_between (lo i) (hi i))
     ∙ (λ i. cut_of (c.self.view_is i) c.args.lo c.args.hi)
 
 pub returns-clause-meet : goal.returns-clause-meet

@@ -1,0 +1,15 @@
+pub mod Decided
+pub mod Right
+pub mod Tails
+pub mod Seats
+pub mod Blocks
+pub mod Named
+pub mod Local
+pub mod ByNew
+pub mod Plans
+pub mod RowTests
+pub mod Changed
+pub mod Worked
+pub mod StaysDecided
+pub mod OperationDecided
+pub mod KeptDecided

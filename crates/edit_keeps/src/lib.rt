@@ -1,0 +1,25 @@
+//! Each accepted edit keeps the places of statements, and so does taking it back.
+//!
+//! This is what the plan of an edit's removal asks of the two programs (`KeepPlaces` of crate `cell_kept_set`). The function
+//! does nothing when it runs; it carries the theorem as its clause.
+//!
+//! What one accepted edit leaves of the cells of a program, and what taking it back leaves.
+//!
+//! Edits keep the places of statements (crate `edit_keeps`), and where they do, a plan of removal leaves exactly the
+//! kept cells (crate `edit_invalidate`). So a session that plans, exchanges the program and commits has the kept cells of
+//! the edit, which are cells of the new program, whether the edit is made, taken back or made again.
+//!
+//! The function does nothing when it runs; it carries its theorem as its clause.
+#![tactic(auto)]
+
+ghost use Rattle.edit_keeps.specs.Claims.{EditsKeepPlaces};
+
+mod laws;
+
+pub use laws::edits_leave_kept;
+
+/// A statement that the programs before and behind an edit both have stands in the same procedure and in the same
+/// loops of it, and a call is of the same procedure.
+pub fn edits_keep_places()
+    ensures keep { EditsKeepPlaces }
+{}

@@ -1,6 +1,0 @@
-use Rattle.generated_sources.proofs.Texts.{are_read}
-use Rattle.generated_sources.proofs.Faultless.{are_faultless}
-use Rattle.generated_sources.proofs.laws.sources_are_accepted.Goals as goal
-
-pub returns : goal.returns
-returns c = record { read = are_read; faultless = are_faultless }

@@ -1,0 +1,3 @@
+pub mod Chains
+pub mod Thresholds
+pub mod Claims

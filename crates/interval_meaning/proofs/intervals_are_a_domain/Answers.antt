@@ -1,5 +1,0 @@
-use Rattle.interval_meaning.proofs.Laws.{interval_laws, interval_keeps_dead}
-use Rattle.interval_meaning.proofs.intervals_are_a_domain.Goals as goal
-
-pub returns : goal.returns
-returns c = record { laws = interval_laws; keeps_dead = interval_keeps_dead }

@@ -1,5 +1,0 @@
-use Rattle.interval_words.proofs.Portable.{interval_portable}
-use Rattle.interval_words.proofs.laws.intervals_are_portable.Goals as goal
-
-pub returns : goal.returns
-returns c = record { portable = interval_portable }

@@ -1,5 +1,0 @@
-use Rattle.interval_words.proofs.Ordered.{interval_bounds}
-use Rattle.interval_words.proofs.laws.intervals_have_upper_bounds.Goals as goal
-
-pub returns : goal.returns
-returns c = record { upper = interval_bounds }

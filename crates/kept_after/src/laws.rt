@@ -1,9 +1,0 @@
-//! The test decides what is kept.
-ghost use Rattle.kept_after.specs.Claims.{KeptIsDecided};
-
-use domain_laws::Domain;
-
-/// Over an edit of a checked program, of cells that are closed under inputs: the test holds exactly of the kept names.
-pub fn kept_is_decided<D: Domain>()
-    ensures decided { (d : D) → KeptIsDecided (D.operations d) }
-{}

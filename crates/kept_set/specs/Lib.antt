@@ -1,4 +1,0 @@
-pub mod Touched
-pub mod Places
-pub mod RowTest
-pub mod Claims

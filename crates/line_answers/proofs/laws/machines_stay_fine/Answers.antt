@@ -1,6 +1,0 @@
-use Rattle.line_answers.proofs.FineTurns.{lines_fine}
-use Rattle.line_answers.proofs.Sources.{sources_fine}
-use Rattle.line_answers.proofs.laws.machines_stay_fine.Goals as goal
-
-pub returns : goal.returns
-returns g c = record { source = sources_fine; line = λ d. lines_fine (g.D.Domain.operations d) }

@@ -1,5 +1,0 @@
-use Rattle.listseg_meaning.proofs.ConvergenceLaws.{joins-end, widenings-end}
-use Rattle.listseg_meaning.proofs.joining_ends.Goals as goal
-
-pub returns : goal.returns
-returns c = record { joins = joins-end; widens = widenings-end }

@@ -1,5 +1,0 @@
-use Rattle.listseg_words.proofs.Upper.{segment_bounds}
-use Rattle.listseg_words.proofs.laws.segments_have_upper_bounds.Goals as goal
-
-pub returns : goal.returns
-returns c = record { upper = segment_bounds }

@@ -1,6 +1,0 @@
-use Rattle.number_hash.specs.Mixed.{mixed}
-use Rattle.number_hash.proofs.hasher.mixed.Goals as goal
-
-pub returns : goal.returns
-unfolding mixed
-returns c = record { is = c.folded.ensures.is }

@@ -1,5 +1,0 @@
-use Rattle.octagon_meaning.proofs.Convergence.{widening_ends}
-use Rattle.octagon_meaning.proofs.widening_ends.Goals as goal
-
-pub returns : goal.returns
-returns c = record { ends = widening_ends }

@@ -1,5 +1,0 @@
-use Rattle.octagon_words.proofs.Portable.{octagon_portable}
-use Rattle.octagon_words.proofs.laws.octagons_are_portable.Goals as goal
-
-pub returns : goal.returns
-returns c = record { portable = octagon_portable }

@@ -1,5 +1,0 @@
-use Rattle.plain_values.specs.Equal.{same_Decides}
-use Rattle.plain_values.proofs.codes_decide.Goals as goal
-
-pub returns : goal.returns
-returns g c = record { decides = λ code x y. same_Decides code x y }

@@ -1,5 +1,0 @@
-use Rattle.std.specs.Cmp.Lexicographic.{pointwise_decides}
-use Rattle.plain_values.proofs.equality_decides.Goals as goal
-
-pub returns : goal.returns
-returns g c = record { decides = λ decided. pointwise_decides decided }

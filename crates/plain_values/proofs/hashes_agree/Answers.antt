@@ -1,5 +1,0 @@
-use Rattle.plain_values.specs.Equal.{same_fed}
-use Rattle.plain_values.proofs.hashes_agree.Goals as goal
-
-pub returns : goal.returns
-returns g c = record { agree = λ code. same_fed code }

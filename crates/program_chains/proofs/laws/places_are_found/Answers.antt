@@ -1,5 +1,0 @@
-use Rattle.program_chains.proofs.Found.{places_are_found}
-use Rattle.program_chains.proofs.laws.places_are_found.Goals as goal
-
-pub returns : goal.returns
-returns c = record { found = places_are_found }

@@ -1,7 +1,0 @@
-use Rattle.std.proofs.Common.{◌≡◌, ◌++◌, drop}
-use Rattle.imp_check.specs.Tables.{entry_in}
-use Rattle.imp_check.specs.Rebuilt.{program_from}
-use Rattle.program_table.proofs.rebuilt.procedures_from.Given as goal
-
-abbrev pub invariant-loop-head : goal.invariant-loop-head
-invariant-loop-head l = l.procs ++ program_from (entry_in l.places) l.most (drop l.head-index l.heads) ≡ program_from (entry_in l.places) l.most l.heads

@@ -1,4 +1,0 @@
-use Rattle.program_table.proofs.table.Table.view.Given as goal
-
-abbrev pub ghost-new : goal.ghost-new
-ghost-new a = a.table.now.program

@@ -1,0 +1,80 @@
+-- How the program ends: by a status, with what was read and written.
+use Rattle.std.specs.Prelude.{◌≡◌, ℕ, ◌<◌, ◌==◌, ◌++◌, ◌⊎◌, List, [], ◌∷◌, Option, Some, if◌then◌else◌}
+use Rattle.serve_command.specs.declared.job.DomainName.{DomainName}
+use Rattle.serve_script.specs.Replies.{AnsweredRead, WrotePrefix}
+use Rattle.serve_answers.specs.Lines.{Served, server}
+use Rattle.serve_output.specs.declared.status.Status.{Status}
+use Rattle.serve_output.specs.declared.status.Status.TheVariants.{Done, Words, Source, Script, Sink, Memory, Files, LongScript, LongFile}
+use Rattle.serve_output.specs.Domains.{meaning_of}
+use Rattle.serve_output.specs.Output.{Output, served_bytes}
+
+-- the number of a status
+abbrev pub code_of : Status → ℕ
+code_of Done = 0
+code_of Words = 2
+code_of Source = 3
+code_of Script = 4
+code_of Sink = 5
+code_of Memory = 6
+code_of Files = 7
+code_of LongScript = 8
+code_of LongFile = 9
+
+-- the status of a number
+abbrev pub status_of : ℕ → Status
+status_of n =
+    if n == 0 then Done else (if n == 2 then Words else (if n == 3 then Source else (if n == 4 then Script else (if n == 5 then Sink
+    else (if n == 7 then Files else (if n == 8 then LongScript else (if n == 9 then LongFile else Memory)))))))
+
+-- a number that a status has
+abbrev pub IsStatus : ℕ → Type 0
+IsStatus n = n ≡ code_of (status_of n)
+
+-- no bytes, or some of which the last is LF
+abbrev pub IsWholeLines : List ℕ → Type 0
+IsWholeLines bytes = (bytes ≡ []) ⊎ ((front : List ℕ) × (bytes ≡ front ++ 10 ∷ []))
+
+-- A prefix of the bytes was written, and it has whole lines alone.
+pub record WroteWholeLines (bytes taken : List ℕ) (output : Option (List ℕ)) : Type 0 where
+  pub sent : List ℕ
+  pub unsent : List ℕ
+  pub split : bytes ≡ sent ++ unsent
+  pub written : output ≡ Some (taken ++ sent)
+  pub whole : IsWholeLines sent
+
+-- A program is served: the replies to the lines whose LF was read are written, and no more.
+pub record WroteRead (output : Output) (script taken : List ℕ) (rest written : Option (List ℕ)) : Type 0 where
+  pub domain : DomainName
+  pub first : Served
+  pub succeeds : output.status ≡ 0
+  pub is : output.bytes ≡ served_bytes domain first script
+  pub answered : AnsweredRead (server (meaning_of domain).operations) first script taken rest written
+
+-- The output was written, and the status is that of the output.
+pub record WroteAll (status : ℕ) (output : Output) (taken : List ℕ) (written : Option (List ℕ)) : Type 0 where
+  pub same : output.status ≡ status
+  pub all : written ≡ Some (taken ++ output.bytes)
+
+-- the status that the output has where the program ends so, if nothing failed
+abbrev pub Fits : Status → ℕ → Type 0
+Fits Done status = status ≡ 0
+Fits Words status = status ≡ 2
+Fits Source status = status ≡ 3
+Fits Script status = status ≡ 0
+Fits Sink status = status < 7
+Fits Memory status = Unit {0}
+Fits Files status = Unit {0}
+Fits LongScript status = status ≡ 0
+Fits LongFile status = status ≡ 9
+
+-- what was written, where the program ends so
+abbrev pub Wrote : Status → Output → List ℕ → List ℕ → Option (List ℕ) → Option (List ℕ) → Type 0
+Wrote Done output script taken rest written = WroteAll 0 output taken written
+Wrote Words output script taken rest written = WroteAll 2 output taken written
+Wrote Source output script taken rest written = WroteAll 3 output taken written
+Wrote Script output script taken rest written = WroteRead output script taken rest written
+Wrote Sink output script taken rest written = WrotePrefix output.bytes taken written
+Wrote Memory output script taken rest written = WroteWholeLines output.bytes taken written
+Wrote Files output script taken rest written = written ≡ Some taken
+Wrote LongScript output script taken rest written = WroteRead output script taken rest written
+Wrote LongFile output script taken rest written = written ≡ Some taken

@@ -1,0 +1,76 @@
+//! The listing and the report of a program, by batch interpretation.
+ghost use Rattle.std.specs.Prelude.{◌≡◌, ◌++◌, IfOk};
+ghost use Rattle.imp_check.specs.Slots.{routines_of};
+ghost use Rattle.batch_meaning.specs.Report.{report};
+ghost use Rattle.call_contexts.specs.Settings.{setting_of};
+ghost use Rattle.request_json.specs.declared.reply.Reply.TheVariants as r;
+ghost use Rattle.request_json.specs.Replies.{reply_text};
+ghost use Rattle.serve_output.specs.Domains.{meaning_of};
+ghost use Rattle.serve_output.specs.Jobs.{engine_of};
+ghost use Rattle.serve_output.specs.Output.{batch_bytes};
+
+use crate::domains::Named;
+use base_counter::Steps;
+use base_values::Memory;
+use batch_interp::batch_report;
+use call_contexts::Setting;
+use imp_table::Checked;
+use request_json::{Reply, reply_line};
+use serve_command::AnalysisOptions;
+use serve_replies::listing;
+use std::alloc::Global;
+use std::sync::ledger::Ledger;
+
+/// The line of the report, by this setting.
+fn line_by<D: Named, L: Ledger>(
+    alloc: Global,
+    domain: &D,
+    setting: &Setting,
+    program: &Checked,
+    steps: &mut Steps<L>,
+) -> Result<Vec<u8>, Memory>
+    requires setting { setting.now ≡ setting_of setting.now.engine (routines_of program.now) }
+    ensures bytes { IfOk result (λ v. v.items ≡ reply_text (r.Report (report (meaning_of D.name).operations setting.now.engine (routines_of program.now)))) }
+{
+    let findings = batch_report(alloc, domain, program, setting, steps)?;
+    reply_line(alloc, &Reply::Report(findings))
+}
+
+/// The line of the report.
+fn report_line<D: Named, L: Ledger>(
+    alloc: Global,
+    domain: &D,
+    settings: &AnalysisOptions,
+    program: &Checked,
+    steps: &mut Steps<L>,
+) -> Result<Vec<u8>, Memory>
+    ensures bytes { IfOk result (λ v. v.items ≡ reply_text (r.Report (report (meaning_of D.name).operations (engine_of settings.now) (routines_of program.now)))) }
+{
+    let setting = Setting::new(alloc, &program.view(), settings.budget, settings.widening)?;
+    line_by(alloc, domain, &setting, program, steps)
+}
+
+/// One text behind another.
+fn behind(alloc: Global, first: &[u8], second: &[u8]) -> Result<Vec<u8>, Memory>
+    ensures bytes { IfOk result (λ v. v.items ≡ first.now ++ second.now) }
+{
+    let mut bytes = Vec::from_slice(alloc, first)?;
+    bytes.extend_from_slice(second)?;
+    Ok(bytes)
+}
+
+/// The listing and the line of the report. It fails for want of memory alone.
+#[tactic(auto, unfolding(crate::specs::Output::batch_bytes))]
+pub fn listed<D: Named, L: Ledger>(
+    alloc: Global,
+    domain: &D,
+    settings: &AnalysisOptions,
+    program: &Checked,
+    steps: &mut Steps<L>,
+) -> Result<Vec<u8>, Memory>
+    ensures bytes { IfOk result (λ v. v.items ≡ batch_bytes D.name (engine_of settings.now) program.now) }
+{
+    let line = report_line(alloc, domain, settings, program, steps)?;
+    let listing = listing(alloc, program.program())?;
+    behind(alloc, listing.as_slice(), line.as_slice())
+}

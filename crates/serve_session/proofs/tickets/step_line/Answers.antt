@@ -1,0 +1,43 @@
+use Rattle.std.proofs.Common.{◌≡◌, Option, Some, option_map, subst, ap, ◌∙◌}
+use Rattle.daig_machine.specs.Machine.{Ticket, ticket_of}
+use Rattle.daig_session.specs.Holds.{Holds}
+use Rattle.request_json.specs.declared.reply.Refusal.{Refusal}
+use Rattle.serve_session.specs.Followed.{Tells, TellsTurn}
+use Rattle.serve_session.proofs.Turned.{checked_here, step_follows, step_halts, ticket_short, unstepped_follows, unstepped_halts}
+use Rattle.serve_session.proofs.tickets.step_line.Goals as goal
+
+pub returns-in-Ok-clause-turn : goal.returns-in-Ok-clause-turn
+returns-in-Ok-clause-turn g c = λ m h.
+    let now = c.args.session.now in
+    let dom = g.D.Domain.operations now.engine.domain in
+    let new = c.step.new.self in
+    let stands = Holds (g.D.Domain.operations new.engine.domain) new.engine.store new.book in
+    let o = ticket_of c.args.ticket m.tickets in
+    let there : Some c.in_ok-at.at ≡ option_map (λ (t : Ticket). t.at) o = ap Some c.in_ok-at.ensures.same ∙ c.in-Some.ensures.is m h in
+    step_follows dom m stands c.args.n c.turn_line.result (λ v. v.items) o c.in_ok-at.at (checked_here dom now.engine.store now.book m c.requires.ready h) (ticket_short dom now.engine.store now.book m c.args.ticket c.requires.ready h) there
+    c.in-Ok.turn (c.in-Ok.ensures.steps m h)
+    (subst (λ (d : g.row.D.Denot). TellsTurn c.turn_line.result (λ v. v.items) (g.D.Domain.operations d) stands c.in_ok-at.at c.in-Ok.turn) c.step.ensures.domain c.turn_line.ensures.tells)
+
+pub returns-in-Ok-clause-between : goal.returns-in-Ok-clause-between
+returns-in-Ok-clause-between g c = λ m h.
+    let now = c.args.session.now in
+    let dom = g.D.Domain.operations now.engine.domain in
+    let new = c.step.new.self in
+    let stands = Holds (g.D.Domain.operations new.engine.domain) new.engine.store new.book in
+    step_halts dom m stands c.args.n c.turn_line.result (ticket_of c.args.ticket m.tickets) (checked_here dom now.engine.store now.book m c.requires.ready h) (ticket_short dom now.engine.store now.book m c.args.ticket c.requires.ready h)
+    c.in-Ok.turn (c.in-Ok.ensures.steps m h)
+
+pub returns-clause-turn : goal.returns-clause-turn
+returns-clause-turn g c = λ m h.
+    let dom = g.D.Domain.operations c.args.session.now.engine.domain in
+    let new = c.step.new.self in
+    let stands = Holds (g.D.Domain.operations new.engine.domain) new.engine.store new.book in
+    unstepped_follows dom m stands c.args.n c.refused_if.result (λ v. v.items) (ticket_of c.args.ticket m.tickets) c.in-Err.error (c.in-Err.ensures.steps m h)
+    (subst (λ (why : Option Refusal). Tells c.refused_if.result (λ v. v.items) why) c.step_refusal.ensures.is c.refused_if.ensures.tells)
+
+pub returns-clause-between : goal.returns-clause-between
+returns-clause-between g c = λ m h.
+    let dom = g.D.Domain.operations c.args.session.now.engine.domain in
+    let new = c.step.new.self in
+    let stands = Holds (g.D.Domain.operations new.engine.domain) new.engine.store new.book in
+    unstepped_halts dom m stands c.args.n c.refused_if.result (ticket_of c.args.ticket m.tickets) c.in-Err.error (c.in-Err.ensures.steps m h)

@@ -1,0 +1,122 @@
+-- What is written for a line, and which machine stands after it.
+use Rattle.std.specs.Prelude.{◌≡◌, ◌⊎◌, ℕ, List, [], Option, Some, None, Result, Ok, Err, IfOk}
+use Rattle.imp_syntax.specs.declared.edit.Location.{Location}
+use Rattle.imp_check.specs.Slots.{routines_of}
+use Rattle.domain_laws.specs.Operations.{Operations}
+use Rattle.batch_meaning.specs.Answers.{Answer}
+use Rattle.cell_names.specs.Paths.{CellName}
+use Rattle.daig_machine.specs.Machine.{Machine, Ticket, ticket_of}
+use Rattle.daig_machine.specs.Turns.{IsBetween, missing_at, missing_for_report}
+use Rattle.daig_query.specs.Answered.{Says}
+use Rattle.daig_session.specs.declared.error.AskError.{AskError}
+use Rattle.daig_session.specs.declared.error.AskError.TheVariants as ask
+use Rattle.daig_session.specs.declared.error.QueryError.{QueryError}
+use Rattle.daig_session.specs.declared.error.QueryError.TheVariants as question
+use Rattle.daig_session.specs.declared.error.StepError.{StepError}
+use Rattle.daig_session.specs.declared.error.StepError.TheVariants as step
+use Rattle.daig_session.specs.declared.error.UndoError.{UndoError}
+use Rattle.daig_session.specs.declared.error.UndoError.TheVariants as undo
+use Rattle.daig_session.specs.declared.stepping.StepResult as stepping
+use Rattle.daig_session.specs.declared.stepping.StepResult.TheVariants.{Pending, Done}
+use Rattle.request_json.specs.declared.error.ReadError.{ReadError}
+use Rattle.request_json.specs.declared.request.Request.{Request}
+use Rattle.request_json.specs.declared.request.Request.TheVariants as q
+use Rattle.request_json.specs.declared.reply.Reply.TheVariants as r
+use Rattle.request_json.specs.declared.reply.Refusal.{Refusal}
+use Rattle.request_json.specs.declared.reply.Refusal.TheVariants as refusal
+use Rattle.request_json.specs.Replies.{reply_text}
+use Rattle.imp_syntax.specs.declared.edit.Edit.{Edit}
+use Rattle.serve_replies.specs.States.{answer_reply, layout_at}
+use Rattle.serve_answers.specs.Edits.{IsTextError, replace_of, insert_of, delete_of, guard_of, declare_of, add_of, drop_of}
+use Rattle.serve_answers.specs.Readings.{Readings}
+use Rattle.serve_answers.specs.declared.edits.TextError.{TextError}
+use Rattle.serve_answers.specs.Turns.{Outcome}
+
+-- The reply of a turn is written, and what stands is its machine.
+pub record Follows (turn : Outcome) (stands : Machine → Type 0) (line : List ℕ) : Type 0 where
+  pub reply : line ≡ reply_text turn.reply
+  pub machine : stands turn.machine
+
+-- a request that fills names: after want of memory some of them may be filled, and all else is as it was
+abbrev pub Fills : Result Request ReadError → Type 0
+Fills (Err error) = ⊥
+Fills (Ok (q.State query)) = Unit {0}
+Fills (Ok (q.Why query)) = Unit {0}
+Fills (Ok q.Report) = Unit {0}
+Fills (Ok (q.Step ticket n)) = Unit {0}
+Fills (Ok request) = ⊥
+
+-- what is missing for a ticket, if it is open, and for a request
+abbrev pub missing_for_ticket : {S : Type 0} → Operations S → Option Ticket → Machine → List CellName
+missing_for_ticket dom None m = []
+missing_for_ticket dom (Some t) m = missing_at dom t.at t.string m
+
+abbrev pub missing_of : {S : Type 0} → Operations S → Result Request ReadError → Machine → List CellName
+missing_of dom (Err error) m = []
+missing_of dom (Ok (q.State query)) m = missing_at dom query.at query.string m
+missing_of dom (Ok (q.Why query)) m = missing_at dom query.at query.string m
+missing_of dom (Ok q.Report) m = missing_for_report dom m
+missing_of dom (Ok (q.Step ticket n)) m = missing_for_ticket dom (ticket_of ticket m.tickets) m
+missing_of dom (Ok request) m = []
+
+-- For want of memory some of these names are kept, the first ones, and nothing else is changed; or what stands is the
+-- machine after the turn, and its reply alone is not written.
+abbrev pub IsHalted : List CellName → Outcome → Machine → (stands : Machine → Type 0) → Type 0
+IsHalted xs turn m stands = IsBetween xs m stands ⊎ stands turn.machine
+
+-- why a question has no answer, a ticket is not opened or not stepped, the program stays; nothing for want of memory
+abbrev pub query_refusal : QueryError → Option Refusal
+query_refusal (question.Refused why) = Some (refusal.Query why)
+query_refusal question.Memory = None
+
+abbrev pub ask_refusal : AskError → Option Refusal
+ask_refusal (ask.Refused why) = Some (refusal.Query why)
+ask_refusal ask.Full = Some refusal.ManyTickets
+ask_refusal ask.Memory = None
+
+abbrev pub step_refusal : StepError → Option Refusal
+step_refusal step.NoTicket = Some refusal.NoTicket
+step_refusal step.Gone = Some refusal.Gone
+step_refusal step.Memory = None
+
+abbrev pub move_refusal : UndoError → (otherwise : Refusal) → Option Refusal
+move_refusal undo.Nothing otherwise = Some otherwise
+move_refusal undo.Memory otherwise = None
+
+-- The line tells this refusal; for want of memory there is no line.
+abbrev pub Tells : {V E : Type 0} → Result V E → (items : V → List ℕ) → Option Refusal → Type 0
+Tells line items (Some why) = IfOk line (λ v. items v ≡ reply_text (r.Refused why))
+Tells line items None = IfOk line (λ v. ⊥)
+
+-- The line tells how many cells a step filled, or what it answers at a location.
+abbrev pub TellsTurn : {V E S : Type 0} → Result V E → (items : V → List ℕ) → Operations S → (stands : Machine → Type 0) → Location → stepping.StepResult S → Type 0
+TellsTurn line items dom stands at (Pending n) = IfOk line (λ v. items v ≡ reply_text (r.Pending n))
+TellsTurn {S = S} line items dom stands at (Done v) = (m : Machine) (a : Answer S) → stands m → Says a (Some v) →
+    IfOk line (λ w. items w ≡ reply_text (answer_reply dom (layout_at (routines_of m.program) at) a))
+
+-- a request for an edit
+abbrev pub Edits : Request → Type 0
+Edits (q.Replace id text) = Unit {0}
+Edits (q.Insert place text) = Unit {0}
+Edits (q.Delete id) = Unit {0}
+Edits (q.Guard id text) = Unit {0}
+Edits (q.Declare proc name kind) = Unit {0}
+Edits (q.Add before text) = Unit {0}
+Edits (q.Drop proc) = Unit {0}
+Edits request = ⊥
+
+-- the edit that a request asks for, whose new statements carry the numbers from the next one on
+abbrev pub edit_asked : Readings → (next : ℕ) → Request → Result Edit Refusal
+edit_asked readings next (q.Replace id text) = replace_of readings next id text
+edit_asked readings next (q.Insert place text) = insert_of readings next place text
+edit_asked readings next (q.Delete id) = delete_of id
+edit_asked readings next (q.Guard id text) = guard_of readings id text
+edit_asked readings next (q.Declare proc name kind) = declare_of proc name kind
+edit_asked readings next (q.Add before text) = add_of readings next before text
+edit_asked readings next (q.Drop proc) = drop_of proc
+edit_asked readings next request = Err refusal.NoRequest
+
+-- what is made of a text is this edit, or why the text gives none
+abbrev pub Makes : Result Edit Refusal → Result Edit TextError → Type 0
+Makes e (Ok edit) = e ≡ Ok edit
+Makes e (Err error) = IsTextError e error

@@ -1,0 +1,102 @@
+//! The answer to a line.
+ghost use Rattle.std.specs.Prelude.{◌≡◌, ◌+◌, ◌≤◌, ◌<◌, ◌^◌, Ok, IfOk, IfErr};
+ghost use Rattle.daig_machine.specs.Machine.{Machine};
+ghost use Rattle.daig_session.specs.Holds.{Holds, IsReady};
+ghost use Rattle.request_json.specs.Replies.{reply_text};
+ghost use Rattle.request_json.specs.Requests.{request_of};
+ghost use Rattle.serve_replies.specs.Refusals.{line_refusal};
+ghost use Rattle.serve_answers.specs.Readings.{Readings};
+ghost use Rattle.serve_answers.specs.Lines.{line_turn, request_turn};
+ghost use Rattle.serve_session.specs.Followed.{missing_of, Fills, Follows, IsHalted};
+
+use crate::edits::edit_request;
+use crate::questions::{report_line, state_line, why_line};
+use crate::tickets::{ask_line, cancel_line, redo_line, step_line, undo_line};
+use crate::told::{cost_line, listing_line, program_line, run_line};
+use crate::written::line_of;
+use base_values::Memory;
+use daig_session::Session;
+use domain_laws::{Domain, Steps};
+use request_json::{ReadError, Reply, Request, read_request};
+use serve_replies::line_refusal;
+use std::alloc::Global;
+use std::sync::ledger::Ledger;
+
+/// The answer to a request.
+fn request_line<D: Domain, L: Ledger>(
+    alloc: Global,
+    session: &mut Session<D>,
+    request: Request,
+    steps: &mut Steps<L>,
+) -> Result<Vec<u8>, Memory>
+    requires ready { IsReady (D.operations session.old.engine.domain) session.old.engine.store session.old.book }
+    requires room { session.old.book.tickets.next < 2 ^ 63 }
+    ensures ready { IsReady (D.operations session.new.engine.domain) session.new.engine.store session.new.book }
+    ensures domain { session.new.engine.domain ≡ session.old.engine.domain }
+    ensures rises { session.new.book.tickets.next ≤ session.old.book.tickets.next + 1 }
+    ensures turn { (readings : Readings) (m : Machine) → Holds (D.operations session.old.engine.domain) session.old.engine.store session.old.book m →
+        IfOk result (λ v. Follows (request_turn readings (D.operations session.old.engine.domain) request m) (Holds (D.operations session.new.engine.domain) session.new.engine.store session.new.book) v.items) }
+    ensures between { (readings : Readings) (m : Machine) → Fills (Ok request) → Holds (D.operations session.old.engine.domain) session.old.engine.store session.old.book m →
+        IfErr result (λ _. IsHalted (missing_of (D.operations session.old.engine.domain) (Ok request) m) (request_turn readings (D.operations session.old.engine.domain) request m) m (Holds (D.operations session.new.engine.domain) session.new.engine.store session.new.book)) }
+    ensures unchanged { (m : Machine) → Holds (D.operations session.old.engine.domain) session.old.engine.store session.old.book m → (Fills (Ok request) → ⊥) →
+        IfErr result (λ _. Holds (D.operations session.new.engine.domain) session.new.engine.store session.new.book m) }
+{
+    match request {
+        Request::State(query) => state_line(alloc, session, &query, steps),
+        Request::Report => report_line(alloc, session, steps),
+        Request::Cost => cost_line(alloc, session),
+        Request::Program => program_line(alloc, session),
+        Request::Listing => listing_line(alloc, session),
+        Request::Run { inputs, fuel, at } => {
+            run_line(alloc, session, inputs.as_slice(), fuel, at.as_ref())
+        }
+        Request::Why(query) => why_line(alloc, session, &query, steps),
+        Request::Undo => undo_line(alloc, session),
+        Request::Redo => redo_line(alloc, session),
+        Request::Ask(query) => ask_line(alloc, session, query),
+        Request::Step { ticket, n } => step_line(alloc, session, ticket, n, steps),
+        Request::Cancel { ticket } => cancel_line(alloc, session, ticket),
+        edit => edit_request(alloc, session, edit),
+    }
+}
+
+/// The line that tells why a line is no request. For want of memory there is none.
+fn unread_line(alloc: Global, error: ReadError) -> Result<Vec<u8>, Memory>
+    ensures line { IfOk result (λ v. v.items ≡ reply_text (Reply.Refused (line_refusal error))) }
+    ensures no_memory { IfOk result (λ _. error ≡ ReadError.Memory → ⊥) }
+{
+    let reply = line_refusal(error)?;
+    line_of(alloc, reply)
+}
+
+/// The answer to a line: what the machine that the session stands for replies, and the session then stands for the machine
+/// after it. The number of the next ticket rises by one at most.
+///
+/// # Errors
+///
+/// [`Memory`] alone. A line that asks no question, for no list of statements, for no report and for no step then leaves the
+/// session as it was. After one that does, either some of what was missing is kept, the first of it, and nothing else is
+/// changed; or the session stands for the machine after the line, and the reply alone is not written.
+pub fn answer_line<D: Domain, L: Ledger>(
+    alloc: Global,
+    session: &mut Session<D>,
+    line: &[u8],
+    steps: &mut Steps<L>,
+) -> Result<Vec<u8>, Memory>
+    requires ready { IsReady (D.operations session.old.engine.domain) session.old.engine.store session.old.book }
+    requires room { session.old.book.tickets.next < 2 ^ 63 }
+    ensures ready { IsReady (D.operations session.new.engine.domain) session.new.engine.store session.new.book }
+    ensures domain { session.new.engine.domain ≡ session.old.engine.domain }
+    ensures rises { session.new.book.tickets.next ≤ session.old.book.tickets.next + 1 }
+    ensures turn { (readings : Readings) (m : Machine) → Holds (D.operations session.old.engine.domain) session.old.engine.store session.old.book m →
+        IfOk result (λ v. Follows (line_turn readings (D.operations session.old.engine.domain) line.now m) (Holds (D.operations session.new.engine.domain) session.new.engine.store session.new.book) v.items) }
+    ensures between { (readings : Readings) (m : Machine) → Fills (request_of line.now) → Holds (D.operations session.old.engine.domain) session.old.engine.store session.old.book m →
+        IfErr result (λ _. IsHalted (missing_of (D.operations session.old.engine.domain) (request_of line.now) m) (line_turn readings (D.operations session.old.engine.domain) line.now m) m (Holds (D.operations session.new.engine.domain) session.new.engine.store session.new.book)) }
+    ensures unchanged { (m : Machine) → Holds (D.operations session.old.engine.domain) session.old.engine.store session.old.book m → (Fills (request_of line.now) → ⊥) →
+        IfErr result (λ _. Holds (D.operations session.new.engine.domain) session.new.engine.store session.new.book m) }
+{
+    match read_request(alloc, line) {
+        Ok(request) => request_line(alloc, session, request, steps),
+        Err(error) => unread_line(alloc, error),
+    }
+}

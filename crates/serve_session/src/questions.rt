@@ -1,0 +1,121 @@
+//! Questions, and steps of tickets.
+ghost use Rattle.std.specs.Prelude.{◌≡◌, ◌+◌, ◌≤◌, IfOk, IfErr, Some};
+ghost use Rattle.batch_meaning.specs.Answers.{Answer};
+ghost use Rattle.daig_query.specs.Answered.{Says};
+ghost use Rattle.daig_machine.specs.Machine.{Machine};
+ghost use Rattle.daig_machine.specs.Turns.{missing_at, missing_for_report};
+ghost use Rattle.daig_session.specs.Holds.{Holds, IsReady};
+ghost use Rattle.request_json.specs.Replies.{reply_text};
+ghost use Rattle.serve_replies.specs.States.{answer_reply, layout_at};
+ghost use Rattle.imp_check.specs.Slots.{routines_of};
+ghost use Rattle.serve_answers.specs.Turns.{report_turn, state_turn, why_turn};
+ghost use Rattle.serve_session.specs.Followed.{query_refusal, Follows, IsHalted};
+
+use crate::written::{line_of, refused_if};
+use base_values::Memory;
+use daig_graph::Value;
+use daig_session::{QueryError, Session};
+use domain_laws::{Domain, Steps};
+use imp_syntax::Location;
+use request_json::{Query, Refusal, Reply};
+use serve_replies::{numbers_of, over_reply, state_reply};
+use std::alloc::Global;
+use std::sync::ledger::Ledger;
+
+/// The reply for what is known at a location.
+pub(crate) fn value_line<D: Domain>(
+    alloc: Global,
+    session: &Session<D>,
+    at: &Location,
+    value: &Value<D::State>,
+) -> Result<Vec<u8>, Memory>
+    ensures line { (m : Machine) (a : Answer D.State) → Holds (D.operations session.now.engine.domain) session.now.engine.store session.now.book m → Says a (Some value.now) →
+        IfOk result (λ v. v.items ≡ reply_text (answer_reply (D.operations session.now.engine.domain) (layout_at (routines_of m.program) at.now) a)) }
+{
+    let reply = match value {
+        Value::State(state) => state_reply(
+            alloc,
+            session.domain(),
+            &session.program().view(),
+            at,
+            state,
+        )?,
+        Value::Over { head, chain } => over_reply(alloc, *head, chain.chain())?,
+    };
+    line_of(alloc, reply)
+}
+
+/// Why a question has no answer; nothing for want of memory.
+fn query_refusal(error: QueryError) -> Option<Refusal>
+    ensures is { result ≡ query_refusal error }
+{
+    match error {
+        QueryError::Refused(why) => Some(Refusal::Query(why)),
+        QueryError::Memory => None,
+    }
+}
+
+/// The state at a location under a call string.
+pub(crate) fn state_line<D: Domain, L: Ledger>(
+    alloc: Global,
+    session: &mut Session<D>,
+    query: &Query,
+    steps: &mut Steps<L>,
+) -> Result<Vec<u8>, Memory>
+    requires ready { IsReady (D.operations session.old.engine.domain) session.old.engine.store session.old.book }
+    ensures ready { IsReady (D.operations session.new.engine.domain) session.new.engine.store session.new.book }
+    ensures domain { session.new.engine.domain ≡ session.old.engine.domain }
+    ensures rises { session.new.book.tickets.next ≤ session.old.book.tickets.next + 1 }
+    ensures turn { (m : Machine) → Holds (D.operations session.old.engine.domain) session.old.engine.store session.old.book m →
+        IfOk result (λ v. Follows (state_turn (D.operations session.old.engine.domain) query.now m) (Holds (D.operations session.new.engine.domain) session.new.engine.store session.new.book) v.items) }
+    ensures between { (m : Machine) → Holds (D.operations session.old.engine.domain) session.old.engine.store session.old.book m →
+        IfErr result (λ _. IsHalted (missing_at (D.operations session.old.engine.domain) query.now.at query.now.string m) (state_turn (D.operations session.old.engine.domain) query.now m) m (Holds (D.operations session.new.engine.domain) session.new.engine.store session.new.book)) }
+{
+    let string = numbers_of(alloc, &query.string)?;
+    match session.query(alloc, &query.at, string.as_slice(), steps) {
+        Ok(value) => value_line(alloc, session, &query.at, &value),
+        Err(error) => refused_if(alloc, query_refusal(error)),
+    }
+}
+
+/// The statements that the answer at a location under a call string depends on.
+pub(crate) fn why_line<D: Domain, L: Ledger>(
+    alloc: Global,
+    session: &mut Session<D>,
+    query: &Query,
+    steps: &mut Steps<L>,
+) -> Result<Vec<u8>, Memory>
+    requires ready { IsReady (D.operations session.old.engine.domain) session.old.engine.store session.old.book }
+    ensures ready { IsReady (D.operations session.new.engine.domain) session.new.engine.store session.new.book }
+    ensures domain { session.new.engine.domain ≡ session.old.engine.domain }
+    ensures rises { session.new.book.tickets.next ≤ session.old.book.tickets.next + 1 }
+    ensures turn { (m : Machine) → Holds (D.operations session.old.engine.domain) session.old.engine.store session.old.book m →
+        IfOk result (λ v. Follows (why_turn (D.operations session.old.engine.domain) query.now m) (Holds (D.operations session.new.engine.domain) session.new.engine.store session.new.book) v.items) }
+    ensures between { (m : Machine) → Holds (D.operations session.old.engine.domain) session.old.engine.store session.old.book m →
+        IfErr result (λ _. IsHalted (missing_at (D.operations session.old.engine.domain) query.now.at query.now.string m) (why_turn (D.operations session.old.engine.domain) query.now m) m (Holds (D.operations session.new.engine.domain) session.new.engine.store session.new.book)) }
+{
+    let string = numbers_of(alloc, &query.string)?;
+    match session.why(alloc, &query.at, string.as_slice(), steps) {
+        Ok(stmts) => line_of(alloc, Reply::Why(stmts)),
+        Err(error) => refused_if(alloc, query_refusal(error)),
+    }
+}
+
+/// The findings of all checks.
+pub(crate) fn report_line<D: Domain, L: Ledger>(
+    alloc: Global,
+    session: &mut Session<D>,
+    steps: &mut Steps<L>,
+) -> Result<Vec<u8>, Memory>
+    requires ready { IsReady (D.operations session.old.engine.domain) session.old.engine.store session.old.book }
+    ensures ready { IsReady (D.operations session.new.engine.domain) session.new.engine.store session.new.book }
+    ensures domain { session.new.engine.domain ≡ session.old.engine.domain }
+    ensures rises { session.new.book.tickets.next ≤ session.old.book.tickets.next + 1 }
+    ensures turn { (m : Machine) → Holds (D.operations session.old.engine.domain) session.old.engine.store session.old.book m →
+        IfOk result (λ v. Follows (report_turn (D.operations session.old.engine.domain) m) (Holds (D.operations session.new.engine.domain) session.new.engine.store session.new.book) v.items) }
+    ensures between { (m : Machine) → Holds (D.operations session.old.engine.domain) session.old.engine.store session.old.book m →
+        IfErr result (λ _. IsHalted (missing_for_report (D.operations session.old.engine.domain) m) (report_turn (D.operations session.old.engine.domain) m) m (Holds (D.operations session.new.engine.domain) session.new.engine.store session.new.book)) }
+{
+    let findings = session.report(alloc, steps)?;
+    line_of(alloc, Reply::Report(findings))
+}

@@ -1,0 +1,192 @@
+//! Tickets, and going back and forth. Each reply is made before the session is changed.
+ghost use Rattle.std.specs.Prelude.{◌≡◌, ◌+◌, ◌<◌, ◌≤◌, ◌^◌, IfOk, IfErr};
+ghost use Rattle.daig_machine.specs.Machine.{Machine, ticket_of};
+ghost use Rattle.daig_session.specs.Holds.{Holds, IsReady};
+ghost use Rattle.serve_answers.specs.Turns.{ask_turn, cancel_turn, redo_turn, step_turn, undo_turn};
+ghost use Rattle.serve_session.specs.Followed.{ask_refusal, missing_for_ticket, move_refusal, step_refusal, Follows, IsHalted, TellsTurn};
+
+use crate::questions::value_line;
+use crate::written::{line_of, refused, refused_if};
+use base_values::Memory;
+use daig_session::{AskError, Session, StepError, StepResult, UndoError};
+use domain_laws::{Domain, Steps};
+use imp_syntax::Location;
+use request_json::{Query, Refusal, Reply};
+use serve_replies::numbers_of;
+use std::alloc::Global;
+use std::sync::ledger::Ledger;
+
+/// Why a ticket is not opened; nothing for want of memory.
+fn ask_refusal(error: AskError) -> Option<Refusal>
+    ensures is { result ≡ ask_refusal error }
+{
+    match error {
+        AskError::Refused(why) => Some(Refusal::Query(why)),
+        AskError::Full => Some(Refusal::ManyTickets),
+        AskError::Memory => None,
+    }
+}
+
+/// Why a ticket is not stepped; nothing for want of memory.
+fn step_refusal(error: StepError) -> Option<Refusal>
+    ensures is { result ≡ step_refusal error }
+{
+    match error {
+        StepError::NoTicket => Some(Refusal::NoTicket),
+        StepError::Gone => Some(Refusal::Gone),
+        StepError::Memory => None,
+    }
+}
+
+/// Why the program stays: this, where there is none to go to; nothing for want of memory.
+fn move_refusal(error: UndoError, otherwise: Refusal) -> Option<Refusal>
+    ensures is { result ≡ move_refusal error otherwise }
+{
+    match error {
+        UndoError::Nothing => Some(otherwise),
+        UndoError::Memory => None,
+    }
+}
+
+/// A ticket for the state at a location.
+pub(crate) fn ask_line<D: Domain>(
+    alloc: Global,
+    session: &mut Session<D>,
+    query: Query,
+) -> Result<Vec<u8>, Memory>
+    requires ready { IsReady (D.operations session.old.engine.domain) session.old.engine.store session.old.book }
+    requires room { session.old.book.tickets.next < 2 ^ 63 }
+    ensures ready { IsReady (D.operations session.new.engine.domain) session.new.engine.store session.new.book }
+    ensures domain { session.new.engine.domain ≡ session.old.engine.domain }
+    ensures rises { session.new.book.tickets.next ≤ session.old.book.tickets.next + 1 }
+    ensures turn { (m : Machine) → Holds (D.operations session.old.engine.domain) session.old.engine.store session.old.book m →
+        IfOk result (λ v. Follows (ask_turn (D.operations session.old.engine.domain) query m) (Holds (D.operations session.new.engine.domain) session.new.engine.store session.new.book) v.items) }
+    ensures unchanged { (m : Machine) → Holds (D.operations session.old.engine.domain) session.old.engine.store session.old.book m →
+        IfErr result (λ _. Holds (D.operations session.new.engine.domain) session.new.engine.store session.new.book m) }
+{
+    let line = line_of(alloc, Reply::Ticket(session.next_ticket()))?;
+    let Query { at, string } = query;
+    let string = numbers_of(alloc, &string)?;
+    match session.ask(alloc, at, string) {
+        Ok(_) => Ok(line),
+        Err(error) => refused_if(alloc, ask_refusal(error)),
+    }
+}
+
+/// A copy of a location.
+fn copied(at: &Location) -> Result<Location, Memory>
+    ensures same { IfOk result (λ copy. copy ≡ at.now) }
+{
+    match at {
+        Location::Before(n) => Ok(Location::Before(*n)),
+        Location::After(n) => Ok(Location::After(*n)),
+        Location::Head(n) => Ok(Location::Head(*n)),
+        Location::End(name) => Ok(Location::End(name.clone()?)),
+    }
+}
+
+/// The line of a step: how many cells it filled, or the answer, told by the variables at a location.
+fn turn_line<D: Domain>(
+    alloc: Global,
+    session: &Session<D>,
+    at: &Location,
+    turn: StepResult<D::State>,
+) -> Result<Vec<u8>, Memory>
+    ensures tells { TellsTurn result (λ v. v.items) (D.operations session.now.engine.domain) (Holds (D.operations session.now.engine.domain) session.now.engine.store session.now.book) at.now turn }
+{
+    match turn {
+        StepResult::Pending(filled) => line_of(alloc, Reply::Pending(filled as u64)),
+        StepResult::Done(value) => value_line(alloc, session, at, &value),
+    }
+}
+
+/// A step of a ticket. Where it ends the ticket, the answer is told by the variables at the ticket's location.
+pub(crate) fn step_line<D: Domain, L: Ledger>(
+    alloc: Global,
+    session: &mut Session<D>,
+    ticket: u64,
+    n: u32,
+    steps: &mut Steps<L>,
+) -> Result<Vec<u8>, Memory>
+    requires ready { IsReady (D.operations session.old.engine.domain) session.old.engine.store session.old.book }
+    ensures ready { IsReady (D.operations session.new.engine.domain) session.new.engine.store session.new.book }
+    ensures domain { session.new.engine.domain ≡ session.old.engine.domain }
+    ensures rises { session.new.book.tickets.next ≤ session.old.book.tickets.next + 1 }
+    ensures turn { (m : Machine) → Holds (D.operations session.old.engine.domain) session.old.engine.store session.old.book m →
+        IfOk result (λ v. Follows (step_turn (D.operations session.old.engine.domain) ticket n m) (Holds (D.operations session.new.engine.domain) session.new.engine.store session.new.book) v.items) }
+    ensures between { (m : Machine) → Holds (D.operations session.old.engine.domain) session.old.engine.store session.old.book m →
+        IfErr result (λ _. IsHalted (missing_for_ticket (D.operations session.old.engine.domain) (ticket_of ticket m.tickets) m) (step_turn (D.operations session.old.engine.domain) ticket n m) m (Holds (D.operations session.new.engine.domain) session.new.engine.store session.new.book)) }
+{
+    let Some(at) = session.ticket_at(ticket) else {
+        return refused(alloc, Refusal::NoTicket);
+    };
+    let at = copied(at)?;
+    match session.step(alloc, ticket, n, steps) {
+        Ok(turn) => turn_line(alloc, session, &at, turn),
+        Err(error) => refused_if(alloc, step_refusal(error)),
+    }
+}
+
+/// A ticket is given up.
+pub(crate) fn cancel_line<D: Domain>(
+    alloc: Global,
+    session: &mut Session<D>,
+    ticket: u64,
+) -> Result<Vec<u8>, Memory>
+    requires ready { IsReady (D.operations session.old.engine.domain) session.old.engine.store session.old.book }
+    ensures ready { IsReady (D.operations session.new.engine.domain) session.new.engine.store session.new.book }
+    ensures domain { session.new.engine.domain ≡ session.old.engine.domain }
+    ensures rises { session.new.book.tickets.next ≤ session.old.book.tickets.next + 1 }
+    ensures turn { (m : Machine) → Holds (D.operations session.old.engine.domain) session.old.engine.store session.old.book m →
+        IfOk result (λ v. Follows (cancel_turn ticket m) (Holds (D.operations session.new.engine.domain) session.new.engine.store session.new.book) v.items) }
+    ensures unchanged { (m : Machine) → Holds (D.operations session.old.engine.domain) session.old.engine.store session.old.book m →
+        IfErr result (λ _. Holds (D.operations session.new.engine.domain) session.new.engine.store session.new.book m) }
+{
+    let line = line_of(alloc, Reply::Cancelled(ticket))?;
+    match session.cancel(ticket) {
+        Ok(()) => Ok(line),
+        Err(_) => refused(alloc, Refusal::NoTicket),
+    }
+}
+
+/// The program before the last edit.
+pub(crate) fn undo_line<D: Domain>(
+    alloc: Global,
+    session: &mut Session<D>,
+) -> Result<Vec<u8>, Memory>
+    requires ready { IsReady (D.operations session.old.engine.domain) session.old.engine.store session.old.book }
+    ensures ready { IsReady (D.operations session.new.engine.domain) session.new.engine.store session.new.book }
+    ensures domain { session.new.engine.domain ≡ session.old.engine.domain }
+    ensures rises { session.new.book.tickets.next ≤ session.old.book.tickets.next + 1 }
+    ensures turn { (m : Machine) → Holds (D.operations session.old.engine.domain) session.old.engine.store session.old.book m →
+        IfOk result (λ v. Follows (undo_turn (D.operations session.old.engine.domain) m) (Holds (D.operations session.new.engine.domain) session.new.engine.store session.new.book) v.items) }
+    ensures unchanged { (m : Machine) → Holds (D.operations session.old.engine.domain) session.old.engine.store session.old.book m →
+        IfErr result (λ _. Holds (D.operations session.new.engine.domain) session.new.engine.store session.new.book m) }
+{
+    let line = line_of(alloc, Reply::Next(session.next()))?;
+    match session.undo(alloc) {
+        Ok(_) => Ok(line),
+        Err(error) => refused_if(alloc, move_refusal(error, Refusal::NothingToUndo)),
+    }
+}
+
+/// The program before the last undo.
+pub(crate) fn redo_line<D: Domain>(
+    alloc: Global,
+    session: &mut Session<D>,
+) -> Result<Vec<u8>, Memory>
+    requires ready { IsReady (D.operations session.old.engine.domain) session.old.engine.store session.old.book }
+    ensures ready { IsReady (D.operations session.new.engine.domain) session.new.engine.store session.new.book }
+    ensures domain { session.new.engine.domain ≡ session.old.engine.domain }
+    ensures rises { session.new.book.tickets.next ≤ session.old.book.tickets.next + 1 }
+    ensures turn { (m : Machine) → Holds (D.operations session.old.engine.domain) session.old.engine.store session.old.book m →
+        IfOk result (λ v. Follows (redo_turn (D.operations session.old.engine.domain) m) (Holds (D.operations session.new.engine.domain) session.new.engine.store session.new.book) v.items) }
+    ensures unchanged { (m : Machine) → Holds (D.operations session.old.engine.domain) session.old.engine.store session.old.book m →
+        IfErr result (λ _. Holds (D.operations session.new.engine.domain) session.new.engine.store session.new.book m) }
+{
+    let line = line_of(alloc, Reply::Next(session.next()))?;
+    match session.redo(alloc) {
+        Ok(_) => Ok(line),
+        Err(error) => refused_if(alloc, move_refusal(error, Refusal::NothingToRedo)),
+    }
+}

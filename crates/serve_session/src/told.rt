@@ -1,0 +1,71 @@
+//! What is told of a session: its cost, its program, runs.
+ghost use Rattle.std.specs.Prelude.{◌≡◌, IfOk};
+ghost use Rattle.std.specs.Option.{option_copied};
+ghost use Rattle.daig_machine.specs.Machine.{Machine};
+ghost use Rattle.daig_session.specs.Holds.{Holds, IsReady};
+ghost use Rattle.request_json.specs.Replies.{reply_text};
+ghost use Rattle.serve_answers.specs.Turns.{cost_turn, listing_turn, program_turn, run_turn};
+
+use crate::written::line_of;
+use base_values::Memory;
+use daig_session::Session;
+use domain_laws::Domain;
+use imp_syntax::Location;
+use request_json::Reply;
+use serve_replies::{asked_run, listing, program_reply};
+use std::alloc::Global;
+
+/// How many cells the last question filled, and how many are kept.
+pub(crate) fn cost_line<D: Domain>(alloc: Global, session: &Session<D>) -> Result<Vec<u8>, Memory>
+    requires ready { IsReady (D.operations session.now.engine.domain) session.now.engine.store session.now.book }
+    ensures line { (m : Machine) → Holds (D.operations session.now.engine.domain) session.now.engine.store session.now.book m →
+        IfOk result (λ v. v.items ≡ reply_text (cost_turn m).reply) }
+{
+    let cost = session.cost();
+    let kept = session.kept_count() as u64;
+    line_of(alloc, Reply::Cost { cost, kept })
+}
+
+/// The next statement number, and the program's text.
+pub(crate) fn program_line<D: Domain>(
+    alloc: Global,
+    session: &Session<D>,
+) -> Result<Vec<u8>, Memory>
+    ensures line { (m : Machine) → Holds (D.operations session.now.engine.domain) session.now.engine.store session.now.book m →
+        IfOk result (λ v. v.items ≡ reply_text (program_turn m).reply) }
+{
+    let program = session.program().tree(alloc)?;
+    let reply = program_reply(alloc, session.next(), &program)?;
+    line_of(alloc, reply)
+}
+
+/// The program's text with the numbers of its statements.
+pub(crate) fn listing_line<D: Domain>(
+    alloc: Global,
+    session: &Session<D>,
+) -> Result<Vec<u8>, Memory>
+    ensures line { (m : Machine) → Holds (D.operations session.now.engine.domain) session.now.engine.store session.now.book m →
+        IfOk result (λ v. v.items ≡ reply_text (listing_turn m).reply) }
+{
+    let program = session.program().tree(alloc)?;
+    let text = listing(alloc, &program)?;
+    line_of(alloc, Reply::Listing(text))
+}
+
+/// A run of the program.
+pub(crate) fn run_line<D: Domain>(
+    alloc: Global,
+    session: &Session<D>,
+    inputs: &[i64],
+    fuel: u32,
+    at: Option<&Location>,
+) -> Result<Vec<u8>, Memory>
+    ensures line { (m : Machine) → Holds (D.operations session.now.engine.domain) session.now.engine.store session.now.book m →
+        IfOk result (λ v. v.items ≡ reply_text (run_turn inputs.now fuel (option_copied at.entry) m).reply) }
+{
+    let table = session.program();
+    table.procs();
+    let routines = table.routines(alloc)?;
+    let reply = asked_run(alloc, &table.view(), routines.as_slice(), inputs, fuel, at)?;
+    line_of(alloc, reply)
+}

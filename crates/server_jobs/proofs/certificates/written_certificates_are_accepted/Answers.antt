@@ -1,8 +1,0 @@
-use Rattle.server_jobs.proofs.KeptLemmas.{accepted_by, written_accepted}
-use Rattle.server_jobs.proofs.certificates.written_certificates_are_accepted.Goals as goal
-
-pub returns : goal.returns
-returns c = record {
-  accepted = written_accepted c.checked_programs_have_lines.ensures.lines
-      (accepted_by c.interval_certificates_are_accepted.ensures.accepted c.segment_certificates_are_accepted.ensures.accepted);
-}

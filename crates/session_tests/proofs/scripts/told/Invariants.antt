@@ -1,5 +1,0 @@
-use Rattle.session_tests.proofs.scripts.told.Given as goal
-
--- nothing is counted
-abbrev pub ghosts-counted : goal.ghosts-counted
-ghosts-counted g a = record { name = a.blank.name; parts = a.blank.parts }

@@ -1,0 +1,56 @@
+//! Programs from texts.
+ghost use Rattle.std.specs.Prelude.{◌≡◌, ℕ, ◌<◌, ◌≤◌, ◌^◌, length, IfOk};
+ghost use Rattle.std.specs.List.{All};
+ghost use Rattle.imp_syntax.specs.Plain.{program_numbers};
+ghost use Rattle.imp_check.specs.Programs.{AreNumbered};
+
+use imp_check::is_numbered;
+use imp_parse::parse_program;
+use imp_syntax::Program;
+use imp_table::{Table, check_table};
+use std::alloc::Global;
+use std::test::Fail;
+
+/// The bytes of a text that is not long.
+pub(crate) fn bytes_of(text: &str) -> Result<&[u8], Fail>
+    ensures short { IfOk result (λ bytes. length bytes.now < 2 ^ 31) }
+{
+    let bytes = text.as_bytes();
+    if bytes.len() < 1000000 {
+        Ok(bytes)
+    } else {
+        Err("a long text".into())
+    }
+}
+
+/// The program of a text.
+fn read(alloc: Global, text: &str) -> Result<Program, Fail>
+    ensures numbered { IfOk result (λ program. AreNumbered program) }
+{
+    let program = parse_program(alloc, bytes_of(text)?)?;
+    if is_numbered(alloc, &program)? {
+        Ok(program)
+    } else {
+        Err("numbers that are not the parser's".into())
+    }
+}
+
+/// The table of a text that has no fault.
+pub(crate) fn table_of(alloc: Global, text: &str) -> Result<Table, Fail> {
+    let program = read(alloc, text)?;
+    Ok(check_table(alloc, &program)?)
+}
+
+/// The number behind those of the statements.
+pub(crate) fn next_of(table: &Table) -> Result<u32, Fail>
+    ensures positive { IfOk result (λ n. 0 < n) }
+    ensures low { IfOk result (λ n. n ≤ 1000001) }
+    ensures below { IfOk result (λ n. All (λ (m : ℕ). m < n) (program_numbers table.now.program)) }
+{
+    let room = table.room();
+    if 0 < room && room <= 1000000 {
+        Ok(room as u32)
+    } else {
+        Err("another next number".into())
+    }
+}
