@@ -65,14 +65,17 @@ class Estimate:
 
     def __init__(self, crates, jobs):
         self.lines = {it: lines_of(it) for it in crates}
+        self.below = {it: kit.crates_of(it)[:-1] for it in crates}
         self.jobs, self.done, self.begun = jobs, set(), {}
         self.measured_lines, self.measured_seconds = 0, 0.0
 
     def see(self, working):
-        """Notes when the crates in work began."""
+        """Notes when the crates in work began. All below them are proved: the kit tells late what it kept."""
         now = time.monotonic()
         for name in working:
             self.begun.setdefault(name, now)
+            for done in self.below.get(name, ()):
+                self.finish(done)
 
     def finish(self, name):
         if name in self.lines and name not in self.done:
