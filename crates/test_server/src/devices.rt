@@ -3,17 +3,17 @@ use crate::table::{Devices, SURE, ran, served};
 use std::alloc::Global;
 use std::test::Fail;
 
-const SERVE: &str = "daig serve --widening plain f";
+pub(crate) const SERVE: &str = "daig serve --widening plain f";
 
 /// Counts to ten.
-const SOURCE: &[u8] =
+pub(crate) const SOURCE: &[u8] =
     b"proc main() { var i: int; var n: int; n = 10; i = 0; while (i < n) { i = i + 1; } }";
 
 /// A state, an edit, what it leaves, the edit taken back, and the state again.
-const LINES: &[u8] =
+pub(crate) const LINES: &[u8] =
     b"{\"at\":\"after 3\",\"do\":\"state\"}\n{\"do\":\"replace\",\"id\":1,\"text\":\"n = 20;\"}\n{\"do\":\"cost\"}\n{\"do\":\"undo\"}\n{\"at\":\"after 3\",\"do\":\"state\"}\n";
 
-const REPLIES: &[u8] =
+pub(crate) const REPLIES: &[u8] =
     b"{\"state\":\"i=[10,max] n=[10,10]\"}\n{\"next\":6}\n{\"cost\":11,\"kept\":1}\n{\"next\":6}\n{\"state\":\"i=[10,max] n=[10,10]\"}\n";
 
 /// How many bytes a device moves a call.

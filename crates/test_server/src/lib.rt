@@ -3,6 +3,8 @@
 #![tactic(auto)]
 
 #[cfg(test)]
+mod conversation;
+#[cfg(test)]
 mod devices;
 #[cfg(test)]
 mod generated;

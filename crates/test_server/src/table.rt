@@ -49,7 +49,11 @@ fn named(alloc: Global, source: &[u8]) -> Result<Vec<NamedFile>, Fail> {
 }
 
 /// A folder with the one file `f`.
-fn folder(alloc: Global, source: &[u8], devices: &Devices<'_>) -> Result<MemFiles, Fail> {
+pub(crate) fn folder(
+    alloc: Global,
+    source: &[u8],
+    devices: &Devices<'_>,
+) -> Result<MemFiles, Fail> {
     let loads = failing(alloc, devices.failing_loads)?;
     Ok(MemFiles::new(named(alloc, source)?, loads))
 }
@@ -88,7 +92,7 @@ fn counted<F: Files, I: Source, O: Sink, L: Ledger>(
 }
 
 /// The status of a run.
-fn status<F: Files, I: Source, O: Sink>(
+pub(crate) fn status<F: Files, I: Source, O: Sink>(
     alloc: Global,
     words: &[String],
     files: &mut F,
