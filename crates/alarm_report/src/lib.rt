@@ -1,6 +1,6 @@
 //! What is found of the check of a statement.
 //!
-//! [`report`] gives the finding of one statement from what is known in front of it: dead where no chain
+//! [`report`] gives the finding of one statement from what is known before it: dead where no chain
 //! comes to its procedure, may where a loop used up its budget on the way, else what the domain says of
 //! the state. It takes one check of the domain.
 #![tactic(auto)]
@@ -16,7 +16,7 @@ use imp_slots::SlotStmt;
 use imp_syntax::StmtId;
 use std::alloc::Global;
 
-/// What is known in front of a statement, under all chains to its procedure.
+/// What is known before a statement, under all chains to its procedure.
 pub enum Found<'a, S> {
     /// No chain comes to its procedure.
     Absent,
@@ -52,8 +52,8 @@ fn verdict_for<D: Domain>(
     }
 }
 
-/// The finding of a statement that has a check, from its number and what is known in front of it.
-/// Its only error is want of memory.
+/// The finding of a statement that has a check, from its number and what is known before it.
+/// Its only error is out of memory.
 pub fn report<D: Domain>(
     alloc: Global,
     dom: &D,

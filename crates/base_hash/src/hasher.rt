@@ -32,7 +32,7 @@ fn folded(number: u64) -> u64
     (product & 0xFFFF_FFFF_FFFF_FFFF) as u64 ^ (product >> 64) as u64
 }
 
-/// The state behind a number.
+/// The state after a number.
 #[inline(always)]
 fn mixed(state: u64, number: u64) -> u64
     ensures is { result ≡ hashing.mixed state number }
@@ -40,7 +40,7 @@ fn mixed(state: u64, number: u64) -> u64
     folded(state ^ number)
 }
 
-/// The state behind some bytes, each as a number.
+/// The state after some bytes, each as a number.
 fn mixed_bytes(state: u64, bytes: &[u8]) -> u64
     ensures is { result ≡ hashing.mixed_bytes state bytes.now }
 {

@@ -76,7 +76,7 @@ get_pushed [] y (suc i) x e = absurd cc
 get_pushed (z ∷ xs) y zero x e = inl e
 get_pushed (z ∷ xs) y (suc i) x e = elim (get_pushed xs y i x e) [ inl p ↦ inl p | inr q ↦ inr (ap suc q.0, q.1) ]
 
--- an item in front of a place is an item, and those in front of it are in front of the place
+-- an item before a place is an item, and those before it are before the place
 pub get_take : {A : Type 0} (xs : List A) (k q : ℕ) (x : A) → slice_get (take k xs) q ≡ Some x → slice_get xs q ≡ Some x
 get_take xs zero q x e = absurd cc
 get_take [] (suc k) q x e = absurd cc

@@ -39,7 +39,7 @@ impl<T> Items<T> {
         }
     }
 
-    /// The empty list, with room for so many items. It fails for want of memory alone.
+    /// The empty list, with room for so many items. It fails only when memory runs out.
     pub fn with_capacity(alloc: Global, capacity: usize) -> Result<Items<T>, Memory>
         ensures empty { IfOk result (λ items. items ≡ []) }
     {
@@ -98,7 +98,7 @@ impl<T> Items<T> {
 }
 
 impl<T: Drop> Items<T> {
-    /// Adds an item at the end. For want of memory the item is dropped, and the list stays.
+    /// Adds an item at the end. When memory runs out the item is dropped, and the list stays.
     pub fn push(&mut self, item: T) -> Result<(), Memory>
         ensures added { OnOk result (self.new ≡ self.old ++ item ∷ []) }
         ensures unchanged { OnErr result (self.new ≡ self.old) }

@@ -35,7 +35,7 @@ impl Text {
         }
     }
 
-    /// The empty text, with room for so many bytes. It fails for want of memory alone.
+    /// The empty text, with room for so many bytes. It fails only when memory runs out.
     pub fn with_capacity(alloc: Global, capacity: usize) -> Result<Text, Memory>
         ensures empty { IfOk result (λ text. text ≡ []) }
     {
@@ -43,7 +43,7 @@ impl Text {
         Ok(Text { bytes })
     }
 
-    /// The text of these bytes. It fails for want of memory alone.
+    /// The text of these bytes. It fails only when memory runs out.
     pub fn from_slice(alloc: Global, bytes: &[u8]) -> Result<Text, Memory>
         ensures same { IfOk result (λ text. text ≡ bytes.now) }
     {
@@ -72,7 +72,7 @@ impl Text {
         self.bytes.is_empty()
     }
 
-    /// Adds a byte at the end. For want of memory the text stays.
+    /// Adds a byte at the end. When memory runs out the text stays.
     pub fn push(&mut self, byte: u8) -> Result<(), Memory>
         ensures added { OnOk result (self.new ≡ self.old ++ byte ∷ []) }
         ensures unchanged { OnErr result (self.new ≡ self.old) }
@@ -81,7 +81,7 @@ impl Text {
         Ok(())
     }
 
-    /// Adds bytes at the end. For want of memory the text stays.
+    /// Adds bytes at the end. When memory runs out the text stays.
     pub fn append(&mut self, bytes: &[u8]) -> Result<(), Memory>
         ensures added { OnOk result (self.new ≡ self.old ++ bytes.now) }
         ensures unchanged { OnErr result (self.new ≡ self.old) }

@@ -37,7 +37,7 @@ module _ {S : Type 0} (dom : Operations S) (engine : LoopOptions) (covers : S â†
   abbrev Roomy : List Routine â†’ Type 0
   Roomy = EachRoomy dom engine covers laws wait most ending
 
-  -- Procedures and the value in front of the last one's body: it fits a frame of the last, and is known.
+  -- Procedures and the value before the last one's body: it fits a frame of the last, and is known.
   record Entry (list : List Routine) (v : Value S) : Type 0 where
     below : List Layout
     back : FitBack list

@@ -71,7 +71,7 @@ module _ {S : Type 0} (dom : Operations S) (engine : LoopOptions) (thresholds : 
   over_batch (Call m i q r) n y = over_batch r n y
   over_batch (Break m r) n y = over_batch r n y
 
-  -- a statement, and what comes behind it
+  -- a statement, and what comes after it
   batch_before : (s : SlotNode) (r : Code) (a : Value S) → B (before_code s r) a ≡ with_leaving (B (before_code s Stop) a).leaving (B r (B (before_code s Stop) a).value)
   batch_before (node.Simple n e) r a = refl
   batch_before (node.If n g t e) r a =
@@ -95,7 +95,7 @@ module _ {S : Type 0} (dom : Operations S) (engine : LoopOptions) (thresholds : 
   block_step ss i s now next before behind h e k =
       step_on s (code_of (drop (i + 1) ss)) now next before behind k ∙ ap (λ xs. with_leaving (states before) (B (code_of xs) (plain.State now))) (sym (drop_item ss i s h e))
 
-  -- a block of which one more statement is behind
+  -- a block of which one more statement is after
   pub block_on : (ss : List SlotNode) (i : ℕ) (s : SlotNode) (now next : S) (before middle behind : List S) (all : Passed S) → with_leaving (states middle) (B (code_of (drop i ss)) (plain.State now)) ≡ with_leaving (states before) all → i < length ss → s ≡ get_or ss i s → Ends middle behind (B (before_code s Stop) (plain.State now)) (State next) → with_leaving (states behind) (B (code_of (drop (i + 1) ss)) (plain.State next)) ≡ with_leaving (states before) all
   block_on ss i s now next before middle behind all told h e k = block_step ss i s now next middle behind h e k ∙ told
 

@@ -1,4 +1,4 @@
--- Statements that have a check, and what is known in front of them, one at a time.
+-- Statements that have a check, and what is known before them, one at a time.
 use Rattle.std.proofs.Common.{ℕ, ◌≡◌, ◌+◌, ◌<◌, ◌≤◌, true, false, List, [], ◌∷◌, ◌++◌, length, map, drop, get_or, Option, Some, None, refl, sym, ap, ◌∙◌, append_assoc}
 use Rattle.std.proofs.lemmas.List.{map-append, drop_all, append-nil}
 use Rattle.imp_slots.specs.Plain.{Guard, Effect, Code, Stop}

@@ -1,4 +1,4 @@
--- What is known in front of the statements of a procedure that have a check.
+-- What is known before the statements of a procedure that have a check.
 use Rattle.std.proofs.Common.{ℕ, zero, suc, ◌≡◌, ◌+◌, ◌<◌, ◌≤◌, true, false, List, [], ◌∷◌, ◌++◌, length, drop, map, reverse, get_or, slice_get, option_map, Option, Some, None, Result, Ok, Err, IfOk, refl, sym, ap, subst, ◌∙◌, arith, append_assoc, add-one}
 use Rattle.std.specs.Prelude.{Contains}
 use Rattle.std.proofs.lemmas.List.{map-append, reverse-reverse, drop_all}
@@ -51,7 +51,7 @@ module _ {S : Type 0} (dom : Operations S) (plan : Plan) where
     abbrev F : Code → Value S → List (Value S)
     F = befores dom plan place z
 
-    -- a statement of a block, and the value in front of it
+    -- a statement of a block, and the value before it
     record Stands (c : Code) (v : Value S) (k : ℕ × Effect) (b : Value S) : Type 0 where
       spot : Spot S
       stands : Member (k.0, spot) (places dom plan place z c v)
@@ -113,7 +113,7 @@ module _ {S : Type 0} (dom : Operations S) (plan : Plan) where
     all_stand (Call n i q r) v = more r (Call n i q r) (returned n i q v) v (checked_in r) (F r (returned n i q v)) (λ x. there) (all_stand r (returned n i q v))
     all_stand (Break n r) v = more r (Break n r) (lift (dom.post DoBreak) v) v (checked_in r) (F r (lift (dom.post DoBreak) v)) (λ x. there) (all_stand r (lift (dom.post DoBreak) v))
 
-  -- what stands in front of a statement is the value at its location
+  -- what stands before a statement is the value at its location
   pub fronts : (place : ℕ) (z : List ℕ) (r : Routine) (v : Value S) → IsChecked plan.program → slice_get plan.program place ≡ Some r → entry dom plan.engine (reverse plan.program) z ≡ Some (earlier plan.program (suc place), v) → All2 (λ (c : ℕ × Effect) b. Some b ≡ value_at dom plan.engine plan.program (Before c.0) z) (claims (checked_in r.code)) (befores dom plan place z r.code v)
   fronts place z r v checked g e =
       let once = subst Distinct (sym (numbers_of_places dom plan place z r.code v)) (once_in plan.program place r checked.numbers_once g) in
@@ -275,7 +275,7 @@ module _ {S : Type 0} (dom : Operations S) (plan : Plan) where
       ∙ procedure_findings dom plan place r.0 checked law r.1 vs (subst (λ c. AreTotals dom plan (chains plan.program place) (claims (checked_in c)) vs) here t)
       ∙ sym (ap (λ c. map (finding dom plan.engine plan.program) (checked_in c)) here)
 
-  -- the findings of one more procedure come in front
+  -- the findings of one more procedure come before
   pub report_next : (k : ℕ) (parts parts' : List (List Finding)) (part : List Finding) → k < length plan.program → part ≡ map (finding dom plan.engine plan.program) (checked_in (body_at plan.program k)) → parts' ≡ parts ++ part ∷ [] → in_one (reverse parts) ≡ map (finding dom plan.engine plan.program) (checked_statements (drop (suc k) plan.program)) → in_one (reverse parts') ≡ map (finding dom plan.engine plan.program) (checked_statements (drop k plan.program))
   report_next k parts parts' part h e a g =
       let r = there_at plan.program k h in

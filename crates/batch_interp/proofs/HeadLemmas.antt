@@ -172,7 +172,7 @@ module _ {S : Type 0} (dom : Operations S) (plan : Plan) where
       let zs = chains plan.program place in
       g ∙ ap (told_under dom plan.engine plan.program (loops (body_at plan.program place))) (take_all i zs (omega (arith, h, all2_length (IsEnteredBy dom plan place) zs es a)))
 
-  -- the loops of one more procedure come in front
+  -- the loops of one more procedure come before
   pub all_loops_next : (k : ℕ) (parts parts' : List (List (LoopsUnder S))) (part : List (LoopsUnder S)) → k < length plan.program → map under_told part ≡ told_under dom plan.engine plan.program (loops (body_at plan.program k)) (chains plan.program k) → parts' ≡ parts ++ part ∷ [] → map under_told (in_one (reverse parts)) ≡ all_loops_told dom plan.engine plan.program (suc k) (drop (suc k) plan.program) → map under_told (in_one (reverse parts')) ≡ all_loops_told dom plan.engine plan.program k (drop k plan.program)
   all_loops_next k parts parts' part h e a g =
       let r = there_at plan.program k h in

@@ -21,7 +21,7 @@ all2_map P f [] (c ∷ cs) h = absurd h
 all2_map P f (x ∷ xs) [] h = absurd h
 all2_map P f (x ∷ xs) (c ∷ cs) h = (h.0, all2_map P f xs cs h.1)
 
--- the pair at a place, and those behind it
+-- the pair at a place, and those after it
 pub record At {A B : Type 0} (P : A → B → Type 0) (xs : List A) (i : ℕ) (b : B) : Type 0 where
   pub item : A
   pub rest : drop i xs ≡ item ∷ drop (i + 1) xs

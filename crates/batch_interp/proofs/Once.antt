@@ -8,7 +8,7 @@ use Rattle.base_values.proofs.Members.{Member}
 use Rattle.imp_chains.proofs.Found.{called_earlier}
 use Rattle.base_values.proofs.Lists.{none_past}
 
--- each procedure fits those in front of it
+-- each procedure fits those before it
 pub fit_at : (before rs : List Routine) (k : ℕ) (r : Routine) → FitInTurn before rs → slice_get rs k ≡ Some r → FitsCode (before ++ take k rs) r.layout r.code
 fit_at before [] k r f e = absurd cc
 fit_at before (x ∷ rs) zero r f e =
@@ -19,7 +19,7 @@ fit_at before (x ∷ rs) (suc k) r f e = subst (λ bs. FitsCode bs r.layout r.co
 nothing_in : {A : Type 0} (x : A) (xs : List A) → xs ≡ [] → Member x xs → ⊥
 nothing_in x xs e m = elim (subst (Member x) e m) [ ]
 
--- a procedure that is called stands in front of its caller
+-- a procedure that is called stands before its caller
 pub called_before : (program : List Routine) (k p : ℕ) (r : Routine) (n : ℕ) → IsChecked program → slice_get program k ≡ Some r → Member n (calls_to p r.code) → (c : Routine) × (slice_get (take k program) p ≡ Some c)
 called_before program k p r n checked e m = go (slice_get (take k program) p) refl
   where

@@ -52,7 +52,7 @@ from_nowhere (b ∷ ps) q e =
     (λ k. let no : Some b ≡ None = sym (get_turned b ps) ∙ sym (ap (slice_get (reverse (b ∷ ps))) k) ∙ e in absurd cc)
     (λ k. from_nowhere ps q (sym (get_behind b ps q k) ∙ e))
 
--- the procedures in front of a place, from the q-th down
+-- the procedures before a place, from the q-th down
 pub from_earlier : (program : List Routine) (place q : ℕ) (r : Routine) → slice_get (take place program) q ≡ Some r → from (earlier program place) q ≡ r ∷ earlier program q
 from_earlier program place q r e =
     let back : reverse (reverse (take place program)) ≡ take place program = reverse-reverse (take place program) in
@@ -75,7 +75,7 @@ module _ {S : Type 0} (dom : Operations S) (engine : LoopOptions) where
       (λ k. procedure_from ps z q a)
 
 module _ {S : Type 0} (dom : Operations S) (plan : Plan) where
-  -- a call of a procedure in front of the caller gives what is behind its body
+  -- a call of a procedure before the caller gives what is after its body
   pub call_there : (place : ℕ) (z : List ℕ) (n q : ℕ) (r : Routine) (a : Value S) → slice_get (take place plan.program) q ≡ Some r → calls_in dom plan place z n q a ≡ (passed dom plan q (n ∷ z) r.code a).value
   unfolding value_of
   call_there place z n q r a e =

@@ -53,7 +53,7 @@ module _ {S : Type 0} (dom : Operations S) (plan : Plan) (place : ℕ) (z : List
   numbers_of_places (Call n k q r) v = ap (λ ns. n ∷ ns) (numbers_of_places r (lift2 (dom.leave k.returning) v (calls_in dom plan place z n q (lift (dom.enter k.entering) v))))
   numbers_of_places (Break n r) v = ap (λ ns. n ∷ ns) (numbers_of_places r (lift (dom.post DoBreak) v))
 
-  -- a statement, those inside it, those behind it
+  -- a statement, those inside it, those after it
   places_before : (s : SlotNode) (r : Code) (v : Value S) → P (before_code s r) v ≡ (number_of s, spot_at dom plan place z s v) ∷ (inner_of dom plan place z s v ++ P r (passed dom plan place z (before_code s Stop) v).value)
   places_before (node.Simple n a) r v = refl
   places_before (node.If n c t e) r v =
@@ -85,7 +85,7 @@ module _ {S : Type 0} (dom : Operations S) (plan : Plan) (place : ℕ) (z : List
   pub seek_inner : (n : ℕ) (ss : List SlotNode) (i : ℕ) (s : SlotNode) (v : Value S) → i < length ss → s ≡ get_or ss i s → n ≢ number_of s → holds_inside n s ≡ true → find n (places dom plan place z (code_of (drop i ss)) v) ≡ find n (inner_of dom plan place z s v)
   seek_inner n ss i s v h e k m = not_here n ss i s v h e k ∙ first_part n (inner_of dom plan place z s v) (P (code_of (drop (i + 1) ss)) (passed dom plan place z (before_code s Stop) v).value) (inner_numbers n s v ∙ m)
 
-  -- behind the statement here
+  -- after the statement here
   pub seek_behind : (n : ℕ) (ss : List SlotNode) (i : ℕ) (s : SlotNode) (v w : Value S) → i < length ss → s ≡ get_or ss i s → n ≢ number_of s → holds_inside n s ≡ false → w ≡ (passed dom plan place z (before_code s Stop) v).value → find n (places dom plan place z (code_of (drop (i + 1) ss)) w) ≡ find n (places dom plan place z (code_of (drop i ss)) v)
   seek_behind n ss i s v w h e k m b =
       ap (λ x. find n (P (code_of (drop (i + 1) ss)) x)) b

@@ -30,7 +30,7 @@ rest_popped (Some x) xs ys h = ap behind_first (reversed xs ys x h)
 pub one_moved : {A : Type 0} (all all' left left' : List A) (next : A) → left ≡ left' ++ next ∷ [] → all' ≡ all ++ next ∷ [] → all' ++ reverse left' ≡ all ++ reverse left
 one_moved all all' left left' next l a = ap (λ xs. xs ++ reverse left') a ∙ append_assoc all (next ∷ []) (reverse left') ∙ ap (λ xs. all ++ xs) (sym (reversed left left' next l))
 
--- one more list is put behind
+-- one more list is put after
 pub one_put : {A : Type 0} (all all' : List A) (left left' : List (List A)) (part : List A) → left ≡ left' ++ part ∷ [] → all' ≡ all ++ part → all' ++ in_one (reverse left') ≡ all ++ in_one (reverse left)
 one_put all all' left left' part l a = ap (λ xs. xs ++ in_one (reverse left')) a ∙ append_assoc all part (in_one (reverse left')) ∙ ap (λ xs. all ++ in_one xs) (sym (reversed left left' part l))
 

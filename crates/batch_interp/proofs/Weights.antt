@@ -9,7 +9,7 @@ weight rs zero = 0
 weight [] (suc k) = 0
 weight (r ∷ rs) (suc k) = code_size r.code + 1 + weight rs k
 
--- a procedure in front of a place weighs less than all in front of the place, with those in front of it
+-- a procedure before a place weighs less than all before the place, with those before it
 pub weight_falls : (rs : List Routine) (k q : ℕ) (r : Routine) → slice_get (take k rs) q ≡ Some r → weight rs q + code_size r.code + 1 ≤ weight rs k
 weight_falls rs zero q r e = absurd cc
 weight_falls [] (suc k) q r e = absurd cc

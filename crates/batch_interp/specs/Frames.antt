@@ -12,7 +12,7 @@ pub record Plan : Type 0 where
   pub program : List Routine
   pub engine : LoopOptions
 
--- the procedures in front of a place, the last one first
+-- the procedures before a place, the last one first
 abbrev pub earlier : List Routine → (place : ℕ) → List Routine
 earlier program place = reverse (take place program)
 

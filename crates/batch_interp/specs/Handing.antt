@@ -21,7 +21,7 @@ abbrev pub in_one : {A : Type 0} → List (List A) → List A
 in_one [] = []
 in_one (xs ∷ more) = xs ++ in_one more
 
--- where a procedure is entered, and the value in front of its body
+-- where a procedure is entered, and the value before its body
 abbrev pub told_of : {S : Type 0} → Entered S → CallFrame × Value S
 told_of e = (e.frame, value_of e.before)
 
@@ -88,6 +88,6 @@ module _ {S : Type 0} (dom : Operations S) (plan : Plan) where
   abbrev pub AreHandedBy : (place : ℕ) → List (Handed S) → Type 0
   AreHandedBy place hs = (p : ℕ) → AreEntered p (extended (chains plan.program place) (calls_to p (body_at plan.program place))) (handed_to p hs)
 
-  -- To each procedure in front of the k-th this is handed down by the k-th and the later ones.
+  -- To each procedure before the k-th this is handed down by the k-th and the later ones.
   abbrev pub AreHanded : (k : ℕ) → List (Handed S) → Type 0
   AreHanded k hs = (p : ℕ) → p < k → AreEntered p (coming plan.program k p) (handed_to p hs)

@@ -41,7 +41,7 @@ all_loops_told dom engine program k [] = []
 all_loops_told dom engine program k (r ∷ rs) = told_under dom engine program (loops r.code) (chains program k) ++ all_loops_told dom engine program (suc k) rs
 
 module _ {S : Type 0} (dom : Operations S) (plan : Plan) (place : ℕ) (z : List ℕ) where
-  -- at the head of a loop, from the value in front of it
+  -- at the head of a loop, from the value before it
   abbrev pub value_at_head : ℕ → Guard → Code → Value S → Value S
   value_at_head n g b v = (head_of dom plan.engine (thresholds_at plan place) z n g (passed dom plan place z b) v).value
 

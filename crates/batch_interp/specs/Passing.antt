@@ -14,7 +14,7 @@ use Rattle.batch_interp.specs.declared.blocks.Fixed.TheVariants as fixed
 abbrev pub states : {S : Type 0} → List S → List (Value S)
 states ss = map plain.State ss
 
--- A block ends in this answer, and the states that leave it come behind those that left before.
+-- A block ends in this answer, and the states that leave it come after those that left before.
 abbrev pub Ends : {S : Type 0} → (before after : List S) → Passed S → Answer S → Type 0
 Ends before after p (State t) = meaning.with_leaving (states before) p ≡ record { value = plain.State t; leaving = states after }
 Ends before after p (Over n chain) = p.value ≡ plain.Over n (reverse chain)

@@ -1,4 +1,4 @@
--- What is known in front of the statements that have a check.
+-- What is known before the statements that have a check.
 use Rattle.std.specs.Prelude.{ℕ, List, [], ◌∷◌, ◌++◌, map, Option, Some, None, true, false}
 use Rattle.imp_slots.specs.Plain.{Effect, Code, Stop, Simple, If, While, Call, Break}
 use Rattle.imp_slots.specs.ActionViews.{effect_of}
@@ -24,7 +24,7 @@ before_one None v = []
 before_one (Some c) v = v ∷ []
 
 module _ {S : Type 0} (dom : Operations S) (plan : Plan) (place : ℕ) (z : List ℕ) where
-  -- the values in front of the statements of a block that have a check, in the order of the text
+  -- the values before the statements of a block that have a check, in the order of the text
   abbrev pub befores : Code → Value S → List (Value S)
   befores Stop v = []
   befores (Simple n e r) v = before_one (check_of e) v ++ befores r (passed dom plan place z (Simple n e Stop) v).value

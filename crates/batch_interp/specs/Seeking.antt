@@ -42,7 +42,7 @@ module _ {S : Type 0} (dom : Operations S) (plan : Plan) (place : ℕ) (z : List
   head_at (Call n i q) v = None
   head_at (Break n) v = None
 
-  -- what is known at a statement, from the value in front of it
+  -- what is known at a statement, from the value before it
   abbrev pub spot_at : SlotNode → Value S → Spot S
   spot_at s v = spot v (head_at s v) (passed dom plan place z (before_code s Stop) v).value (call_at s)
 

@@ -1,4 +1,4 @@
--- The verdicts on the statements of a procedure, from what is known in front of each under all chains.
+-- The verdicts on the statements of a procedure, from what is known before each under all chains.
 use Rattle.std.specs.Prelude.{◌≡◌, ℕ, List, [], ◌∷◌, Option, Some, None}
 use Rattle.imp_syntax.specs.declared.edit.Location.TheVariants.{Before}
 use Rattle.imp_slots.specs.Plain.{Effect}
@@ -18,7 +18,7 @@ use Rattle.batch_meaning.specs.Report.{verdict_on}
 use Rattle.batch_interp.specs.Frames.{Plan}
 use Rattle.batch_interp.specs.Summing.{sum_with}
 
--- the first of these, if there is one, and those behind it
+-- the first of these, if there is one, and those after it
 abbrev pub first_of : {A : Type 0} → List A → Option A
 first_of [] = None
 first_of (x ∷ xs) = Some x
@@ -42,7 +42,7 @@ abbrev pub EachWith : {A B : Type 0} → (A → Option B → Type 0) → List A 
 EachWith P [] bs = Unit {0}
 EachWith P (a ∷ cs) bs = P a (first_of bs) × EachWith P cs (behind_first bs)
 
--- The totals of these statements under these chains are what the chains give in front of them.
+-- The totals of these statements under these chains are what the chains give before them.
 abbrev pub AreTotals : {S : Type 0} → Operations S → Plan → List (List ℕ) → List (ℕ × Effect) → List (Value S) → Type 0
 AreTotals dom plan zs cs vs = EachWith (λ (c : ℕ × Effect) v. sum_of dom plan.engine (all_values dom plan.engine (value_at dom plan.engine plan.program (Before c.0)) zs) ≡ answer_of_sum v) cs vs
 

@@ -8,7 +8,7 @@ use Rattle.batch_interp.specs.Answered.{value_of}
 use Rattle.batch_interp.specs.Frames.{earlier}
 use Rattle.batch_interp.specs.declared.walks.Entered.{Entered}
 
--- the procedures down from the one that is entered, and the value in front of its body
+-- the procedures down from the one that is entered, and the value before its body
 abbrev pub entered_of : {S : Type 0} → List Routine → Entered S → List Routine × Value S
 entered_of program e = (earlier program (suc e.frame.place), value_of e.before)
 
@@ -22,6 +22,6 @@ abbrev pub IsEntered : {S : Type 0} → List Routine → (z : List ℕ) → Opti
 IsEntered program z None x = IsGone x
 IsEntered program z (Some e) x = (x ≡ Some (entered_of program e)) × (e.frame.place < length program) × (e.frame.sites ≡ z)
 
--- the procedure of a call in the procedure at a place, from the value in front of the call
+-- the procedure of a call in the procedure at a place, from the value before the call
 abbrev pub called_from : {S : Type 0} → Operations S → List Routine → (place : ℕ) → Value S → Option (Invoke × ℕ) → Option (List Routine × Value S)
 called_from dom program place v call = if_some call (λ k. Some (from (earlier program place) k.1, lift (dom.enter k.0.entering) v))

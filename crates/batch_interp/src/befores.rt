@@ -1,4 +1,4 @@
-//! What is known in front of each statement that has a check.
+//! What is known before each statement that has a check.
 ghost use Rattle.std.specs.Prelude.{◌≡◌, ◌++◌, map, OnOk};
 ghost use Rattle.imp_slots.specs.Plain.{Stop};
 ghost use Rattle.imp_slots.specs.ActionViews.{effect_of};
@@ -75,7 +75,7 @@ fn add_claims_in(node: &SlotNode, found: &mut Items<Claim>) -> Result<(), Memory
     }
 }
 
-/// Adds what is known in front of each statement of a block that has a check, and the procedures that
+/// Adds what is known before each statement of a block that has a check, and the procedures that
 /// its calls enter.
 #[cycle(befores)]
 #[tactic(auto, using(imp_slots::specs::BlockFalls::node_falls))]
@@ -98,7 +98,7 @@ pub(crate) fn add_befores<D: Domain, L: Ledger>(
     Ok(())
 }
 
-/// Adds what is known in front of a statement, if it has a check, or of those inside it that have one,
+/// Adds what is known before a statement, if it has a check, or of those inside it that have one,
 /// and the procedures that calls there enter.
 #[cycle(befores)]
 fn add_in_front<D: Domain, L: Ledger>(
@@ -143,7 +143,7 @@ fn add_in_front<D: Domain, L: Ledger>(
     }
 }
 
-/// Adds what is known in front of each statement inside a loop that has a check, and the procedures that
+/// Adds what is known before each statement inside a loop that has a check, and the procedures that
 /// calls there enter.
 #[cycle(befores)]
 fn add_inside<D: Domain, L: Ledger>(
@@ -164,7 +164,7 @@ fn add_inside<D: Domain, L: Ledger>(
     add_befores(interpreter, body, inside, found, calls, steps)
 }
 
-/// Adds what is known in front of a simple statement, if it has a check.
+/// Adds what is known before a simple statement, if it has a check.
 #[tactic(auto, using(crate::proofs::Claimed::one_before, crate::proofs::Claimed::no_before, crate::proofs::Claimed::values_one))]
 fn add_one<D: Domain>(
     alloc: Global,

@@ -1,4 +1,4 @@
-//! Blocks: the state behind each from the state in front of it, by recursion on the syntax.
+//! Blocks: the state after each from the state before it, by recursion on the syntax.
 ghost use Rattle.std.specs.Prelude.{◌≡◌, ◌++◌, ◌∷◌, [], IfOk, OnOk, true, false};
 ghost use Rattle.imp_slots.specs.Plain.{Does, DoBreak, Stop, If, While, Call};
 ghost use Rattle.imp_slots.specs.ActionViews.{effect_of};
@@ -27,7 +27,7 @@ pub(crate) enum Fixed<S> {
     Over { head: StmtId, chain: Chain },
 }
 
-/// Behind a simple statement. It fails for want of memory alone.
+/// After a simple statement. It fails only when memory runs out.
 pub fn behind_action<D: Domain, L: Ledger>(
     alloc: Global,
     dom: &D,
@@ -41,7 +41,7 @@ pub fn behind_action<D: Domain, L: Ledger>(
     dom.post(alloc, &stmt, state, steps)
 }
 
-/// Behind a break, in front of which the state leaves. It fails for want of memory alone.
+/// After a break, before which the state leaves. It fails only when memory runs out.
 pub fn behind_break<D: Domain, L: Ledger>(
     alloc: Global,
     dom: &D,
@@ -56,7 +56,7 @@ pub fn behind_break<D: Domain, L: Ledger>(
     dom.post(alloc, &SlotStmt::Break, state, steps)
 }
 
-/// The next iterate of a loop behind the k-th: joined below the delay, else widened.
+/// The next iterate of a loop after the k-th: joined below the delay, else widened.
 fn next_iterate<D: Domain, L: Ledger>(
     interpreter: &Interpreter<D>,
     k: u32,
@@ -79,7 +79,7 @@ fn next_iterate<D: Domain, L: Ledger>(
     }
 }
 
-/// The state joined with others, from left to right. It fails for want of memory alone.
+/// The state joined with others, from left to right. It fails only when memory runs out.
 pub fn joined_states<D: Domain, L: Ledger>(
     alloc: Global,
     dom: &D,
@@ -96,7 +96,7 @@ pub fn joined_states<D: Domain, L: Ledger>(
     Ok(all)
 }
 
-/// A block: the state behind it, or the first loop that used up its budget. The states in front of
+/// A block: the state after it, or the first loop that used up its budget. The states before
 /// breaks that leave the loop around it are added to `leaving`.
 #[cycle(blocks)]
 #[tactic(auto, using(imp_slots::specs::BlockFalls::node_falls))]
@@ -151,7 +151,7 @@ pub(crate) fn node_answer<D: Domain, L: Ledger>(
     }
 }
 
-/// A block under a condition, from the state in front of the condition.
+/// A block under a condition, from the state before the condition.
 #[cycle(blocks)]
 fn block_under<D: Domain, L: Ledger>(
     interpreter: &Interpreter<D>,
@@ -228,7 +228,7 @@ fn while_answer<D: Domain, L: Ledger>(
     }
 }
 
-/// The iterates of a loop, from the state in front of it until one is the one before it.
+/// The iterates of a loop, from the state before it until one is the one before it.
 #[cycle(blocks)]
 pub(crate) fn loop_head<D: Domain, L: Ledger>(
     interpreter: &Interpreter<D>,
@@ -284,7 +284,7 @@ fn call_answer<D: Domain, L: Ledger>(
     }
 }
 
-/// The body of a procedure that is called, from the state in front of it.
+/// The body of a procedure that is called, from the state before it.
 #[cycle(blocks)]
 #[tactic(auto, using(crate::proofs::Weights::weight_falls))]
 fn callee_answer<D: Domain, L: Ledger>(

@@ -14,7 +14,7 @@ use std::sync::ledger::Ledger;
 /// What one call statement hands down.
 #[derive(Drop)]
 pub(crate) struct Handed<S> {
-    /// How many procedures stand in front of the one that is called.
+    /// How many procedures stand before the one that is called.
     pub(crate) place: usize,
     /// That procedure, entered under the chains to the statement so far, in their order.
     pub(crate) entered: Items<Entered<S>>,
@@ -40,7 +40,7 @@ fn begun<S: Drop>(alloc: Global, so_far: Option<Handed<S>>, place: usize) -> Han
     }
 }
 
-/// What a call statement hands down under one more chain, behind what it did so far.
+/// What a call statement hands down under one more chain, after what it did so far.
 fn handed_on<S: Drop>(
     alloc: Global,
     so_far: Option<Handed<S>>,
@@ -53,7 +53,7 @@ fn handed_on<S: Drop>(
     Ok(Handed { place, entered })
 }
 
-/// Adds what one more call statement hands down under one more chain, behind what the last one so far did,
+/// Adds what one more call statement hands down under one more chain, after what the last one so far did,
 /// which goes, where there is one.
 #[tactic(auto, using(crate::proofs::Turned::first_popped, crate::proofs::Turned::rest_popped))]
 fn add_handed<S: Drop>(

@@ -12,7 +12,7 @@ pub enum QueryError {
     /// The program has no such location, or no such chain.
     #[error("the query is refused")]
     Refused(QueryRefusal),
-    /// Want of memory.
+    /// Out of memory.
     #[error("out of memory")]
     Memory,
 }

@@ -1,4 +1,4 @@
-//! Findings from what is known in front of statements.
+//! Findings from what is known before statements.
 ghost use Rattle.std.specs.Prelude.{◌≡◌, ◌++◌, map, Some, option_map, OnOk, IfOk};
 ghost use Rattle.std.specs.Option.{option_copied};
 ghost use Rattle.batch_meaning.specs.Batch.{LoopOptions};
@@ -37,7 +37,7 @@ fn found_of<S>(known: Option<&Answer<S>>) -> Found<'_, S>
     }
 }
 
-/// What is found of a statement, from what is known in front of it.
+/// What is found of a statement, from what is known before it.
 fn finding<D: Domain>(
     alloc: Global,
     dom: &D,
@@ -51,7 +51,7 @@ fn finding<D: Domain>(
     report(alloc, dom, id, &stmt, found_of(known))
 }
 
-/// Adds what is found of each statement, from what is known in front of it, if something is.
+/// Adds what is found of each statement, from what is known before it, if something is.
 fn add_findings<D: Domain>(
     alloc: Global,
     dom: &D,
@@ -67,7 +67,7 @@ fn add_findings<D: Domain>(
     Ok(())
 }
 
-/// What is found of the statements of a block that have a check, from what is known in front of each, if
+/// What is found of the statements of a block that have a check, from what is known before each, if
 /// something is.
 pub(crate) fn findings_of<D: Domain>(
     alloc: Global,

@@ -40,7 +40,7 @@ impl<'a> Model for Plan<'a> {
 /// The procedure of a block, and the call statements from main to it, the last one first.
 #[derive(Debug, Drop)]
 pub struct CallFrame {
-    /// How many procedures stand in front of it.
+    /// How many procedures stand before it.
     pub place: usize,
     /// The call statements.
     pub sites: Items<StmtId>,
@@ -111,7 +111,7 @@ impl<'a> Plan<'a> {
 }
 
 impl<'a> Plan<'a> {
-    /// The procedure at a place, where it stands in front of the one at `place`.
+    /// The procedure at a place, where it stands before the one at `place`.
     pub(crate) fn callee(&self, place: usize, callee: usize) -> Option<&Routine>
         ensures is { option_copied result ≡ slice_get (take place self.now.program) callee }
     {
@@ -134,7 +134,7 @@ impl CallFrame {
         }
     }
 
-    /// The frame of a procedure that this one calls. It fails for want of memory alone.
+    /// The frame of a procedure that this one calls. It fails only when memory runs out.
     pub fn callee(&self, alloc: Global, site: u32, place: usize) -> Result<CallFrame, Memory>
         ensures is { IfOk result (λ f. f ≡ record { place = place; sites = site ∷ self.now.sites }) }
     {
@@ -146,7 +146,7 @@ impl CallFrame {
         Ok(CallFrame { place, sites })
     }
 
-    /// The calls from main, outermost first. It fails for want of memory alone.
+    /// The calls from main, outermost first. It fails only when memory runs out.
     pub fn chain(&self, alloc: Global) -> Result<Chain, Memory>
         ensures is { IfOk result (λ chain. reverse chain ≡ self.now.sites) }
     {

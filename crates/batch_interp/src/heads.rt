@@ -186,7 +186,7 @@ fn loops_under<D: Domain, L: Ledger>(
     })
 }
 
-/// The loops of the procedure at a place, and what is handed down to those in front of it.
+/// The loops of the procedure at a place, and what is handed down to those before it.
 fn loops_at<D: Domain, L: Ledger>(
     alloc: Global,
     dom: &D,
@@ -220,7 +220,7 @@ fn loops_at<D: Domain, L: Ledger>(
 /// The states have the frames of all calls.
 ///
 /// The procedures are walked from main down, each once under each chain to it, from what the calls in
-/// the later ones hand down. Its only error is want of memory.
+/// the later ones hand down. Its only error is out of memory.
 pub fn loop_heads<D: Domain, L: Ledger>(
     alloc: Global,
     dom: &D,

@@ -7,13 +7,13 @@
 //! under all chains, with all frames. A [`CallFrame`] and the steps of simple statements, of breaks and of joins serve
 //! whatever else goes through blocks as batch interpretation does.
 //!
-//! An answer follows each selected chain from `main`: the statements in front of a call are
+//! An answer follows each selected chain from `main`: the statements before a call are
 //! interpreted, the callee is entered, and so on to the statement that is asked for. Nothing is kept
 //! from one call to the next.
 //!
 //! Reports and heads come from one walk over the calls. The procedures are taken from main down, and each
 //! body is walked once under each chain to it, in the order of the chains. A walk hands down what is known
-//! in front of the bodies that its calls enter; that is held until their procedures have been walked, so at
+//! before the bodies that its calls enter; that is held until their procedures have been walked, so at
 //! most one state for each chain of the program is held at a time. On the way through a body the procedures
 //! that it calls are interpreted too: a body is interpreted once for each procedure on its chain, which has
 //! at most eight calls.

@@ -30,7 +30,7 @@ struct Walked<S> {
     calls: Items<Handed<S>>,
 }
 
-/// The findings of the procedure at a place, and what is handed down to those in front of it.
+/// The findings of the procedure at a place, and what is handed down to those before it.
 fn findings_at<D: Domain, L: Ledger>(
     alloc: Global,
     dom: &D,
@@ -56,13 +56,13 @@ fn findings_at<D: Domain, L: Ledger>(
 
 /// The findings of a program, one for each statement that has a check, in the order of the text: dead
 /// where no chain comes to its procedure, may where a loop takes more rounds than the setting has on the way,
-/// else what the domain says of the state in front of it.
+/// else what the domain says of the state before it.
 ///
 /// Where a finding is safe, no run under any inputs fails the check; where it is dead, no run comes to
 /// the statement.
 ///
 /// The procedures are walked from main down, each once under each chain to it, from what the calls in
-/// the later ones hand down. Its only error is want of memory.
+/// the later ones hand down. Its only error is out of memory.
 pub fn batch_report<D: Domain, L: Ledger>(
     alloc: Global,
     dom: &D,

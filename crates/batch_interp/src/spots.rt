@@ -1,4 +1,4 @@
-//! Statements by their numbers, with what is known in front of them.
+//! Statements by their numbers, with what is known before them.
 ghost use Rattle.std.specs.Prelude.{◌≡◌, IfOk, true, false, option_map};
 ghost use Rattle.imp_slots.specs.Plain.{Stop, While};
 ghost use Rattle.imp_slots.specs.BlockViews.{before_code};
@@ -20,7 +20,7 @@ use imp_syntax::{Chain, StmtId};
 use std::alloc::Global;
 use std::sync::ledger::Ledger;
 
-/// A statement, and what is known in front of it.
+/// A statement, and what is known before it.
 #[derive(Drop)]
 pub(crate) struct Seen<'a, S> {
     pub(crate) node: &'a SlotNode,
@@ -75,7 +75,7 @@ pub(crate) fn assumed<D: Domain, L: Ledger>(
     }
 }
 
-/// Behind a block.
+/// After a block.
 pub(crate) fn behind_block<D: Domain, L: Ledger>(
     interpreter: &Interpreter<D>,
     block: &SlotBlock,
@@ -93,7 +93,7 @@ pub(crate) fn behind_block<D: Domain, L: Ledger>(
     }
 }
 
-/// Behind a statement.
+/// After a statement.
 pub(crate) fn behind_node<D: Domain, L: Ledger>(
     interpreter: &Interpreter<D>,
     node: &SlotNode,
@@ -111,7 +111,7 @@ pub(crate) fn behind_node<D: Domain, L: Ledger>(
     }
 }
 
-/// The head of a loop, from the state in front of it.
+/// The head of a loop, from the state before it.
 fn head_of_state<D: Domain, L: Ledger>(
     interpreter: &Interpreter<D>,
     n: u32,
@@ -177,7 +177,7 @@ fn holds_inside(node: &SlotNode, number: u32) -> bool
 }
 
 /// The first statement of this number in a block, also inside its statements. Of the statements
-/// around it only what stands in front of it is interpreted.
+/// around it only what stands before it is interpreted.
 #[cycle(seeking)]
 #[tactic(auto, using(imp_slots::specs::BlockFalls::node_falls))]
 pub(crate) fn seek<'a, D: Domain, L: Ledger>(

@@ -1,4 +1,4 @@
-//! What is known in front of each statement of a procedure that has a check, under all its chains.
+//! What is known before each statement of a procedure that has a check, under all its chains.
 ghost use Rattle.std.specs.Prelude.{◌≡◌, ◌<◌, ◌++◌, ◌∷◌, [], length, map, reverse, IfOk, OnOk};
 ghost use Rattle.imp_slots.specs.Fits.{IsChecked};
 ghost use Rattle.imp_chains.specs.Chains.{chains};
@@ -24,7 +24,7 @@ use imp_slots::SlotBlock;
 use std::alloc::Global;
 use std::sync::ledger::Ledger;
 
-/// What is known in front of each statement of a procedure that has a check, under all its chains, and
+/// What is known before each statement of a procedure that has a check, under all its chains, and
 /// what calls hand down.
 #[derive(Drop)]
 pub(crate) struct Summed<S> {
@@ -32,7 +32,7 @@ pub(crate) struct Summed<S> {
     pub(crate) calls: Items<Handed<S>>,
 }
 
-/// What is known in front of each statement with a check of a procedure that is entered. The procedures
+/// What is known before each statement with a check of a procedure that is entered. The procedures
 /// that its calls enter are added.
 fn befores_of<D: Domain, L: Ledger>(
     alloc: Global,
@@ -96,7 +96,7 @@ fn all_added<D: Domain, L: Ledger>(
     Ok(all)
 }
 
-/// What is known in front of each statement of the procedure at a place that has a check, and what its calls
+/// What is known before each statement of the procedure at a place that has a check, and what its calls
 /// hand down, from the procedure entered under all chains to it. Nothing is known where there is no chain.
 pub(crate) fn totals<D: Domain, L: Ledger>(
     alloc: Global,

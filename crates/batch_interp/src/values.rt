@@ -17,7 +17,7 @@ use imp_syntax::{Location, StmtId};
 use std::alloc::Global;
 use std::sync::ledger::Ledger;
 
-/// In front of the statement of a number.
+/// Before the statement of a number.
 fn before_number<D: Domain, L: Ledger>(
     interpreter: &Interpreter<D>,
     body: &SlotBlock,
@@ -33,7 +33,7 @@ fn before_number<D: Domain, L: Ledger>(
     }
 }
 
-/// Behind the statement of a number.
+/// After the statement of a number.
 fn after_number<D: Domain, L: Ledger>(
     interpreter: &Interpreter<D>,
     body: &SlotBlock,
@@ -85,7 +85,7 @@ fn head_of_number<D: Domain, L: Ledger>(
     }
 }
 
-/// Behind the body of a procedure, if this is its name.
+/// After the body of a procedure, if this is its name.
 fn end_of<D: Domain, L: Ledger>(
     interpreter: &Interpreter<D>,
     routine: &Routine,

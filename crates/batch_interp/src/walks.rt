@@ -17,7 +17,7 @@ use imp_syntax::StmtId;
 use std::alloc::Global;
 use std::sync::ledger::Ledger;
 
-/// A procedure that is entered, and what is known in front of its body.
+/// A procedure that is entered, and what is known before its body.
 #[derive(Drop)]
 pub(crate) struct Entered<S> {
     pub(crate) frame: CallFrame,
@@ -45,7 +45,7 @@ pub(crate) fn enter_main<D: Domain, L: Ledger>(
     })
 }
 
-/// In front of the body of a procedure that is called.
+/// Before the body of a procedure that is called.
 fn entered_value<D: Domain, L: Ledger>(
     alloc: Global,
     dom: &D,
@@ -80,7 +80,7 @@ pub(crate) fn enter<D: Domain, L: Ledger>(
     Ok(Entered { frame, before })
 }
 
-/// The procedure of a call, entered, where it stands in front of its caller.
+/// The procedure of a call, entered, where it stands before its caller.
 fn enter_callee<D: Domain, L: Ledger>(
     interpreter: &Interpreter<D>,
     site: u32,

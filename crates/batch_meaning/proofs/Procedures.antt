@@ -72,7 +72,7 @@ from_place (b ∷ ps) q r earlier e =
 pub from_self : (r : Routine) (earlier : List Routine) → from (r ∷ earlier) (length earlier) ≡ r ∷ earlier
 from_self r earlier = by_test (length earlier) (length earlier) (λ c. (if c then r ∷ earlier else from earlier (length earlier)) ≡ r ∷ earlier) (λ e. refl) (λ e. absurd (e refl))
 
--- each fits those behind it
+-- each fits those after it
 abbrev pub FitBack : List Routine → Type 0
 FitBack [] = Unit {0}
 FitBack (r ∷ earlier) = FitsCode (reverse earlier) r.layout r.code × FitBack earlier

@@ -1,4 +1,4 @@
--- Batch interpretation: the value behind a block from the value in front of it, by recursion on the syntax.
+-- Batch interpretation: the value after a block from the value before it, by recursion on the syntax.
 use Rattle.std.specs.Prelude.{ℕ, zero, suc, nat_lt, ◌==◌, ℤ, List, [], ◌∷◌, ◌++◌, length, true, false, if◌then◌else◌}
 use Rattle.imp_slots.specs.Plain.{Guard, DoBreak, Does, Code, Stop, Simple, If, While, Call, Break, Routine}
 use Rattle.imp_chains.specs.declared.widening.Widening.{Widening}
@@ -11,7 +11,7 @@ pub record LoopOptions : Type 0 where
   pub budget : ℕ
   pub widening : Widening
 
--- What a block gives: the value behind it, and the values in front of the breaks that leave the loop around it.
+-- What a block gives: the value after it, and the values before the breaks that leave the loop around it.
 pub record Passed (S : Type 0) : Type 0 where
   pub value : Value S
   pub leaving : List (Value S)
@@ -26,11 +26,11 @@ abbrev pub with_leaving : {S : Type 0} → List (Value S) → Passed S → Passe
 with_leaving xs r = record { value = r.value; leaving = xs ++ r.leaving }
 
 module _ {S : Type 0} (dom : Operations S) (engine : LoopOptions) where
-  -- the next iterate behind the k-th: joined below the delay, else widened
+  -- the next iterate after the k-th: joined below the delay, else widened
   abbrev pub next_of : List ℤ → (k : ℕ) → S → S → S
   next_of thresholds k s t = if nat_lt k engine.widening.delay then dom.join s t else dom.widen thresholds s t
 
-  -- the state s is the k-th iterate and the value behind it the next: Over, equal, or to be gone on with
+  -- the state s is the k-th iterate and the value after it the next: Over, equal, or to be gone on with
   abbrev pub settle : (k : ℕ) → S → Value S → (S → Fixed S) → Fixed S
   settle k s (Over n z) go = record { value = Over n z; index = 0 }
   settle k s (State t) go = if dom.same t s then record { value = State s; index = k } else go t
@@ -49,16 +49,16 @@ module _ {S : Type 0} (dom : Operations S) (engine : LoopOptions) where
   joined v [] = v
   joined v (x ∷ xs) = joined (lift2 dom.join v x) xs
 
-  -- what the iterates of loop n come to under the call sites z, from the value in front of it
+  -- what the iterates of loop n come to under the call sites z, from the value before it
   abbrev pub head_of : List ℤ → (z : List ℕ) → (n : ℕ) → Guard → (Value S → Passed S) → Value S → Fixed S
   head_of thresholds z n g body a = fix thresholds (λ x. (body (lift (dom.assume g true) x)).value) (Over n z) a
 
-  -- the value behind a loop, from that at its head: where the guard is false, and where breaks leave it
+  -- the value after a loop, from that at its head: where the guard is false, and where breaks leave it
   abbrev pub behind : Guard → (Value S → Passed S) → Value S → Value S
   behind g body v = joined (lift (dom.assume g false) v) (body (lift (dom.assume g true) v)).leaving
 
-  -- A block of a procedure with these thresholds under the call sites z, from the value in front of it; `calls` gives what is
-  -- behind the body of the procedure that a statement calls.
+  -- A block of a procedure with these thresholds under the call sites z, from the value before it; `calls` gives what is
+  -- after the body of the procedure that a statement calls.
   module _ (thresholds : List ℤ) (z : List ℕ) (calls : (n q : ℕ) → Value S → Value S) where
     abbrev pub batch : Code → Value S → Passed S
     batch Stop a = record { value = a; leaving = [] }
@@ -71,8 +71,8 @@ module _ {S : Type 0} (dom : Operations S) (engine : LoopOptions) where
     batch (Call n i q r) a = batch r (lift2 (dom.leave i.returning) a (calls n q (lift (dom.enter i.entering) a)))
     batch (Break n r) a = with_leaving (a ∷ []) (batch r (lift (dom.post DoBreak) a))
 
-  -- The value behind procedure q's body, from the value in front of it. The procedures have the last one first, so those
-  -- that one calls stand behind it.
+  -- The value after procedure q's body, from the value before it. The procedures have the last one first, so those
+  -- that one calls stand after it.
   abbrev pub procedure : List Routine → (z : List ℕ) → (q : ℕ) → Value S → Value S
   procedure [] z q a = a
   procedure (r ∷ earlier) z q a =

@@ -9,7 +9,7 @@ use Rattle.domain_laws.specs.Operations.{Operations}
 use Rattle.batch_meaning.specs.Values.{Value, State, lift, lift2}
 use Rattle.batch_meaning.specs.Batch.{LoopOptions, Fixed, head_of, behind, batch, calls_of}
 
--- What is known at a statement: the value in front of it, at its head where it is a loop, behind it; and its call.
+-- What is known at a statement: the value before it, at its head where it is a loop, after it; and its call.
 pub record Spot (S : Type 0) : Type 0 where
   pub before : Value S
   pub head : Option (Fixed S)
@@ -66,12 +66,12 @@ module _ {S : Type 0} (dom : Operations S) (engine : LoopOptions) where
         (n, spot a None x (Some (i, q))) ∷ spots r x
     spots (Break n r) a = let x = lift (dom.post DoBreak) a in (n, spot a None x None) ∷ spots r x
 
-  -- Of these procedures, the last one first, what is known in the last, from the value in front of its body.
+  -- Of these procedures, the last one first, what is known in the last, from the value before its body.
   abbrev pub spots_in : List Routine → (z : List ℕ) → Value S → List (ℕ × Spot S)
   spots_in [] z a = []
   spots_in (r ∷ earlier) z a = spots (thresholds engine.widening r) z (calls_of dom engine earlier z) r.code a
 
-  -- behind the last one's body, if that is its name
+  -- after the last one's body, if that is its name
   abbrev pub end_of : List Routine → (z : List ℕ) → Value S → (name : List ℕ) → Option (Value S)
   end_of [] z a name = None
   end_of (r ∷ earlier) z a name = if bytes_eq name r.name then Some (batch dom engine (thresholds engine.widening r) z (calls_of dom engine earlier z) r.code a).value else None
@@ -83,7 +83,7 @@ module _ {S : Type 0} (dom : Operations S) (engine : LoopOptions) where
   value_in rs z a (Head n) = if_some (find n (spots_in rs z a)) head_value
   value_in rs z a (End name) = end_of rs z a name
 
-  -- the procedures and the value in front of the last one's body
+  -- the procedures and the value before the last one's body
   abbrev pub entered : (n : ℕ) → (z : List ℕ) → List Routine × Value S → Option (List Routine × Value S)
   entered n z x =
       if_some (find n (spots_in x.0 z x.1)) (λ s. if_some s.call (λ k. Some (from (earlier_of x.0) k.1, lift (dom.enter k.0.entering) s.before)))

@@ -1,7 +1,7 @@
 //! What batch interpretation answers: the definitions.
 //!
-//! The value behind a block comes from the value in front of it by recursion on the syntax: `batch` of
-//! `specs/Batch.antt` gives it with the values in front of the breaks that leave the loop around it. A
+//! The value after a block comes from the value before it by recursion on the syntax: `batch` of
+//! `specs/Batch.antt` gives it with the values before the breaks that leave the loop around it. A
 //! *value* is a state, or the loop that used up its budget. A loop's head is what its *iterates* come
 //! to: joined below the delay, then widened with the procedure's thresholds, until two are equal; with it
 //! comes the index of that iterate. `spots` of `specs/Places.antt` gives the values at all statements of

@@ -46,7 +46,7 @@ module _ {S T : Type 0} where
       (subst (λ m. WhereThere PairSpot (find n (x ∷ xs)) (if n == x.0 then Some y.1 else find n ys) (if n == m then Some p.1 else find n ps)) (sym h.0.1)
       (chosen (WhereThere PairSpot) (n == x.0) _ _ _ _ _ _ h.0.2 (pair_find n xs ys ps h.1)))
 
-  -- the same procedures, and pairs of values in front of the last one's body
+  -- the same procedures, and pairs of values before the last one's body
   abbrev pub PairEntered : List Routine × Value S → List Routine × Value T → List Routine × Value (S × T) → Type 0
   PairEntered x y p = (y.0 ≡ x.0) × (p.0 ≡ x.0) × IsPair x.1 y.1 p.1
 

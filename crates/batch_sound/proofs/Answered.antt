@@ -288,7 +288,7 @@ module _ {S : Type 0} (dom : Operations S) (engine : LoopOptions) (covers : S �
       (summed_under t.place a.routine at t.values u am.value t.sum each am.member).says h (m ∷ []) (keeps.last_alone a.routine.layout a.below h m ms r)
       (says_shed dom engine covers laws a.routine.layout a.below am.value h m ms own.fine r says)
 
-  -- What the answer in front of a simple statement that is about to be done says of the configuration.
+  -- What the answer before a simple statement that is about to be done says of the configuration.
   pub record Described (e : Effect) (s : S) (h : Heap) (m : Variables) : Type 0 where
     pub layout : Layout
     pub suits : fits_effect layout e ≡ true

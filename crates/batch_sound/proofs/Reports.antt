@@ -92,7 +92,7 @@ module _ {S : Type 0} (dom : Operations S) (engine : LoopOptions) (covers : S �
   abbrev IsGood : Heap → List Frame → Type 0
   IsGood = Good dom engine covers laws keeps program (reverse program) (same_in_turn program)
 
-  -- A configuration in front of a checked statement has just that statement on top.
+  -- A configuration before a checked statement has just that statement on top.
   module _ (c : CheckedStatement) (member : Member c (checked_statements program)) where
     on_top : (p : ℕ) (d : Code) (w : Work) → MatchOption (slice_get program p) ⊥ (λ r. IsWork p r.code (Do d w)) → first_number d ≡ Some c.number → Begins c d
     on_top p d w m f =

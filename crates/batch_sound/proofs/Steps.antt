@@ -103,7 +103,7 @@ module _ {S : Type 0} (dom : Operations S) (engine : LoopOptions) (covers : S �
     pub record Sub (c : Code) (v : Value S) : Type 0 where
       pub at : (x : ℕ × Spot S) → Member x (Spots a c v) → Member x (Spots a a.routine.code a.first)
 
-    -- A block to be done from v: e is the value behind the innermost loop, u the one behind the block.
+    -- A block to be done from v: e is the value after the innermost loop, u the one after the block.
     pub record Block (c : Code) (v e u : Value S) : Type 0 where
       pub sub : Sub c v
       pub suits : FitsCode (reverse a.earlier) a.routine.layout c
@@ -111,7 +111,7 @@ module _ {S : Type 0} (dom : Operations S) (engine : LoopOptions) (covers : S �
       pub leave : Leave (layouts a) (B a c v).leaving e
       pub behind : Under (layouts a) (B a c v).value u
 
-    -- A loop at whose head the value is v, and behind which it is e.
+    -- A loop at whose head the value is v, and after which it is e.
     pub record Loop (n : ℕ) (g : Guard) (b : Code) (v e : Value S) : Type 0 where
       pub spot : Spot S
       pub at : At a n spot
@@ -122,7 +122,7 @@ module _ {S : Type 0} (dom : Operations S) (engine : LoopOptions) (covers : S �
       pub body : Block b (lift (dom.assume g true) v) e v
       pub exit : Under (layouts a) (lift (dom.assume g false) v) e
 
-    -- What is left to do fits the value v in front of it.
+    -- What is left to do fits the value v before it.
     pub data Fits : Work → Value S → Value S → Type 0 where
       fits_ret : {p : ℕ} {v e : Value S} → p ≡ length a.earlier → Under (layouts a) v (B a a.routine.code a.first).value → Fits (Ret p) v e
       fits_done : {n : ℕ} {o : Option Invoke} {w : Work} {v u e : Value S} {x : Spot S} → At a n x → x.after ≡ v → Under (layouts a) v u → Fits w u e → Fits (Done n o w) v e
@@ -143,7 +143,7 @@ module _ {S : Type 0} (dom : Operations S) (engine : LoopOptions) (covers : S �
     ahead_push (Call n i q r) w v u e b f = record { value = v; below = self _ v; fits = fits_do b f }
     ahead_push (Break n r) w v u e b f = record { value = v; below = self _ v; fits = fits_do b f }
 
-    -- Behind the innermost loop its Done fits.
+    -- After the innermost loop its Done fits.
     record Left (w : Work) (e : Value S) : Type 0 where
       outer : Value S
       fits : Fits w e outer
@@ -194,7 +194,7 @@ module _ {S : Type 0} (dom : Operations S) (engine : LoopOptions) (covers : S �
   abbrev pub Stands : Place → List Frame → List Variables → Type 0
   Stands a below ms = Stack below a.z a.below (a.routine ∷ a.earlier) a.first ms
 
-  -- The last frame fits, and the value in front of its work says yes.
+  -- The last frame fits, and the value before its work says yes.
   pub data Good (h : Heap) : List Frame → Type 0 where
     good : {below : List Frame} {v e : Value S} {p : ℕ} {m : Variables} {w : Work} {ms : List Variables} (a : Place) →
         Known a → Stands a below ms → IsProper h (m ∷ ms) (layouts a) → Fits a w v e → Yes v h (m ∷ ms) → Good h (In p m w ∷ below)
@@ -205,7 +205,7 @@ module _ {S : Type 0} (dom : Operations S) (engine : LoopOptions) (covers : S �
   now : (c d : Config) → Next c ≡ Next d → IsGood c → IsGood d
   now c d e g = subst IsGood (next_inj c d e) g
 
-  -- what is behind a call's body fits
+  -- what is after a call's body fits
   pub behind_body : (a : Place) → Known a → (n : ℕ) (i : Invoke) (q : ℕ) (c : Routine) (v : Value S) → look a.earlier q ≡ Some c → c.layout ≡ i.entering.layout → Fine v (i.entering.layout ∷ layouts a) → Fine (procedure dom engine a.earlier (n ∷ a.z) q v) (i.entering.layout ∷ layouts a)
   behind_body a known n i q c v e l f =
       subst (λ k. Fine (procedure dom engine a.earlier (n ∷ a.z) q v) (k ∷ layouts a)) l
@@ -216,7 +216,7 @@ module _ {S : Type 0} (dom : Operations S) (engine : LoopOptions) (covers : S �
     good_ahead : (w : Work) (v e : Value S) → Ahead a w v e → Yes v h (m ∷ ms) → Good h (In p m w ∷ below)
     good_ahead w v e x y = good a known stack r x.fits (x.below.says h (m ∷ ms) r y)
 
-    -- Done is in front of what is ahead
+    -- Done is before what is ahead
     fits_behind : (n : ℕ) (o : Option Invoke) (c : Code) (w : Work) (v u e : Value S) (x : Spot S) → At a n x → x.after ≡ v → Block a c v e u → Fits a w u e → Fits a (Done n o (push c w)) v e
     fits_behind n o c w v u e x at i b f = let k = ahead_push a c w v u e b f in fits_done at i k.below k.fits
 

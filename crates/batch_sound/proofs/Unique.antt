@@ -14,7 +14,7 @@ use Rattle.batch_meaning.proofs.Places.{found}
 use Rattle.batch_sound.proofs.Chains.{has_member, once_in}
 use Rattle.std.proofs.lemmas.Option.{same_Some}
 
--- the statements of a block, by their numbers, each with what is behind it
+-- the statements of a block, by their numbers, each with what is after it
 abbrev statements : Code → List (ℕ × Code)
 statements Stop = []
 statements (Simple n e r) = (n, Simple n e r) ∷ statements r

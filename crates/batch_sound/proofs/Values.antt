@@ -110,7 +110,7 @@ module _ {S : Type 0} (dom : Operations S) (engine : LoopOptions) (covers : S �
         go true = record { fit = laws.fitting.join ps s t f g; left = record { says = λ h ms r c. laws.join_left ps s t h ms f g r c }; right = record { says = λ h ms r c. laws.join_right ps s t h ms f g r c } }
         go false = record { fit = laws.fitting.widen thresholds ps s t rising f g; left = record { says = λ h ms r c. laws.widen_left thresholds ps s t h ms rising f g r c }; right = record { says = λ h ms r c. laws.widen_right thresholds ps s t h ms rising f g r c } }
 
-    -- A loop's head: it fits, and is above the value in front of the loop and above what the body makes of it.
+    -- A loop's head: it fits, and is above the value before the loop and above what the body makes of it.
     pub record IsHead (body : Value S → Value S) (a v : Value S) : Type 0 where
       pub fit : Fit v ps
       pub first : Below a v

@@ -4,9 +4,9 @@
 //! when they run; each carries its theorem as its clause, for the crates that answer.
 //!
 //! The proof follows runs step by step. Each frame of a configuration stands at a place of its
-//! procedure, and what is left of its work fits the value in front of it: the value of each statement
-//! is that of `spots`, each loop's head is above the value in front of the loop and above what its body
-//! gives, and breaks go to the value behind their loop. Each lower frame remembers a configuration at
+//! procedure, and what is left of its work fits the value before it: the value of each statement
+//! is that of `spots`, each loop's head is above the value before the loop and above what its body
+//! gives, and breaks go to the value after their loop. Each lower frame remembers a configuration at
 //! its call that the value there described.
 #![tactic(auto)]
 

@@ -46,7 +46,7 @@ module _ (at : ℕ → Option Entry) where
   by_both [] ys = refl
   by_both (x ∷ xs) ys = ap (λ zs. literals_in (at x) ++ zs) (by_both xs ys) ∙ sym (append_assoc (literals_in (at x)) (literals_by at xs) (literals_by at ys))
 
-  -- a statement whose entry is known, and those behind it
+  -- a statement whose entry is known, and those after it
   one : (x : Entry) (ns ls ms : List ℕ) → at x.number ≡ Some x → form_literals x.form ≡ ls → literals_by at ns ≡ ms → literals_by at (x.number ∷ ns) ≡ ls ++ ms
   one x ns ls ms k e r = ap (λ o. literals_in o ++ literals_by at ns) k ∙ (λ i. e i ++ r i)
 

@@ -24,7 +24,7 @@ use Rattle.base_values.proofs.Cases.{by_test}
 use Rattle.std.proofs.Math.Seq.{drop-length}
 use Rattle.std.proofs.lemmas.List.{length-drop}
 
--- a procedure calls none of those from its own place on, so its chains go through those behind it
+-- a procedure calls none of those from its own place on, so its chains go through those after it
 through_later : (f : ℕ → List (List ℕ)) (before rs : List Routine) (k j p : ℕ) → k ≡ length before → FitInTurn before rs → k + j ≤ suc p → through f k rs p ≡ through f (k + j) (drop j rs) p
 through_later f before rs k zero p l t h = ap (λ m. through f m rs p) (omega arith)
 through_later f before [] k (suc j) p l t h = refl

@@ -12,7 +12,7 @@ use imp_syntax::{ProcId, StmtId};
 use imp_table::{Put, View};
 use std::alloc::Global;
 
-/// The numbers of each statement of a procedure that a change takes away, and of each that it brings, but for those at a
+/// The numbers of each statement of a procedure that a change takes away, and of each that it brings, except those at a
 /// statement's number where it brings the same ones as it takes away.
 #[derive(Drop)]
 pub(crate) struct Differences {

@@ -59,7 +59,7 @@ impl Setting {
     /// share what is counted. It takes time linear in the change and in the number of procedures. Where other numbers come
     /// than go, it also takes time linear in the different numbers of the procedure, times the logarithm of these where
     /// their set changes; where loops come or go, in its loops, times the logarithm of these; and for a procedure more the
-    /// time of [`thresholds`]. It fails for want of memory alone.
+    /// time of [`thresholds`]. It fails only when memory runs out.
     pub fn after(&self, alloc: Global, table: &Table, change: &Change) -> Result<Setting, Memory>
         ghost program: { List Procedure }
         requires makes { Makes table.now.program change.now program }

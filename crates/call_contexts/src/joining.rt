@@ -7,7 +7,7 @@ use domain_laws::{Domain, Steps};
 use std::alloc::Global;
 use std::sync::ledger::Ledger;
 
-/// The state of one more chain, joined to those of the chains before it: its last frame alone, behind
+/// The state of one more chain, joined to those of the chains before it: its last frame alone, after
 /// what is so far, where that is there. It ticks for the shed, and for a join where something is so
 /// far; where memory runs out in the shed, there is no join.
 pub fn joined<D: Domain, L: Ledger>(

@@ -2,7 +2,7 @@
 //!
 //! [`place_of`] finds the procedure of a location, or says why there is none. [`chains_to`] gives the
 //! chains to a procedure, in the order in which their states are joined. [`joined`] sheds one chain's state and joins it
-//! behind those before.
+//! after those before.
 //! [`thresholds`] gives the numbers at which widening stops in a procedure, and a [`Setting`] has those of
 //! all procedures, with how often and how the iterates of a loop are made. It counts in how many statements
 //! each number stands, and knows the loops of each procedure, so after a change of the program [`Setting::after`] looks

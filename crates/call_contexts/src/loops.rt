@@ -105,7 +105,7 @@ fn place_among(stmts: &[StmtId], stmt: StmtId) -> Result<usize, usize>
     stmts.binary_search_by_key(&stmt.number(), |other| other.number())
 }
 
-/// Puts a statement among statements whose numbers rise, unless it is there. Those behind it move by one.
+/// Puts a statement among statements whose numbers rise, unless it is there. Those after it move by one.
 fn bring(stmts: &mut Vec<StmtId>, stmt: StmtId) -> Result<(), Memory>
     requires rising { IsStrictlySortedBy nat_cmp stmts.old.items }
     ensures rising { OnOk result (IsStrictlySortedBy nat_cmp stmts.new.items) }
@@ -117,7 +117,7 @@ fn bring(stmts: &mut Vec<StmtId>, stmt: StmtId) -> Result<(), Memory>
     Ok(())
 }
 
-/// Takes a statement from statements whose numbers rise, if it is there. Those behind it move by one.
+/// Takes a statement from statements whose numbers rise, if it is there. Those after it move by one.
 fn take(stmts: &mut Vec<StmtId>, stmt: StmtId)
     requires rising { IsStrictlySortedBy nat_cmp stmts.old.items }
     ensures rising { IsStrictlySortedBy nat_cmp stmts.new.items }
@@ -226,7 +226,7 @@ impl Loops {
 
     /// The loops of the procedure after a change, where these are those before it. They are shared unless the change takes
     /// loops or brings some. It takes time linear in the change. Where it does not share them, it also copies them once, and
-    /// looks for each statement of the change among them by halves; each that comes or goes moves those behind it.
+    /// looks for each statement of the change among them by halves; each that comes or goes moves those after it.
     pub(crate) fn after(
         &self,
         alloc: Global,

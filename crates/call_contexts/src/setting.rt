@@ -51,7 +51,7 @@ pub(crate) fn no_parts(alloc: Global, budget: u32, widening: Widening) -> Settin
 
 impl Setting {
     /// The setting of a program, of whose loops the iterates are made `budget` times at most. It takes
-    /// the time of [`thresholds`] of each procedure, and fails for want of memory alone.
+    /// the time of [`thresholds`] of each procedure, and fails only when memory runs out.
     pub fn new(
         alloc: Global,
         prog: &View<'_>,

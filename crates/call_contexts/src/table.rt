@@ -13,7 +13,7 @@ use imp_syntax::{ProcId, StmtId};
 use imp_table::View;
 use std::alloc::Global;
 
-/// A chain with one more call behind it.
+/// A chain with one more call after it.
 fn with_call(alloc: Global, site: StmtId, chain: &[StmtId]) -> Result<Items<StmtId>, Memory>
     ensures is { IfOk result (λ z. z ≡ site ∷ chain.now) }
 {
@@ -25,7 +25,7 @@ fn with_call(alloc: Global, site: StmtId, chain: &[StmtId]) -> Result<Items<Stmt
     Ok(longer)
 }
 
-/// Adds these chains, each with one more call behind it.
+/// Adds these chains, each with one more call after it.
 fn add_longer(
     alloc: Global,
     chains: &[Items<StmtId>],
@@ -105,7 +105,7 @@ pub fn main_place(prog: &View<'_>) -> u32
     prog.procs().len() as u32 - 1
 }
 
-/// The chains to a procedure in front of main, where those of the later ones are known.
+/// The chains to a procedure before main, where those of the later ones are known.
 fn chains_at(
     alloc: Global,
     prog: &View<'_>,
@@ -125,7 +125,7 @@ fn chains_at(
     Ok(found)
 }
 
-/// The chains to a procedure, by those to the procedures behind it, each with the last call first. There are none to a
+/// The chains to a procedure, by those to the procedures after it, each with the last call first. There are none to a
 /// procedure that is not there. It takes time linear in the calls of the procedures from this one on and in the chains
 /// to them.
 #[tactic(auto, using(crate::proofs::Tabled::none_past, crate::proofs::Tabled::main_only, crate::proofs::Tabled::up_more))]

@@ -1,4 +1,4 @@
--- Procedures of a program with those in front of them: told by name, and the statements that they have.
+-- Procedures of a program with those before them: told by name, and the statements that they have.
 use Rattle.std.proofs.lemmas.List.{reverse-append, map-append}
 use Rattle.std.proofs.Common.{◌≡◌, ◌≢◌, ℕ, List, [], ◌∷◌, ◌++◌, length, map, reverse, if◌then◌else◌, refl, sym, ap, ◌∙◌, subst}
 use Rattle.imp_slots.specs.Plain.{Routine}
@@ -56,7 +56,7 @@ other_name n s d (behind r t) a = other_name n s d t a.1
 abbrev Same : Routine → List Routine → Routine → List Routine → Type 0
 Same r e s d = (r ≡ s) × (e ≡ d)
 
--- A name tells a procedure and those in front of it.
+-- A name tells a procedure and those before it.
 pub tail_same : (r s : Routine) (e d ps : List Routine) → Distinct (names_of ps) → Tail (r ∷ e) ps → Tail (s ∷ d) ps → r.name ≡ s.name → Same r e s d
 tail_same r s e d ps once whole whole h = (refl, refl)
 tail_same r s e d ps once whole (behind p t) h = absurd (other_name r.name s d t once.0 h)

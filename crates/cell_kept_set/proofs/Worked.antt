@@ -1,4 +1,4 @@
--- What an edit touches behind a loop with breaks, on small programs.
+-- What an edit touches after a loop with breaks, on small programs.
 use Rattle.std.specs.Prelude.{◌≡◌, ℕ, suc, ◌==◌, List, [], ◌∷◌, Some, Bool, true, false, reverse, refl}
 use Rattle.std.proofs.Common.{inl, inr, sym, ap, ◌∙◌}
 use Rattle.imp_syntax.specs.declared.words.Relation.TheVariants.{Less}
@@ -36,7 +36,7 @@ main_of c = record { name = 109 ∷ []; layout = record { numbers = []; links = 
 abbrev engine : LoopOptions
 engine = record { budget = 1; widening = record { delay = 0; thresholds = false } }
 
--- a loop with one break; with a skip in front of it; with a further break behind it
+-- a loop with one break; with a skip before it; with a further break after it
 abbrev one_break : List Routine
 one_break = main_of (While 1 guard (Break 2 Stop) Stop)
 
@@ -65,7 +65,7 @@ another_row : flat_row engine (reverse another) [] (Post 1) ≡ Some (Joins fals
 another_row = refl
 
 module _ (same : CellName → CellName → Bool) where
-  -- Where the loop is an Over, what is behind it asks for its left input alone ..
+  -- Where the loop is an Over, what is after it asks for its left input alone ..
   over_inputs : inputs_of (old_rows rising moves same) behind ≡ name [] (Exit 1) ∷ []
   unfolding inputs_of value_of value_at gather
   over_inputs = refl
@@ -95,7 +95,7 @@ module _ (same : CellName → CellName → Bool) where
       go (inl e) = absurd cc
       go (inr o) = longer (name [] (Exit 1)) (name (InLoop 1 0 ∷ []) Body) (sym state_inputs ∙ o.1)
 
-  -- A further break behind the only one touches it, Over or not.
+  -- A further break after the only one touches it, Over or not.
   more_changes : IsChanged rising adds same behind
   more_changes k = go ((row_test rising adds same behind (Joins false (name [] (Exit 1)) 1 [] Body) (Joins false (name [] (Leap 1 2)) 1 [] (Post 2)) old_row another_row).0 k)
     where

@@ -51,7 +51,7 @@ RowsTellNames dom =
     HasName e.engine e.new x ↔ HasRow e.engine e.new x
 
 -- Whether a name keeps its row is told by its two rows by number and the old inputs: they are the same; or both are joins
--- behind a loop with breaks with the same left input, which was the only one.
+-- after a loop with breaks with the same left input, which was the only one.
 abbrev pub RowsTellChanged : {S : Type 0} → Operations S → Type 0
 RowsTellChanged dom =
     (e : Edit) (same : CellName → CellName → Bool) (x : CellName) (r q : Row) →

@@ -43,7 +43,7 @@ module _ {S : Type 0} (dom : Operations S) (e : Edit) (same : CellName → CellN
   new_inputs x = gather (value_of old_rows) (new_rows.asks x) (new_rows.most x) []
 
   -- Both programs have a row by number for the name, with the same operation and the same inputs by the old values. Of
-  -- a join behind a loop with breaks whose fixed point is an Over only the left input is asked for.
+  -- a join after a loop with breaks whose fixed point is an Over only the left input is asked for.
   pub record KeepsRow (x : CellName) : Type 0 where
     pub row : Row
     pub other : Row

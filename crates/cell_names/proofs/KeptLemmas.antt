@@ -15,7 +15,7 @@ use Rattle.base_values.proofs.Lists.{get_some, get_pushed, get_front}
 abbrev pub step_of : ℕ → NameFrame → PathStep
 step_of before frame = record { before = before; frame = frame }
 
--- what holds of all and of one thing more holds of all behind it
+-- what holds of all and of one thing more holds of all after it
 all-added : {A : Type 0} (P : A → Type 0) (xs ys : List A) (x : A) (n : ℕ) → Adds xs ys x n → P x → ((k : ℕ) (y : A) → slice_get xs k ≡ Some y → P y) → (k : ℕ) (y : A) → slice_get ys k ≡ Some y → P y
 all-added P xs ys x n added here all k y at =
     ⊎_elim

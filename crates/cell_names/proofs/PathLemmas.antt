@@ -29,7 +29,7 @@ path_at-kept old new keeps n h =
     let r : (w : List NameFrame) × (slice_get old n ≡ Some w) = get_some old n h in
     ap or_root r.1 ∙ sym (ap or_root (keeps n r.0 r.1))
 
--- the path of the step at place k, where that step leads from a path in front of it
+-- the path of the step at place k, where that step leads from a path before it
 step-path : (paths : List (List NameFrame)) (steps : List PathStep) (k : ℕ) (s : PathStep) → slice_get steps k ≡ Some s → s.before < length paths + k → slice_get (paths_from paths steps) (length paths + k) ≡ Some (path_by (paths_from paths steps) s)
 step-path paths [] k s at h = cc
 step-path paths (x ∷ xs) zero s at h =

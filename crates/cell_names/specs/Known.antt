@@ -25,7 +25,7 @@ Adds old new x n = ((slice_get old n ≡ Some x) × (new ≡ old)) ⊎ (((m : �
 abbrev pub known_of : List PathStep → List Name → Known
 known_of steps names = record { paths = paths_of steps; names = map (name_in (paths_of steps)) names }
 
--- the step at place k leads from one of the k + 1 paths in front of it
+-- the step at place k leads from one of the k + 1 paths before it
 abbrev pub StepsWithin : List PathStep → Type 0
 StepsWithin steps = (k : ℕ) (s : PathStep) → slice_get steps k ≡ Some s → s.before ≤ k
 

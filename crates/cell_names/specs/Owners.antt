@@ -6,7 +6,7 @@ use Rattle.cell_names.specs.declared.frame.Point.{Point}
 use Rattle.cell_names.specs.declared.frame.Point.TheVariants.{Entry, Then, Else, Body, Post, Iterate, Fix, Exit, Leap}
 
 -- The statement that a point in a path belongs to, which alone tells its row: the one that the point names, of a break's
--- point behind a loop the loop; of a body's start the call or the loop of the last frame. The start of main belongs to 0,
+-- point after a loop the loop; of a body's start the call or the loop of the last frame. The start of main belongs to 0,
 -- which is no statement's number, and so do the points that no program has.
 abbrev pub owner : List NameFrame → Point → ℕ
 owner [] Entry = 0

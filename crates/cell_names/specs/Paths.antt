@@ -19,12 +19,12 @@ or_root None = []
 abbrev pub path_at : List (List NameFrame) → ℕ → List NameFrame
 path_at paths n = or_root (slice_get paths n)
 
--- these paths, and then those of the steps, each from a path in front of it
+-- these paths, and then those of the steps, each from a path before it
 abbrev pub paths_from : List (List NameFrame) → List PathStep → List (List NameFrame)
 paths_from paths [] = paths
 paths_from paths (s ∷ steps) = paths_from (paths ++ (s.frame ∷ path_at paths s.before) ∷ []) steps
 
--- the paths of the steps, behind the empty one
+-- the paths of the steps, after the empty one
 abbrev pub paths_of : List PathStep → List (List NameFrame)
 paths_of steps = paths_from ([] ∷ []) steps
 

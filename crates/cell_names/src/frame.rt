@@ -21,13 +21,13 @@ pub enum Point {
     Else(StmtId),
     /// The start of a loop's body.
     Body,
-    /// Behind a statement.
+    /// After a statement.
     Post(StmtId),
-    /// An iterate of a loop, counted from 1. Iterate 0 is the point in front of the loop.
+    /// An iterate of a loop, counted from 1. Iterate 0 is the point before the loop.
     Iterate(StmtId, u32),
     /// Where the iterates of a loop stop.
     Fix(StmtId),
-    /// Behind a loop with breaks of its own, from its condition alone.
+    /// After a loop with breaks of its own, from its condition alone.
     Exit(StmtId),
     /// The same joined with what leaves the loop by its breaks up to this one, which is not its last: the
     /// loop, and the break.

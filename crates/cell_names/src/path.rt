@@ -29,7 +29,7 @@ impl PathId {
         PathId { number: 0 }
     }
 
-    /// The path of a step: the one behind the empty path and the steps before.
+    /// The path of a step: the one after the empty path and the steps before.
     #[inline]
     pub(crate) fn after(step: usize) -> PathId
         requires small { step < 2 ^ 63 }

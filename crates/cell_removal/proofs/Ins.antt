@@ -50,7 +50,7 @@ module _ {A : Type 0} where
         | inr r ↦ elim (in_cases x y [] r) [ inl e ↦ inr e | inr n ↦ in_none x n ]
       ]
 
-  -- what stands in front of a place
+  -- what stands before a place
   pub in_take : (xs : List A) (i j : ℕ) (x : A) → j < i → slice_get xs j ≡ Some x → IsIn (take i xs) x
   in_take [] i j x h e = absurd cc
   in_take (y ∷ xs) zero j x h e = absurd (omega arith)

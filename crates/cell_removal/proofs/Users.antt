@@ -5,7 +5,7 @@ use Rattle.daig_graph.specs.declared.graph.Use.{Use}
 use Rattle.cell_removal.specs.Removal.{IsFirst}
 use Rattle.cell_removal.proofs.Ins.{in_none, in_first, in_more, in_cases}
 
--- what is left of these users, where all in front are marked
+-- what is left of these users, where all before are marked
 pub record IsBehind (marked : ℕ → Type 0) (users rest : List Use) : Type 0 where
   pub front : (u : Use) → IsIn users u → marked u.cell ⊎ IsIn rest u
   pub back : (u : Use) → IsIn rest u → IsIn users u

@@ -28,7 +28,7 @@ module _ {V : Type 0} (cells : Cells V) where
     pub rank : ℕ → ℕ
     pub falls : (x y : ℕ) → Uses cells y x → rank x < rank y
 
-  -- cells that can be taken away one after another: each once, and each behind those that use it
+  -- cells that can be taken away one after another: each once, and each after those that use it
   pub record IsOrder (plan : List ℕ) : Type 0 where
     pub there : (x : ℕ) → IsIn plan x → IsSome (get cells x)
     pub once : IsOnce plan
@@ -46,7 +46,7 @@ module _ {V : Type 0} (cells : Cells V) where
     pub kept : (x : ℕ) → IsIn old x → IsIn new x
     pub only : (x : ℕ) → IsIn new x → IsIn old x ⊎ LeadsTo cells (λ y. y ≡ cell) x
 
--- the first user that is not marked, and what is left behind it; all others in front are marked
+-- the first user that is not marked, and what is left after it; all others before are marked
 pub record IsFirst (marked : ℕ → Type 0) (users rest : List Use) (cell : ℕ) : Type 0 where
   pub place : ℕ
   pub there : IsIn users (record { cell = cell; place = place })

@@ -13,7 +13,7 @@ use daig_graph::{Graph, Iter, Use};
 use std::alloc::Global;
 use std::marker::Model;
 
-/// Cells that can be taken away, each behind those that use it.
+/// Cells that can be taken away, each after those that use it.
 #[derive(Drop)]
 pub struct RemovalOrder {
     cells: Vec<usize>,
@@ -95,7 +95,7 @@ fn turn<'a, V>(
     Ok(())
 }
 
-/// Plans a cell and all that are computed from it, depth first: each cell behind its users. What is planned is marked.
+/// Plans a cell and all that are computed from it, depth first: each cell after its users. What is planned is marked.
 #[tactic(auto, using(crate::proofs::Turns::walking_first, crate::proofs::Turns::walking_turn, crate::proofs::Turns::turns_fall, crate::proofs::Turns::walking_last, crate::proofs::Whole::adds_there))]
 #[inline]
 fn add<V>(

@@ -35,7 +35,7 @@ keys_texts (Call n call q r) p = ap (λ k. n ∷ k) (keys_texts r _)
 keys_texts (Break n r) p = ap (λ k. n ∷ k) (keys_texts r _)
 
 module _ {S : Type 0} (dom : Operations S) (engine : LoopOptions) where
-  -- What is known at a statement, by its code and the value in front of it.
+  -- What is known at a statement, by its code and the value before it.
   abbrev pub head_value : (scope : Scope) (z : List ℕ) → Code → Value S → Option (Fixed S)
   head_value scope z (While n guard b r) a = Some (head_of dom engine scope.thresholds z n guard (block dom engine scope z b) a)
   head_value scope z _ a = None

@@ -143,7 +143,7 @@ module _ {S : Type 0} (dom : Operations S) (engine : LoopOptions) where
   fix_index ms body n y (State s) u i = let r = indexed ms body (State s) n y engine.budget 0 s refl u i in let l : _ < 0 + engine.budget = r.0 in (omega arith, r.1)
   fix_index ms body n y (Over m x) u i = absurd cc
 
-  -- joins behind a loop
+  -- joins after a loop
   pub joined_to_over : (i n : ℕ) (y : List ℕ) (xs : List (Value S)) → joined_to dom engine i (Over n y) xs ≡ Over n y
   joined_to_over zero n y xs = refl
   joined_to_over (suc i) n y xs = ap (λ v. with_one dom engine v (slice_get xs i)) (joined_to_over i n y xs) ∙ one (slice_get xs i)

@@ -91,7 +91,7 @@ module _ (engine : LoopOptions) (program : List Routine) (once : Distinct (keys 
   in_table : (w : List NameFrame) (b : Q) (y : U) (d : Code) → follow engine bare program w ≡ Some b → Stands engine bare b y d → Entered b.scope (number d) y.point d
   in_table w b y d e s = (covers w b e).texts_in (number d, text [] y.point d) (shown_at b y d s).itself
 
-  -- Rows look at the procedures, the call sites, the point in front and the code alone.
+  -- Rows look at the procedures, the call sites, the point before and the code alone.
   abbrev pub Reads : (Q → U → Code → Option Row) → Type 0
   Reads g = (b c : Q) (y x : U) (d : Code) → b.scope ≡ c.scope → b.sites ≡ c.sites → y.point ≡ x.point → g b y d ≡ g c x d
 

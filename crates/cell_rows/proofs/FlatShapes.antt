@@ -39,7 +39,7 @@ join_number (Post n) = n
 join_number (Leap n k) = n
 join_number _ = 0
 
--- The row of a fixed point has the number of its point, its path and the call sites there; that of a join behind a loop
+-- The row of a fixed point has the number of its point, its path and the call sites there; that of a join after a loop
 -- with breaks the number of its point and its path. Whether a row passes an index on hangs on its point.
 abbrev pub Shape : List NameFrame → Point → Row → Type 0
 Shape w p (Init layout) = Unit {0}

@@ -24,7 +24,7 @@ module _ (engine : LoopOptions) {V : Type 0} (alg : Algebra V) (scope : Scope) (
   abbrev calls : ℕ → ℕ
   calls = body_span engine scope
 
-  -- A mark is the first one of the block, or stands behind a statement or in a branch.
+  -- A mark is the first one of the block, or stands after a statement or in a branch.
   pub data Known (c : Code) (x : Mark V) : Mark V → Type 0 where
     first : Known c x x
     post : (y : Mark V) (d : Code) → Member (E y d) (L c x) → Known c x (after_it d y)

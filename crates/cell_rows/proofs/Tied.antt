@@ -243,7 +243,7 @@ module _ {S : Type 0} (dom : Operations S) (engine : LoopOptions) (program : Lis
     abbrev leaving : List (Value S)
     leaving = (block dom engine b.scope b.sites body (lift (dom.assume guard true) f.value)).leaving
 
-    -- the mark behind the loop with its first i breaks
+    -- the mark after the loop with its first i breaks
     abbrev pub joined_mark : ℕ → M
     joined_mark i = mark (joined_point n body i) (suc (fixed.rank + i)) (leap_value dom engine b.scope b.sites n guard body i y.value)
 

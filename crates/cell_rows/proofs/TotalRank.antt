@@ -115,7 +115,7 @@ module _ (engine : LoopOptions) (program : List Routine) (once : Distinct (keys 
     good (Call n call q r) x o k = each_more Good (E x (Call n call q r)) _ (record { among = k _ here; named = refl; off = o; parts = tt }) (good r (after_it (Call n call q r) x) (after_off x (Call n call q r) (k _ here)) (λ p m. k p (there m)))
     good (Break n r) x o k = each_more Good (E x (Break n r)) _ (record { among = k _ here; named = refl; off = o; parts = tt }) (good r (after_it (Break n r) x) (after_off x (Break n r) (k _ here)) (λ p m. k p (there m)))
 
-  -- All statements of the program are good, and all those in front of their procedures are the program's.
+  -- All statements of the program are good, and all those before their procedures are the program's.
   abbrev pub Whole : List Routine → Type 0
   Whole ps = (x : ℕ × Spread) → Member x (spread engine ps) → Member x (spread engine program)
 
@@ -132,7 +132,7 @@ module _ (engine : LoopOptions) (program : List Routine) (once : Distinct (keys 
   in_spread_of e q (y ∷ xs) here = here
   in_spread_of e q (y ∷ xs) (there m) = there (in_spread_of e q xs m)
 
-  -- the scope of a procedure behind these
+  -- the scope of a procedure after these
   abbrev pub Sc : Routine → List Routine → Scope
   Sc = scope_of engine bare
 

@@ -5,7 +5,7 @@ use Rattle.domain_laws.specs.Operations.{Operations}
 use Rattle.batch_meaning.specs.Values.{Value, lift, lift2}
 use Rattle.batch_meaning.specs.Batch.{LoopOptions, next_of, head_of, behind, batch}
 
--- A statement with what is behind it, and the value in front of it.
+-- A statement with what is after it, and the value before it.
 pub record Local (S : Type 0) : Type 0 where
   pub before : Value S
   pub code : Code

@@ -14,7 +14,7 @@ use Rattle.cell_rows.specs.Blocks.{iterate_at, round}
 use Rattle.cell_rows.specs.Names.{Scope, name, Algebra, bare, iterate_point, mark_of, Mark}
 use Rattle.cell_rows.specs.Rows.{Unary, Posts, Assumes, Enters, Exits, Binary, JoinsBoth, Leaves, Widens, Row, Init, One, Two, Fixed as FixedRow, Joins, row}
 
--- What a cell holds: a value, and at a loop's fixed point, and behind the loop with the first of its breaks, also the
+-- What a cell holds: a value, and at a loop's fixed point, and after the loop with the first of its breaks, also the
 -- loop's index.
 abbrev pub Cell : Type 0 → Type 0
 Cell S = Fixed S
@@ -42,7 +42,7 @@ module _ {S : Type 0} (dom : Operations S) (engine : LoopOptions) where
     abbrev pub block : Code → Value S → Passed S
     block = batch dom engine scope.thresholds z calls
 
-    -- The value behind the first statement of this code.
+    -- The value after the first statement of this code.
     abbrev pub after_value : Code → Value S → Value S
     after_value Stop a = a
     after_value (Simple n effect r) a = lift (dom.post (Does effect)) a
@@ -89,7 +89,7 @@ module _ {S : Type 0} (dom : Operations S) (engine : LoopOptions) where
   binary (Leaves returning) a b = plain (lift2 (dom.leave returning) a.value b.value)
   binary (Widens thresholds) a b = plain (lift2 (dom.widen thresholds) a.value b.value)
 
-  -- Whether another iterate is wanted: `left` of the budget, the last iterate that was read, and the values of those behind it.
+  -- Whether another iterate is wanted: `left` of the budget, the last iterate that was read, and the values of those after it.
   abbrev pub again : S → Value S → (S → Bool) → Bool
   again s (Over n z) go = false
   again s (State t) go = if dom.same t s then false else go t

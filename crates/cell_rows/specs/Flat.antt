@@ -12,8 +12,8 @@ use Rattle.cell_rows.specs.Rows.{Row, Init, sites_of, branch_row, post_row, next
 use Rattle.cell_rows.specs.Targets.{Text, texts}
 
 -- The rows of a statement's points, by what is known of a statement (each takes it from G): into a call of this number,
--- into a branch, into round k of a loop of this number, the iterate behind the k-th, where they stop, behind the loop by
--- its condition, with a break, and behind the statement.
+-- into a branch, into round k of a loop of this number, the iterate after the k-th, where they stop, after the loop by
+-- its condition, with a break, and after the statement.
 pub record RowsAt (G : Type 0) : Type 0 where
   pub enter : List NameFrame → ℕ → G
   pub branch : List NameFrame → Bool → G
@@ -43,7 +43,7 @@ module _ {G : Type 0} (start : Row) (by : List NameFrame → ℕ → G → Optio
   row_by w (Exit n) = by w n (rows.exit w)
   row_by w (Leap n k) = by w n (rows.leap w k)
 
--- A statement of the program: its procedure, those in front of it, and its text.
+-- A statement of the program: its procedure, those before it, and its text.
 pub record Flat : Type 0 where
   pub routine : Routine
   pub earlier : List Routine

@@ -21,7 +21,7 @@ start_point [] = Entry
 start_point (InCall n ∷ w) = Entry
 start_point (InLoop n k ∷ w) = Body
 
--- What a block's procedure is to it: the thresholds of its widening, and the procedures in front of it, the last first.
+-- What a block's procedure is to it: the thresholds of its widening, and the procedures before it, the last first.
 pub record Scope : Type 0 where
   pub thresholds : List ℤ
   pub earlier : List Routine
@@ -35,12 +35,12 @@ pub record Mark (V : Type 0) : Type 0 where
 abbrev pub mark : {V : Type 0} → Point → ℕ → V → Mark V
 mark p r v = record { point = p; rank = r; value = v }
 
--- A statement: the mark in front of it, and its code with what is behind it.
+-- A statement: the mark before it, and its code with what is after it.
 pub record At (V : Type 0) : Type 0 where
   pub before : Mark V
   pub code : Code
 
--- What is computed at the marks, by the procedures in front of the own one, and the call sites.
+-- What is computed at the marks, by the procedures before the own one, and the call sites.
 pub record Algebra (V : Type 0) : Type 0 where
   pub start : V
   pub after : Scope → List ℕ → Code → V → V
@@ -91,7 +91,7 @@ item (n ∷ ns) zero = n
 item (n ∷ ns) (suc i) = item ns i
 
 module _ (engine : LoopOptions) where
-  -- From a mark to the one behind its statement, by the ranks of the callees' bodies.
+  -- From a mark to the one after its statement, by the ranks of the callees' bodies.
   abbrev pub round_span : ℕ → ℕ
   round_span s = s + 2
 
@@ -155,7 +155,7 @@ module _ (engine : LoopOptions) where
       last (Call n call q r) x = last r (behind_it (Call n call q r) x)
       last (Break n r) x = last r (behind_it (Break n r) x)
 
-      -- The marks in front of the breaks that leave the loop around it.
+      -- The marks before the breaks that leave the loop around it.
       abbrev pub leaves : Code → Mark V → List (Mark V)
       leaves Stop x = []
       leaves (Simple n effect r) x = leaves r (behind_it (Simple n effect r) x)
@@ -186,7 +186,7 @@ module _ (engine : LoopOptions) where
     in_call b n x (Call m call q r) = start_of (from b.scope.earlier q) (n ∷ b.sites) (mark Entry (suc x.rank) (alg.enter call.entering x.value))
     in_call b n x _ = None
 
-    -- The mark of an iterate, the one in front of the loop for the first.
+    -- The mark of an iterate, the one before the loop for the first.
     abbrev pub iterate_point : ℕ → Point → ℕ → Point
     iterate_point n p zero = p
     iterate_point n p (suc k) = Iterate n (suc k)

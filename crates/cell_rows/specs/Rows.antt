@@ -27,12 +27,12 @@ pub data Row : Type 0 where
   Init : Layout → Row
   One : Unary → CellName → Row
   Two : Binary → CellName → CellName → Row
-  -- the iterates of the loop n in this path, the point in front of it the first
+  -- the iterates of the loop n in this path, the point before it the first
   Fixed : (n : ℕ) (sites : List ℕ) → List NameFrame → Point → Row
-  -- a value behind the loop n, and this point in the loop's last round; whether the loop's index stays
+  -- a value after the loop n, and this point in the loop's last round; whether the loop's index stays
   Joins : (stays : Bool) (left : CellName) (n : ℕ) → List NameFrame → Point → Row
 
--- The point at the end of a block, and those in front of the breaks that leave the loop around it.
+-- The point at the end of a block, and those before the breaks that leave the loop around it.
 abbrev pub last_point : Code → Point → Point
 last_point Stop p = p
 last_point (Simple n effect r) p = last_point r (Post n)
@@ -49,7 +49,7 @@ leave_points (While n guard b r) p = leave_points r (Post n)
 leave_points (Call n call q r) p = leave_points r (Post n)
 leave_points (Break n r) p = p ∷ leave_points r (Post n)
 
--- The value behind a loop with its first i breaks.
+-- The value after a loop with its first i breaks.
 abbrev pub joined_point : ℕ → Code → ℕ → Point
 joined_point n body zero = Exit n
 joined_point n body (suc i) = Leap n (item (break_numbers body) i)

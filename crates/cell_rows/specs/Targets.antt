@@ -16,7 +16,7 @@ use Rattle.cell_rows.specs.Names.{name}
 use Rattle.cell_rows.specs.Rows.{last_point}
 use Rattle.cell_rows.specs.Cells.{Cell}
 
--- A statement in the text: the loops around it in its block, outermost first, the point in front of it, its code.
+-- A statement in the text: the loops around it in its block, outermost first, the point before it, its code.
 pub record Text : Type 0 where
   pub loops : List ℕ
   pub front : Point
@@ -102,7 +102,7 @@ module _ {S : Type 0} where
   unless_over (Over n z) a b = a
   unless_over (State s) a b = b
 
-  -- The next name that a target demands from this path on, by the values found so far; behind it all, that of `rest`.
+  -- The next name that a target demands from this path on, by the values found so far; after it all, that of `rest`.
   abbrev pub next_in : (List (Cell S) → Option CellName) → List TargetStep → Point → List NameFrame → List (Cell S) → Option CellName
   next_in rest [] p w [] = Some (name w p)
   next_in rest [] p w (v ∷ vs) = rest vs

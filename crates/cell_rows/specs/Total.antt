@@ -10,7 +10,7 @@ use Rattle.cell_names.specs.declared.frame.Point.TheVariants.{Entry, Then, Else,
 use Rattle.cell_names.specs.Paths.{CellName}
 use Rattle.cell_rows.specs.Names.{Scope, Mark, mark, At, PathBlock, bare, scope_of, span, body_span, behind_it, inside, entry, branch_mark, post_mark, next_mark, fix_mark, exit_mark, leap_mark}
 
--- A statement of the program: its procedure's scope, the mark in front of it, its code.
+-- A statement of the program: its procedure's scope, the mark before it, its code.
 pub record Spread : Type 0 where
   pub scope : Scope
   pub at : At (Unit {0})

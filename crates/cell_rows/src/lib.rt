@@ -5,7 +5,7 @@
 //! rounds of loops and gives each point also a rank and a value (`specs/Names.antt`, one traversal over an
 //! algebra, so that names, rows and values cannot disagree); the other looks a row up by the number of one
 //! statement alone (`specs/Flat.antt`), which is what code does. A loop's fixed point asks for its iterates
-//! one at a time; a join behind a loop with breaks asks for the value in front of a break in the loop's last
+//! one at a time; a join after a loop with breaks asks for the value before a break in the loop's last
 //! round (`specs/Cells.antt`).
 //!
 //! The functions do nothing when they run; each carries its theorem as its clauses, for the crates that

@@ -10,7 +10,7 @@ use Rattle.imp_chains.specs.Chains.{calls_to, extended, through, chains_within, 
 use Rattle.cert_accepted.proofs.Lists.{made, map_once, thins_in, thins_once}
 use Rattle.cert_accepted.proofs.Numbers.{calls_thin, number_there}
 
--- A chain that ends in one of these calls, behind one of these chains.
+-- A chain that ends in one of these calls, after one of these chains.
 pub record Extends (zs : List (List ℕ)) (ns : List ℕ) (y : List ℕ) : Type 0 where
   pub last : ℕ
   pub before : List ℕ

@@ -104,7 +104,7 @@ module _ {S : Type 0} (dom : Operations S) (port : Portable S) (engine : LoopOpt
   abbrev IsNew : List (CertEntry S) → List ℕ × ℕ → Type 0
   IsNew done x = written_in done x.0 x.1 ≡ None
 
-  -- The lines of these loops, behind entries of others, come to entries with the states of these loops.
+  -- The lines of these loops, after entries of others, come to entries with the states of these loops.
   pub record Come (xs : List (List ℕ × ℕ)) (i : ℕ) (done : List (CertEntry S)) (ds : List Data) : Type 0 where
     pub told : List (CertEntry S)
     pub reads : entries port program i done (map compact_text ds) ≡ Reads told

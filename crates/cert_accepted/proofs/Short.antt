@@ -79,7 +79,7 @@ calls_before before l p n (Break m r) f k = calls_before before l p n r f k
 
 -- ---- the procedure of a routine
 
--- The routine at a place is that of a procedure, with those in front of it.
+-- The routine at a place is that of a procedure, with those before it.
 record Comes (earlier ps : List Procedure) (j : ℕ) (r : Routine) : Type 0 where
   front : List Procedure
   own : Procedure
@@ -95,7 +95,7 @@ comes earlier (p ∷ ps) (suc j) r e =
     let c = comes (earlier ++ p ∷ []) ps j r e in
     record { front = p ∷ c.front; own = c.own; rest = c.rest; are = ap (λ ps. p ∷ ps) c.are; place = ap suc c.place; is = c.is ∙ ap (λ es. routine_of es c.own) (append_assoc earlier (p ∷ []) c.front) }
 
--- what fits in turn fits those in front of it
+-- what fits in turn fits those before it
 fits_there : (before rs : List Routine) (j : ℕ) (r : Routine) → FitInTurn before rs → slice_get rs j ≡ Some r → (front : List Routine) × (length front ≡ length before + j) × FitsCode front r.layout r.code
 fits_there before [] j r f e = cc
 fits_there before (x ∷ rs) zero r f e = (before, omega arith, subst (λ (r : Routine). FitsCode before r.layout r.code) (same_Some x r e) f.0.code)
@@ -118,7 +118,7 @@ told_to : (f w : List ℕ) (mid : List Procedure) (q : Procedure) (later : List 
 told_to f w [] q later m = in_left (chains_through f later) m
 told_to f w (x ∷ mid) q later m = in_right (told.extended (chains_to x.name (mid ++ q ∷ later)) (calls f x.body)) (told_through f w mid q later m)
 
--- a procedure that stands further behind than another
+-- a procedure that stands further after than another
 parted : (pre : List Procedure) (p : Procedure) (later front : List Procedure) (q : Procedure) (rest : List Procedure) → pre ++ p ∷ later ≡ front ++ q ∷ rest → length pre < length front → (mid : List Procedure) × (later ≡ mid ++ q ∷ rest)
 parted pre p later [] q rest e h = absurd (omega arith)
 parted [] p later (x ∷ front) q rest e h = (front, cc)
@@ -133,7 +133,7 @@ module _ (ps : List Procedure) (checked : IsChecked (routines_of ps)) where
   abbrev Named : ℕ → Type 0
   Named most = (pre : List Procedure) (p : Procedure) (later : List Procedure) → ps ≡ pre ++ p ∷ later → (z : List ℕ) → Member z (chains_within most (routines_of ps) (length pre)) → Member (reverse z) (chains_to p.name later)
 
-  -- a chain behind a call of another procedure
+  -- a chain after a call of another procedure
   behind_call : (most : ℕ) → Named most → (pre : List Procedure) (p : Procedure) (later : List Procedure) → ps ≡ pre ++ p ∷ later → (front : List Procedure) (own : Procedure) (rest : List Procedure) → ps ≡ front ++ own ∷ rest → length pre < length front →
       (n : ℕ) (y : List ℕ) → Member n (calls_to (length pre) (routine_of front own).code) → Member y (chains_within most (routines_of ps) (length front)) → Member (reverse (n ∷ y)) (chains_to p.name later)
   behind_call most inner pre p later are front own rest is lower n y call chain =

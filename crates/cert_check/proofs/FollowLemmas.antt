@@ -61,7 +61,7 @@ module _ {S : Type 0} (dom : Operations S) (leq : S → S → Bool) (written : (
       go (Passes y ys) = ends (leq y x) (joined dom (dom.assume g false x) ys)
       go (Fails m y w) = refl
 
-  -- a statement, and what comes behind it
+  -- a statement, and what comes after it
   follows_before : (s : SlotNode) (r : Code) (a : S) → B (before_code s r) a ≡ passing (B (before_code s Stop) a) (λ y ys. with_leaving ys (B r y))
   follows_before (node.Simple n e) r a = sym (after_none (B r (dom.post (Does (effect_of e)) a)))
   follows_before (node.If n g t e) r a = first (B t (dom.assume g true a))

@@ -15,7 +15,7 @@ why_of why.Missing = plain.Missing
 why_of why.Entry = plain.Entry
 why_of why.Step = plain.Step
 
--- A block ends so, with these states in front of breaks.
+-- A block ends so, with these states before breaks.
 abbrev pub ended : {S : Type 0} → (leaving : List S) → Followed S → plain.Followed S
 ended leaving (Behind s) = plain.Passes s leaving
 ended leaving (Fails n chain w) = plain.Fails n (reverse chain) (why_of w)
@@ -24,7 +24,7 @@ ended leaving (Fails n chain w) = plain.Fails n (reverse chain) (why_of w)
 abbrev pub EndsSo : {S : Type 0} → plain.Followed S → Followed S → Type 0
 EndsSo {S} p r = (leaving : List S) × (p ≡ ended leaving r)
 
--- what comes of this with what is behind a block
+-- what comes of this with what is after a block
 abbrev pub behind_by : {S : Type 0} → (S → S) → Followed S → Followed S
 behind_by f (Behind s) = Behind (f s)
 behind_by f (Fails n chain w) = Fails n chain w
@@ -33,7 +33,7 @@ behind_by f (Fails n chain w) = Fails n chain w
 abbrev pub turned : {S : Type 0} → Operations S → (S → S → Bool) → (z : List ℕ) → (n : ℕ) → Guard → (x : S) → plain.Followed S → plain.Followed S
 turned dom leq z n g x p = plain.passing p (λ y ys. plain.unless (leq y x) (plain.Fails n z plain.Step) (plain.Passes (plain.joined dom (dom.assume g false x) ys) []))
 
--- a round, and what is behind the loop
+-- a round, and what is after the loop
 abbrev pub round : {S : Type 0} → Operations S → (S → S → Bool) → (z : List ℕ) → (n : ℕ) → Guard → (body : S → plain.Followed S) → (x : S) → plain.Followed S
 round dom leq z n g body x = turned dom leq z n g x (body (dom.assume g true x))
 

@@ -1,4 +1,4 @@
-//! What stands behind a statement, from what its parts come to: the steps of [`follow_main`](crate::following) that
+//! What stands after a statement, from what its parts come to: the steps of [`follow_main`](crate::following) that
 //! follow no block.
 ghost use Rattle.std.specs.Prelude.{◌≡◌, ◌++◌, ◌∷◌, [], false, IfOk, OnOk};
 ghost use Rattle.std.specs.Option.{option_copied};
@@ -21,7 +21,7 @@ use imp_syntax::StmtId;
 use std::alloc::Global;
 use std::sync::ledger::Ledger;
 
-/// Behind a simple statement.
+/// After a simple statement.
 pub(crate) fn act<D: Portable, L: Ledger>(
     alloc: Global,
     dom: &D,
@@ -35,7 +35,7 @@ pub(crate) fn act<D: Portable, L: Ledger>(
     Ok(Followed::Behind(next))
 }
 
-/// Behind a break, in front of which the state leaves.
+/// After a break, before which the state leaves.
 pub(crate) fn leave_loop<D: Portable, L: Ledger>(
     alloc: Global,
     dom: &D,
@@ -50,7 +50,7 @@ pub(crate) fn leave_loop<D: Portable, L: Ledger>(
     Ok(Followed::Behind(next))
 }
 
-/// Behind an if, from what its blocks come to.
+/// After an if, from what its blocks come to.
 pub(crate) fn join_blocks<D: Portable, L: Ledger>(
     alloc: Global,
     dom: &D,
@@ -66,7 +66,7 @@ pub(crate) fn join_blocks<D: Portable, L: Ledger>(
     }
 }
 
-/// Behind a call, from what the body of its procedure comes to.
+/// After a call, from what the body of its procedure comes to.
 pub(crate) fn leave_call<D: Portable, L: Ledger>(
     alloc: Global,
     dom: &D,
@@ -114,7 +114,7 @@ pub(crate) fn head_of<'a, S: Drop>(
     Ok(written.get(&key))
 }
 
-/// Behind a loop: its head where the condition is false, joined with what leaves the body.
+/// After a loop: its head where the condition is false, joined with what leaves the body.
 fn behind_loop<D: Portable, L: Ledger>(
     alloc: Global,
     dom: &D,

@@ -21,7 +21,7 @@ pub(crate) struct Follower<'a, D, S> {
 pub(crate) enum Why {
     /// No state is written.
     Missing,
-    /// The state in front of the loop is not found below the written one.
+    /// The state before the loop is not found below the written one.
     Entry,
     /// What a round makes of the written state is not found below it.
     Step,
@@ -30,7 +30,7 @@ pub(crate) enum Why {
 /// What following a block comes to.
 #[derive(Drop)]
 pub(crate) enum Followed<S> {
-    /// The state behind it.
+    /// The state after it.
     Behind(S),
     /// The first loop whose written state does not do.
     Fails {

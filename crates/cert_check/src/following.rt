@@ -19,7 +19,7 @@ use imp_slots::{Routine, SlotBlock, SlotCall, SlotCond, SlotNode};
 use std::alloc::Global;
 use std::sync::ledger::Ledger;
 
-/// A block: the state behind it, or the first loop whose written state does not do. The states in front of
+/// A block: the state after it, or the first loop whose written state does not do. The states before
 /// breaks that leave the loop around it are added to `leaving`.
 #[cycle(following)]
 #[tactic(auto, using(imp_slots::specs::BlockFalls::node_falls))]
@@ -64,7 +64,7 @@ fn follow_node<D: Portable, L: Ledger>(
     }
 }
 
-/// A block, from where the condition in front of it has this truth value.
+/// A block, from where the condition before it has this truth value.
 #[cycle(following)]
 fn follow_branch<D: Portable, L: Ledger>(
     follower: &Follower<D, D::State>,
@@ -104,7 +104,7 @@ fn follow_if<D: Portable, L: Ledger>(
     join_blocks(follower.alloc, follower.dom, &left, right, steps)
 }
 
-/// A loop, from the state in front of it.
+/// A loop, from the state before it.
 #[cycle(following)]
 fn follow_while<D: Portable, L: Ledger>(
     follower: &Follower<D, D::State>,
@@ -128,7 +128,7 @@ fn follow_while<D: Portable, L: Ledger>(
     }
 }
 
-/// A round of a loop from its head, and what is behind the loop.
+/// A round of a loop from its head, and what is after the loop.
 #[cycle(following)]
 fn follow_round<D: Portable, L: Ledger>(
     follower: &Follower<D, D::State>,
@@ -163,7 +163,7 @@ fn follow_call<D: Portable, L: Ledger>(
     leave_call(follower.alloc, follower.dom, call, state, done, steps)
 }
 
-/// The procedure at a place, where it stands in front of the one at `place`.
+/// The procedure at a place, where it stands before the one at `place`.
 fn callee_at(routines: &[Routine], place: usize, callee: usize) -> Option<&Routine>
     ensures is { option_copied result ≡ slice_get (take place routines.now) callee }
 {
@@ -174,7 +174,7 @@ fn callee_at(routines: &[Routine], place: usize, callee: usize) -> Option<&Routi
     }
 }
 
-/// The body of a procedure that is called, from the state in front of it.
+/// The body of a procedure that is called, from the state before it.
 #[cycle(following)]
 #[tactic(auto, using(batch_interp::proofs::Weights::weight_falls))]
 fn follow_callee<D: Portable, L: Ledger>(

@@ -82,7 +82,7 @@ fn put_verified(text: &mut Vec<u8>, verified: &Verified) -> Result<(), Memory>
     }
 }
 
-/// The line that says what checking comes to. It fails for want of memory alone.
+/// The line that says what checking comes to. It fails only when memory runs out.
 pub(crate) fn verified_line(alloc: Global, verified: &Verified) -> Result<Vec<u8>, Memory>
     ensures line { IfOk result (λ v. v.items ≡ verified_line (verified_of verified.now)) }
 {

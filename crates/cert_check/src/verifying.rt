@@ -63,7 +63,7 @@ fn verified<D: Portable, L: Ledger>(
 /// The line that says whether a certificate of a program holds: `{"verify":"yes"}`; or the first bad line, counted
 /// from 1, as `{"line":i,"verify":"no"}`; or the first loop, as main's body is followed, of which what is written
 /// does not do, as `{"at":n,"chain":[..],"verify":"no","why":W}`, with W `missing` where no state is written,
-/// `entry` where the state in front of the loop is not found below the written one, `step` where what a round makes
+/// `entry` where the state before the loop is not found below the written one, `step` where what a round makes
 /// of it is not.
 ///
 /// Where the answer is yes, each configuration of a run that stands at the test of a loop, under any inputs, is
@@ -71,7 +71,7 @@ fn verified<D: Portable, L: Ledger>(
 /// answer is yes for the lines that `certificate` of `cert_write` writes of the program, with whatever budget and widening,
 /// where joins and widenings of the domain are above both sides.
 ///
-/// Nothing is widened, and no loop is gone through more than once under a chain. Its only error is want of memory.
+/// Nothing is widened, and no loop is gone through more than once under a chain. Its only error is out of memory.
 pub fn verify<D: Portable, L: Ledger>(
     alloc: Global,
     dom: &D,

@@ -1,4 +1,4 @@
--- The head of a loop is above the state in front of it, and above what a round makes of it.
+-- The head of a loop is above the state before it, and above what a round makes of it.
 use Rattle.std.specs.Prelude.{◌≡◌, ℕ, zero, suc, nat_lt, ℤ, List, Bool, true, false, if◌then◌else◌}
 use Rattle.std.proofs.Common.{refl, subst, sym, ◌∙◌}
 use Rattle.imp_slots.specs.Plain.{Layout}
@@ -25,7 +25,7 @@ module _ {S : Type 0} (dom : Operations S) (engine : LoopOptions) (covers : S �
       go true = record { fits = laws.fitting.join ls s w f g; left = bounds.join_left ls s w f g; right = bounds.join_right ls s w f g }
       go false = record { fits = laws.fitting.widen thresholds ls s w rising f g; left = bounds.widen_left thresholds ls s w rising f g; right = bounds.widen_right thresholds ls s w rising f g }
 
-  -- The head x of a loop whose body this is, from the state a in front of it.
+  -- The head x of a loop whose body this is, from the state a before it.
   pub record IsUp (body : Value S → Value S) (a x : S) : Type 0 where
     pub fits : dom.fits x ls ≡ true
     pub entry : leq a x ≡ true

@@ -53,7 +53,7 @@ module _ {S : Type 0} (dom : Operations S) (engine : LoopOptions) (covers : S �
   joined_states s [] = refl
   joined_states s (x ∷ ss) = joined_states (dom.join s x) ss
 
-  -- A procedure under a chain, from the state in front of its body; below it are frames of these layouts.
+  -- A procedure under a chain, from the state before its body; below it are frames of these layouts.
   pub record Frame : Type 0 where
     pub z : List ℕ
     pub lower : List Layout
@@ -183,7 +183,7 @@ module _ {S : Type 0} (dom : Operations S) (engine : LoopOptions) (covers : S �
               ap (λ c. unless c (Fails n f.z Step) (F r z)) (up.again one.ahead one.value) ∙ w.follows;
         }
 
-    -- A call: the chain with it is one of the callee's, and the callee is entered from the state in front of it.
+    -- A call: the chain with it is one of the callee's, and the callee is entered from the state before it.
     called : (n : ℕ) (i : Invoke) (q : ℕ) (t : Routine) (v : S) (w : Value S) → look f.earlier q ≡ Some t → t.layout ≡ i.entering.layout → dom.fits (dom.enter i.entering v) (i.entering.layout ∷ layouts) ≡ true → At n (spot (State v) None w (Some (i, q))) → SameCall (procedure dom engine f.earlier (n ∷ f.z) q (State (dom.enter i.entering v))) (followed_procedure dom leq written f.earlier (n ∷ f.z) q (dom.enter i.entering v))
     called n i q t v w at lay fe here_at =
         let fl = from_look f.earlier q t at in

@@ -2,7 +2,7 @@
 //!
 //! [`certificates_hold`] does nothing when it runs, and carries the theorem as its clause. The proof goes
 //! through batch interpretation and following side by side: each block gives the same states in both, since
-//! the head of a loop is what is written of it, is above the state in front of the loop, and above what a
+//! the head of a loop is what is written of it, is above the state before the loop, and above what a
 //! round makes of it.
 #![tactic(auto)]
 

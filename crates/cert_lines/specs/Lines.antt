@@ -55,7 +55,7 @@ abbrev pub unless_there : {S : Type 0} → Option S → Entries S → Entries S 
 unless_there None bad go = go
 unless_there (Some s) bad go = bad
 
--- an entry in front of those before it, unless there is none, or its loop and call sites have one
+-- an entry before those before it, unless there is none, or its loop and call sites have one
 abbrev pub with_entry : {S : Type 0} → (line : ℕ) → List (CertEntry S) → Option (CertEntry S) → (List (CertEntry S) → Entries S) → Entries S
 with_entry line done None go = Bad line
 with_entry line done (Some e) go = unless_there (written_in done e.sites e.at) (Bad line) (go (e ∷ done))
@@ -77,7 +77,7 @@ module _ {S : Type 0} (port : Portable S) (program : List Routine) where
   abbrev pub entry_of : List ℕ → Option (CertEntry S)
   entry_of bytes = option_and_then entry_in (line_of bytes)
 
-  -- the entries of these lines, the first of which is the i-th, behind those before them
+  -- the entries of these lines, the first of which is the i-th, after those before them
   abbrev pub entries : (i : ℕ) → List (CertEntry S) → List (List ℕ) → Entries S
   entries i done [] = Reads done
   entries i done (line ∷ lines) = with_entry i done (entry_of line) (λ es. entries (i + 1) es lines)

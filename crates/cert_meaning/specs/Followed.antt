@@ -4,14 +4,14 @@ use Rattle.imp_slots.specs.Plain.{DoBreak, Does, Code, Stop, Simple, If, While, 
 use Rattle.domain_laws.specs.Operations.{Operations}
 use Rattle.batch_meaning.specs.Places.{main_layout}
 
--- Why what is written of a loop does not do: no state is written, the state in front of the loop is not found below it,
+-- Why what is written of a loop does not do: no state is written, the state before the loop is not found below it,
 -- or the state that a round makes of it is not.
 pub data Why : Type 0 where
   Missing : Why
   Entry : Why
   Step : Why
 
--- What following a block comes to: the state behind it with those in front of the breaks that leave the loop around it,
+-- What following a block comes to: the state after it with those before the breaks that leave the loop around it,
 -- or the first loop whose written state does not do, with its call sites, the last first.
 pub data Followed (S : Type 0) : Type 0 where
   Passes : (behind : S) → (leaving : List S) → Followed S
@@ -44,7 +44,7 @@ joined dom s (x ∷ xs) = joined dom (dom.join s x) xs
 
 -- `written` gives the state that is written of a loop under call sites, the last first.
 module _ {S : Type 0} (dom : Operations S) (leq : S → S → Bool) (written : (z : List ℕ) → (n : ℕ) → Option S) where
-  -- A block under the call sites z, from the state in front of it; `calls` follows the body of the procedure that a
+  -- A block under the call sites z, from the state before it; `calls` follows the body of the procedure that a
   -- statement calls. A loop is gone through once, from its written state.
   module _ (z : List ℕ) (calls : (n q : ℕ) → S → Followed S) where
     abbrev pub followed : Code → S → Followed S
@@ -62,8 +62,8 @@ module _ {S : Type 0} (dom : Operations S) (leq : S → S → Bool) (written : (
     followed (Call n i q r) a = passing (calls n q (dom.enter i.entering a)) (λ d ds. followed r (dom.leave i.returning a d))
     followed (Break n r) a = with_leaving (a ∷ []) (followed r (dom.post DoBreak a))
 
-  -- The body of procedure q, from the state in front of it. The procedures have the last one first, so those that one
-  -- calls stand behind it.
+  -- The body of procedure q, from the state before it. The procedures have the last one first, so those that one
+  -- calls stand after it.
   abbrev pub followed_procedure : List Routine → (z : List ℕ) → (q : ℕ) → S → Followed S
   followed_procedure [] z q a = Passes a []
   followed_procedure (r ∷ earlier) z q a =

@@ -9,7 +9,7 @@ use std::alloc::Global;
 
 /// A domain whose states can be carried: written as a text, read back, and compared.
 ///
-/// The only error is want of memory.
+/// The only error is out of memory.
 pub trait Portable: Domain {
     ghost port: { Self → Port Self.State };
 

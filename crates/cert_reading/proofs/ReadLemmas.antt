@@ -68,11 +68,11 @@ module _ {S : Type 0} (port : Portable S) (program : List Routine) (all : plain.
   alone [] h = absurd (omega arith)
   alone (b ∷ rest) h = refl
 
-  -- what is behind the last LF
+  -- what is after the last LF
   pub at_end : (table : List (List ℕ × S)) (i : ℕ) (part text : List ℕ) (k : ℕ) → length text ≤ k → IsReading port program table i (lines_from part (drop k text)) all → IsReading port program table i (last_line part) all
   at_end table i part text k h r = along table i (lines_from part (drop k text)) (last_line part) (ap (lines_from part) (drop_all k text h)) r
 
-  -- the rest of the lines, and what is behind the last LF
+  -- the rest of the lines, and what is after the last LF
   pub rest_read : (table more : List (List ℕ × S)) (i : ℕ) (part : List ℕ) → 0 < length part → IsAdded port program part table more true → IsReading port program table i (last_line part) all → (es : List (plain.CertEntry S)) × (all ≡ plain.Reads es) × HasEntries more es
   rest_read table more i part h a r = all_read more (i + 1) (line_read table more i part [] a (along table i (last_line part) (part ∷ []) (alone part h) r))
 

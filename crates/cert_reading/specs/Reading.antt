@@ -47,7 +47,7 @@ pub record IsReading {S : Type 0} (port : Portable S) (program : List Routine) (
   pub comes : plain.entries port program line entries rest ≡ all
 
 -- Goes on by one byte, with the table, the number of the line and the pending line before and after it: what was read with
--- the byte in front goes on behind it, or the line that ended is bad.
+-- the byte before goes on after it, or the line that ended is bad.
 abbrev pub GoesOn : {S : Type 0} → Portable S → List Routine → (byte : ℕ) → (table : List (List ℕ × S)) → (line : ℕ) → (part : List ℕ) → (table' : List (List ℕ × S)) → (line' : ℕ) → (part' : List ℕ) → Next → Type 0
 GoesOn {S} port program byte table line part table' line' part' More = (all : plain.Entries S) (rest : List ℕ) → IsReading port program table line (lines_from part (byte ∷ rest)) all → IsReading port program table' line' (lines_from part' rest) all
 GoesOn {S} port program byte table line part table' line' part' Ended = (all : plain.Entries S) (rest : List ℕ) → IsReading port program table line (lines_from part (byte ∷ rest)) all → all ≡ plain.Bad line'

@@ -88,7 +88,7 @@ fn read_byte<D: Portable>(
     }
 }
 
-/// Reads what is behind the last LF, if it has a byte.
+/// Reads what is after the last LF, if it has a byte.
 fn read_rest<D: Portable>(
     alloc: Global,
     dom: &D,
@@ -149,7 +149,7 @@ fn read_lines<D: Portable>(
 
 /// Reads the lines of a certificate of a program, in their order, up to the first bad one. The program has no fault, and the
 /// certificate fewer than 2^64 bytes. It takes the time of finding the chains of the program, and time linear in the
-/// certificate, beside what the domain takes for its texts. Its only error is want of memory.
+/// certificate, beside what the domain takes for its texts. Its only error is out of memory.
 pub fn read_certificate<D: Portable>(
     alloc: Global,
     dom: &D,

@@ -24,7 +24,7 @@ impl<S> Model for Written<S> {
     ghost view = { λ a. a.states.entries };
 }
 
-/// What a state stands under: a loop, and behind it the call sites of its chain, the last one first. It fails for want of
+/// What a state stands under: a loop, and after it the call sites of its chain, the last one first. It fails for want of
 /// memory alone.
 pub fn loop_key(alloc: Global, stmt: StmtId, sites: &[StmtId]) -> Result<Items<StmtId>, Memory>
     ensures is { IfOk result (λ key. key ≡ stmt ∷ sites.now) }

@@ -43,7 +43,7 @@ no_head_end : (o : Option Routine) (n : ℕ) → option_map (λ (r : Routine). E
 no_head_end None n e = cc
 no_head_end (Some r) n e = cc
 
--- breaks out of a block and out of what is behind it go to the same work
+-- breaks out of a block and out of what is after it go to the same work
 leave_push : (c : Code) (w : Work) → leave_loop (push c w) ≡ leave_loop w
 leave_push Stop w = refl
 leave_push (Simple n e r) w = refl
@@ -91,12 +91,12 @@ module _ {S : Type 0} (dom : Operations S) (leq : S → S → Bool) (written : L
   abbrev pub Runs : Place → ℕ → Work → S → Type 0
   Runs f k w s = (h : Heap) (v : Variables) → IsProper h (v ∷ variables_of f.below) (f.layout ∷ f.lower) → covers s h (v ∷ variables_of f.below) → IsSafe k (goes_on f.p f.below h v w)
 
-  -- and with the work behind a loop, where there is one, from each of these states
+  -- and with the work after a loop, where there is one, from each of these states
   abbrev pub Leaves : Place → ℕ → Option Work → List S → Type 0
   Leaves f k o [] = Unit {0}
   Leaves f k o (s ∷ ss) = ((u : Work) → o ≡ Some u → Runs f k u s) × Leaves f k o ss
 
-  -- What is behind a block that is followed is safe.
+  -- What is after a block that is followed is safe.
   abbrev pub Ready : Place → ℕ → Work → Followed S → Type 0
   Ready f k w (Passes b es) = Runs f k w b × Leaves f k (leave_loop w) es
   Ready f k w (Fails n z why) = ⊥
@@ -148,7 +148,7 @@ module _ {S : Type 0} (dom : Operations S) (leq : S → S → Bool) (written : L
   joined_first f s (x ∷ xs) fs fx h vs p c =
       joined_first f (dom.join s x) xs (laws.fitting.join (layouts f) s x fs fx.0) fx.1 h vs p (laws.join_left (layouts f) s x h vs fs fx.0 p c)
 
-  -- from each of these states, with the work behind a loop, since it is safe from their join
+  -- from each of these states, with the work after a loop, since it is safe from their join
   joined_leaves : (f : Place) (k : ℕ) (u : Work) (s : S) (xs : List S) → dom.fits s (layouts f) ≡ true → EachFit dom leq written covers laws program frames (layouts f) xs → Runs f k u (joined dom s xs) → Leaves f k (Some u) xs
   joined_leaves f k u s [] fs fx g = tt
   joined_leaves f k u s (x ∷ xs) fs fx g =
@@ -176,7 +176,7 @@ module _ {S : Type 0} (dom : Operations S) (leq : S → S → Bool) (written : L
         subst (DoesFit dom leq written covers laws program frames (layouts f)) e
         (block_fit dom leq written covers laws program frames (sites f.below) f.layout f.lower known earlier (procedure_fit dom leq written covers laws program frames checked places earlier fb inp f.layout f.lower (sites f.below) known) c a suits own fa)
 
-    -- a block is safe from a state where what is behind it is
+    -- a block is safe from a state where what is after it is
     abbrev IsBlock : Code → S → Type 0
     IsBlock c a = (k : ℕ) (w : Work) → Ready f k w (B c a) → Runs f k (push c w) a
 
@@ -190,7 +190,7 @@ module _ {S : Type 0} (dom : Operations S) (leq : S → S → Bool) (written : L
         (keeps.effects e f.layout f.lower h v (variables_of f.below) x suits.0 o p)
         (laws.post e f.layout f.lower a h v (variables_of f.below) x suits.0 fa p o c))))
 
-    -- A branch of an if: behind it comes the join.
+    -- A branch of an if: after it comes the join.
     branch_safe : (n : ℕ) (c r : Code) (a x z : S) (xs : List S) → B c a ≡ Passes x xs → Under f x z → IsBlock c a → IsBlock r z → (k : ℕ) (w : Work) → Leaves f k (leave_loop w) xs → Ready f k w (B r z) → Runs f k (push c (Done n None (push r w))) a
     branch_safe n c r a x z xs was under block rest k w out g =
         block k (Done n None (push r w))
@@ -230,7 +230,7 @@ module _ {S : Type 0} (dom : Operations S) (leq : S → S → Bool) (written : L
         let same : n ≡ m = cc in
         subst (λ n. IsCovered covers (written (sites f.below) n) h (v ∷ variables_of f.below)) same (subst (λ o. IsCovered covers o h (v ∷ variables_of f.below)) (sym at) i)
 
-    -- The test of a loop at which x is written: a round leads back to it, and what leaves it is behind it.
+    -- The test of a loop at which x is written: a round leads back to it, and what leaves it is after it.
     test_safe : (n : ℕ) (b : Guard) (c r : Code) (x y : S) (ys : List S) → fits_guard f.layout b ≡ true → Fit x → Fit y → EachFit dom leq written covers laws program frames (layouts f) ys → written (sites f.below) n ≡ Some x → B c (dom.assume b true x) ≡ Passes y ys → leq y x ≡ true → IsBlock c (dom.assume b true x) → IsBlock r (joined dom (dom.assume b false x) ys) →
         (k : ℕ) (w : Work) → Ready f k w (B r (joined dom (dom.assume b false x) ys)) → Runs f k (Test n b c (push r w)) x
     test_safe n b c r x y ys suits fx fy fys at was le round rest zero w g h v p i = test_met n b c x (push r w) at h v i
@@ -274,7 +274,7 @@ module _ {S : Type 0} (dom : Operations S) (leq : S → S → Bool) (written : L
     abbrev callee_place : (n : ℕ) → Invoke → (q : ℕ) → Layout → Variables → Work → Place
     callee_place n i q l v w = record { p = q; below = In f.p v (Done n (Some i) w) ∷ f.below; layout = l; lower = f.layout ∷ f.lower }
 
-    -- Behind the callee's body, at its Ret: the caller takes the result.
+    -- After the callee's body, at its Ret: the caller takes the result.
     return_runs : (n : ℕ) (i : Invoke) (q : ℕ) (l : Layout) (w : Work) (a d : S) (h : Heap) (v u : Variables) → l ≡ i.entering.layout → fits_invoke f.layout i ≡ true → Fit a → dom.fits d (i.entering.layout ∷ f.layout ∷ f.lower) ≡ true →
         IsProper h (v ∷ variables_of f.below) (f.layout ∷ f.lower) → pass i.entering v ≡ Gives u → covers a h (v ∷ variables_of f.below) →
         (j : ℕ) → ((b : ℕ) → j ≡ suc b → Runs f b w (dom.leave i.returning a d)) → Runs (callee_place n i q l v w) j (Ret q) d

@@ -4,8 +4,8 @@
 //! crate that checks certificates.
 //!
 //! The proof says of each block that runs from its first state are safe for any number of steps, given that
-//! what is left to do behind it is, from the state that following the block gives, and from those in front
-//! of its breaks behind the loop around it. A configuration is safe for so many steps where it, and each one
+//! what is left to do after it is, from the state that following the block gives, and from those before
+//! of its breaks after the loop around it. A configuration is safe for so many steps where it, and each one
 //! that it comes to by that many steps, is described by the state that is written for it if it stands at
 //! the test of a loop. A loop's test is safe for one step more than what a round leads to.
 #![tactic(auto)]

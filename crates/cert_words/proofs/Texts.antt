@@ -1,4 +1,4 @@
--- Texts of words behind others.
+-- Texts of words after others.
 use Rattle.std.specs.Prelude.{◌≡◌, ℤ, List, [], ◌∷◌, ◌++◌, Option}
 use Rattle.std.proofs.Common.{refl, sym, ap, ◌∙◌, append_assoc, append-nil}
 use Rattle.cert_words.specs.Words.{word_text, more_text}

@@ -7,7 +7,7 @@ abbrev pub word_text : Option ℤ → List ℕ
 word_text None = codes "n"
 word_text (Some z) = signed_decimal z
 
--- each with a space in front
+-- each with a space before
 abbrev pub more_text : List (Option ℤ) → List ℕ
 more_text [] = []
 more_text (w ∷ ws) = 32 ∷ (word_text w ++ more_text ws)

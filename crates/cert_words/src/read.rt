@@ -59,7 +59,7 @@ fn read(alloc: Global, text: &[u8]) -> Result<Vec<Option<i128>>, AllocError>
     Ok(found)
 }
 
-/// The words that have this text, if there are such. It fails for want of memory alone.
+/// The words that have this text, if there are such. It fails only when memory runs out.
 #[tactic(auto, unfolding(crate::specs::Words::words_of))]
 pub fn words_of(alloc: Global, text: &[u8]) -> Result<Option<Vec<Option<i128>>>, Memory>
     ensures exact { IfOk result (λ found. option_map (λ v. v.items) found ≡ meant.words_of text.now) }

@@ -6,7 +6,7 @@ use base_values::{Memory, Text};
 use itoa::Buffer;
 use std::alloc::Global;
 
-/// Adds a word. It fails for want of memory alone.
+/// Adds a word. It fails only when memory runs out.
 pub fn put_word(text: &mut Text, word: Option<i128>) -> Result<(), Memory>
     ensures added { OnOk result (text.new ≡ text.old ++ meant.word_text word) }
 {
@@ -17,7 +17,7 @@ pub fn put_word(text: &mut Text, word: Option<i128>) -> Result<(), Memory>
     text.append(buffer.format(number).as_bytes())
 }
 
-/// Adds a space and a word. It fails for want of memory alone.
+/// Adds a space and a word. It fails only when memory runs out.
 pub fn put_more(text: &mut Text, word: Option<i128>) -> Result<(), Memory>
     ensures added { OnOk result (text.new ≡ text.old ++ (32 ∷ meant.word_text word)) }
 {
@@ -25,7 +25,7 @@ pub fn put_more(text: &mut Text, word: Option<i128>) -> Result<(), Memory>
     put_word(text, word)
 }
 
-/// The text of words. It fails for want of memory alone.
+/// The text of words. It fails only when memory runs out.
 pub fn words_text(alloc: Global, words: &[Option<i128>]) -> Result<Text, Memory>
     ensures exact { IfOk result (λ text. text ≡ meant.words_text words.now) }
 {

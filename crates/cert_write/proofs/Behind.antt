@@ -22,7 +22,7 @@ use Rattle.cert_lines.specs.Certificate.{Certificate, Lines, Gives, under, loops
 use Rattle.cert_write.specs.Writing.{line_data, behind, lines_under, all_lines}
 
 module _ {S : Type 0} (dom : Operations S) (port : Portable S) (engine : LoopOptions) (program : List Routine) where
-  -- a line goes in front of more
+  -- a line goes before more
   line_goes : (z : List ℕ) (n : ℕ) (s : S) (old new : List ℕ) (more : Certificate) → new ≡ old ++ (compact_text (line_data n (reverse z) (port.put s)) ++ 10 ∷ []) → behind old (with_line dom port engine program z n (Some (State s)) more) ≡ behind new more
   line_goes z n s old new (Lines ds) e = sym (append_assoc old (compact_text (line_data n (reverse z) (port.put s)) ++ 10 ∷ []) (lines_text ds)) ∙ ap (λ xs. xs ++ lines_text ds) (sym e)
   line_goes z n s old new (Gives m y) e = refl

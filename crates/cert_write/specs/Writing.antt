@@ -13,7 +13,7 @@ use Rattle.cert_lines.specs.Certificate.{Certificate, Lines, Gives, with_line, l
 abbrev pub line_data : (n : ℕ) → (chain state : List ℕ) → Data
 line_data n chain state = object_of ((codes "at", count n) ∷ (codes "chain", list_of count chain) ∷ (codes "state", string state) ∷ [])
 
--- what is written where these bytes came before: they stay in front of lines, and an Over stands alone
+-- what is written where these bytes came before: they stay before lines, and an Over stands alone
 abbrev pub behind : List ℕ → Certificate → List ℕ
 behind before (Lines ds) = before ++ lines_text ds
 behind before (Gives n z) = certificate_text (Gives n z)
@@ -27,12 +27,12 @@ abbrev pub bytes_in : {Z : Type 0} → Option (Vec ℕ Z) → Option (List ℕ)
 bytes_in o = option_map (λ (v : Vec _ _). v.items) o
 
 module _ {S : Type 0} (dom : Operations S) (port : Portable S) (engine : LoopOptions) (program : List Routine) where
-  -- loops under one chain, with the values at their heads, in front of more
+  -- loops under one chain, with the values at their heads, before more
   abbrev pub lines_under : (z : List ℕ) → List (ℕ × Option (Value S)) → Certificate → Certificate
   lines_under z [] more = more
   lines_under z (h ∷ hs) more = with_line dom port engine program z h.0 h.1 (lines_under z hs more)
 
-  -- the loops of procedures under chains to them, in front of more
+  -- the loops of procedures under chains to them, before more
   abbrev pub all_lines : List (List ℕ × List (ℕ × Option (Value S))) → Certificate → Certificate
   all_lines [] more = more
   all_lines (u ∷ us) more = lines_under u.0 u.1 (all_lines us more)

@@ -43,7 +43,7 @@ fn all_lines<D: Portable>(
 /// frames. Where a loop used up its budget on the way to one of these, the first such line alone is written, as
 /// `{"chain":[..],"over":n}`.
 ///
-/// Its only error is want of memory.
+/// Its only error is out of memory.
 #[tactic(auto, unfolding(cert_lines::specs::Certificate::certificate))]
 pub fn certificate<D: Portable, L: Ledger>(
     alloc: Global,

@@ -17,7 +17,7 @@ use Rattle.concrete_sem.specs.Claims.{StepsGoOn, StepsKeepForm, StartIsWellForme
 use Rattle.concrete_sem.proofs.Keeps.{effects_keep, passing_keeps, returns_keep, start_keeps}
 use Rattle.concrete_sem.proofs.Programs.{Known, known, block_fits, from_match, to_match}
 
--- Blocks in front of work.
+-- Blocks before work.
 push_work : (p : ℕ) (body c : Code) (w : Work) → StandsIn body c → (breaks c ≡ true → has_test w ≡ true) → IsWork p body w → IsWork p body (push c w)
 push_work p body Stop w s b i = i
 push_work p body (Simple n e r) w s b i = (s, λ e. cc, b, i)
@@ -42,7 +42,7 @@ chosen_breaks : (t e r : Code) (b : Bool) → breaks (chosen b t e) ≡ true →
 chosen_breaks t e r true h = or_left (breaks t) (breaks e || breaks r) h
 chosen_breaks t e r false h = or_right (breaks t) (breaks e || breaks r) (or_left (breaks e) (breaks r) h)
 
--- Where a Test stands behind, a break leaves a loop.
+-- Where a Test stands after, a break leaves a loop.
 record Left (p : ℕ) (body : Code) (w : Work) : Type 0 where
   rest : Work
   is : leave_loop w ≡ Some rest

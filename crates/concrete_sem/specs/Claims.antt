@@ -19,10 +19,10 @@ StepsKeepForm = (program : List Routine) → IsChecked program → (c d : Config
 abbrev pub StartIsWellFormed : Type 0
 StartIsWellFormed = (program : List Routine) → IsChecked program → (inputs : List ℤ) → All IsWord inputs → IsWellFormed program (start program inputs)
 
--- pushing a block puts just its Do items in front
+-- pushing a block puts just its Do items before
 abbrev pub PushesItems : Type 0
 PushesItems = (c : Code) (w : Work) → items (push c w) ≡ do_items c ++ items w
 
--- a break removes the items in front of the first Test, which becomes a Done
+-- a break removes the items before the first Test, which becomes a Done
 abbrev pub BreakLeavesItems : Type 0
 BreakLeavesItems = (w : Work) → option_map items (leave_loop w) ≡ leave_items (items w)

@@ -24,7 +24,7 @@ items (Do c w) = do_items c ++ items w
 items (Done n i w) = DoneItem n ∷ items w
 items (Test n g b w) = TestItem n ∷ items w
 
--- the items behind the first Test, which becomes a Done
+-- the items after the first Test, which becomes a Done
 abbrev pub leave_items : List Item → Option (List Item)
 leave_items [] = None
 leave_items (DoItem n ∷ rest) = leave_items rest

@@ -13,7 +13,7 @@ pub record Run : Type 0 where
 abbrev pub ends : RunEnd → Run
 ends e = record { end = e; reached = 0 }
 
--- the run had one more configuration in front
+-- the run had one more configuration before
 abbrev pub counted : (here : Bool) → Run → Run
 counted true r = record r { reached = r.reached + 1 }
 counted false r = r

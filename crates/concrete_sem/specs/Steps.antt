@@ -32,7 +32,7 @@ pub data Step : Type 0 where
   InputsUsedUp : (n : ℕ) → Step
   Ended : Step
 
--- Do of each statement of a block, in front of the work.
+-- Do of each statement of a block, before the work.
 abbrev pub push : Code → Work → Work
 push Stop w = w
 push (Simple n e r) w = Do (Simple n e r) w
@@ -41,7 +41,7 @@ push (While n g b r) w = Do (While n g b r) w
 push (Call n i q r) w = Do (Call n i q r) w
 push (Break n r) w = Do (Break n r) w
 
--- The work behind the innermost loop, from its Done on.
+-- The work after the innermost loop, from its Done on.
 abbrev pub leave_loop : Work → Option Work
 leave_loop (Ret p) = None
 leave_loop (Do c w) = leave_loop w

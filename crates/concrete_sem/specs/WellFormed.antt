@@ -36,7 +36,7 @@ first_call (Call n i q r) = Some i
 first_call (Break n r) = None
 
 -- The items are of statements of procedure p, whose body this is, then its Ret. A Test is of a while. Where a Do holds a
--- break that leaves the loop around it, there is a Test behind.
+-- break that leaves the loop around it, there is a Test after.
 abbrev pub IsWork : (p : ℕ) (body : Code) → Work → Type 0
 IsWork p body (Ret q) = q ≡ p
 IsWork p body (Do c w) = StandsIn body c × (c ≢ Stop) × (breaks c ≡ true → has_test w ≡ true) × IsWork p body w

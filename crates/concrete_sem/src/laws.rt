@@ -23,7 +23,7 @@ pub fn steps_keep_data()
 {}
 
 /// A frame's work as a list of items, one for each statement to be done: a block is pushed as its Do
-/// items, and a break removes the items in front of the first Test, which becomes a Done.
+/// items, and a break removes the items before the first Test, which becomes a Done.
 pub fn work_is_items()
     ensures pushes { PushesItems }
     ensures leaves { BreakLeavesItems }

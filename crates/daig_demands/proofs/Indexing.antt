@@ -25,7 +25,7 @@ use Rattle.cell_rows.proofs.Listed.{each_map, one}
 use Rattle.daig_demands.specs.Indices.{carries_index}
 use Rattle.daig_demands.proofs.Machine.{rows, law}
 
--- The point in front of a statement carries no index.
+-- The point before a statement carries no index.
 abbrev Fronted : ℕ × Text → Type 0
 Fronted q = carries_index q.1.front ≡ false
 

@@ -15,7 +15,7 @@ move : (a k : ℕ) → a + suc k ≡ suc a + k
 move a k = omega arith
 
 module _ {S : Type 0} (dom : Operations S) (engine : LoopOptions) where
-  -- Behind one more state.
+  -- After one more state.
   last_wants : (l k : ℕ) (t : S) → wants dom engine l t [] ≡ nat_lt (suc k) (suc l + k)
   last_wants zero k t = is_not_less (suc k) (suc zero + k) (omega arith)
   last_wants (suc l) k t = sym (less_test (suc k) (suc (suc l) + k) (omega arith))

@@ -32,7 +32,7 @@ module _ {S : Type 0} (f : CellName → Cell S) where
   pub walk_asks : (k : Walk) → asks k ≡ slice_get (names_left f k) 0
   walk_asks k = asks_first k.path k.left
 
-  -- the walk behind a name, and what is found there
+  -- the walk after a name, and what is found there
   abbrev Goes : List CellName → List (Value S) → CellName → List (Value S) → Walk → Type 0
   Goes xs vs y us k = (xs ≡ y ∷ names_left f k) × (vs ≡ us ++ values_left f k)
 

@@ -1,4 +1,4 @@
--- What a report demands: for each checked statement what is asked in front of it, over all chains to its procedure.
+-- What a report demands: for each checked statement what is asked before it, over all chains to its procedure.
 use Rattle.std.specs.Prelude.{List, [], map, Option, Some, None}
 use Rattle.imp_syntax.specs.declared.edit.Location.{Location}
 use Rattle.imp_syntax.specs.declared.edit.Location.TheVariants.{Before}

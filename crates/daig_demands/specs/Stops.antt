@@ -8,13 +8,13 @@ abbrev pub state_of : {S : Type 0} → Value S → Option S
 state_of (State s) = Some s
 state_of (Over n z) = None
 
--- the state of the last of these cells, behind one with the state that is given
+-- the state of the last of these cells, after one with the state that is given
 abbrev pub last_state : {S : Type 0} → Option S → List (Cell S) → Option S
 last_state before [] = before
 last_state before (c ∷ cs) = last_state (state_of c.value) cs
 
 module _ {S : Type 0} (dom : Operations S) where
-  -- Whether another iterate is wanted behind iterate j, which has this value: it is a state, not the one before it once
+  -- Whether another iterate is wanted after iterate j, which has this value: it is a state, not the one before it once
   -- more, and the budget is not used up.
   abbrev pub goes_on : (budget j : ℕ) → (before : Option S) → Value S → Bool
   goes_on budget j before (Over n z) = false

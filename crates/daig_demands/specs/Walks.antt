@@ -19,7 +19,7 @@ pub record Walk : Type 0 where
 abbrev pub walk : List NameFrame → List Target → Walk
 walk w ts = record { path = w; left = ts }
 
--- at the start of main, in front of the first target's steps
+-- at the start of main, before the first target's steps
 abbrev pub start : List Target → Walk
 start ts = walk [] ts
 

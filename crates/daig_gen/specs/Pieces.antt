@@ -48,7 +48,7 @@ array_text c = codes "a = array " ++ decimal c ++ codes ";"
 unfoldable pub input_text : ℕ → List ℕ
 input_text x = variable_text x ++ codes " = input;"
 
--- a new node is put in front of the list q
+-- a new node is put before the list q
 unfoldable pub node_text : List ℕ
 node_text = codes "p = new; p.next = q; q = p;"
 

@@ -19,7 +19,7 @@ ask_text n = codes "{\"at\":\"after " ++ decimal n ++ codes "\",\"do\":\"state\"
 unfoldable pub replace_text : ℕ → ℕ → ℕ → List ℕ
 replace_text n x c = codes "{\"do\":\"replace\",\"id\":" ++ decimal n ++ codes ",\"text\":\"" ++ constant_text x c ++ codes "\"}\n"
 
--- `skip;` behind statement n
+-- `skip;` after statement n
 unfoldable pub insert_text : ℕ → List ℕ
 insert_text n = codes "{\"do\":\"insert\",\"place\":\"after " ++ decimal n ++ codes "\",\"text\":\"skip;\"}\n"
 
@@ -29,7 +29,7 @@ lines_of Ask n s = ask_text n
 lines_of Replace n s = replace_text n (variable s) (constant (next s))
 lines_of Insert n s = insert_text n
 
--- the state behind those draws
+-- the state after those draws
 abbrev pub state_after : ScriptRequest → ℕ → ℕ
 state_after Ask s = s
 state_after Replace s = next (next s)
@@ -47,6 +47,6 @@ abbrev pub turns : ℕ → ℕ → ℕ → List ℕ
 turns statements zero s = []
 turns statements (suc n) s = turn_lines statements s ++ turns statements n (turn_state s)
 
--- the script of this seed and size: as many turns as the source has pieces, from the state behind the source on
+-- the script of this seed and size: as many turns as the source has pieces, from the state after the source on
 unfoldable pub script_of : ℕ → ℕ → List ℕ
 script_of seed size = let all = pieces size seed in turns all.statements size all.state

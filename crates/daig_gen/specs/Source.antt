@@ -5,7 +5,7 @@ use Rattle.daig_gen.specs.declared.pieces.PieceKind.TheVariants.{Constant, Sum, 
 use Rattle.daig_gen.specs.Draws.{next, pick, variable, constant}
 use Rattle.daig_gen.specs.Pieces.{kind_of, constant_text, sum_text, difference_text, while_text, if_text, array_text, input_text, node_text, statements_of}
 
--- text, how many statements it has, and the state of the generator behind it
+-- text, how many statements it has, and the state of the generator after it
 pub record Piece : Type 0 where
   pub bytes : List ℕ
   pub statements : ℕ
@@ -22,7 +22,7 @@ text_of Array s = array_text (constant s)
 text_of Input s = input_text (variable s)
 text_of Node s = node_text
 
--- the state behind those draws
+-- the state after those draws
 abbrev pub state_after : PieceKind → ℕ → ℕ
 state_after Constant s = next (next s)
 state_after Sum s = next (next (next s))
@@ -33,7 +33,7 @@ state_after Array s = next s
 state_after Input s = next s
 state_after Node s = s
 
--- the piece at the state s, with the space behind it: its kind is drawn, and then what occurs in it
+-- the piece at the state s, with the space after it: its kind is drawn, and then what occurs in it
 unfoldable pub piece : ℕ → Piece
 piece s = let kind = kind_of (pick 8 s) in record {
   bytes = text_of kind (next s) ++ codes " ";

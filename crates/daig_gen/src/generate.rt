@@ -18,7 +18,7 @@ const HEAD: &[u8] =
 
 /// The source of this seed, of `size` pieces. It has at most 64 bytes a piece, and 108 around them.
 ///
-/// Fails only for want of memory.
+/// Fails only when memory runs out.
 #[tactic(auto, using(crate::proofs::ShortSource::source_short))]
 pub fn source(alloc: Global, seed: u64, size: u32) -> Result<Vec<u8>, Memory>
     ensures text { IfOk result (λ v. v.items ≡ source_of seed size) }
@@ -41,7 +41,7 @@ fn source_text(alloc: Global, seed: u64, size: u32) -> Result<Vec<u8>, Memory>
 
 /// The script of this seed, of `size` turns, for the source of the same seed and size. It has at most 128 bytes a turn.
 ///
-/// Fails only for want of memory.
+/// Fails only when memory runs out.
 #[tactic(auto, using(crate::proofs::Short::script_short))]
 pub fn script(alloc: Global, seed: u64, size: u32) -> Result<Vec<u8>, Memory>
     ensures text { IfOk result (λ v. v.items ≡ script_of seed size) }

@@ -23,7 +23,7 @@ pub enum PieceKind {
     Array,
     /// A variable is read.
     Input,
-    /// A node is put in front of a list.
+    /// A node is put before a list.
     Node,
 }
 

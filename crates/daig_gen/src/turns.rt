@@ -13,7 +13,7 @@ enum ScriptRequest {
     Ask,
     /// Another statement in its place.
     Replace,
-    /// A statement behind it.
+    /// A statement after it.
     Insert,
 }
 
@@ -90,7 +90,7 @@ fn put_replace(lines: &mut Vec<u8>, statement: u64, x: u64, c: u64) -> Result<()
     Ok(())
 }
 
-/// Adds the line that puts `skip;` behind the statement.
+/// Adds the line that puts `skip;` after the statement.
 fn put_insert(lines: &mut Vec<u8>, statement: u64) -> Result<(), AllocError>
     ensures added { OnOk result (lines.new.items ≡ lines.old.items ++ insert_text statement) }
 {

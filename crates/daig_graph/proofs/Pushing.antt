@@ -1,4 +1,4 @@
--- An item is put in front of its list.
+-- An item is put before its list.
 use Rattle.std.proofs.Common.{◌≡◌, ◌≢◌, ℕ, suc, ◌<◌, cond, Option, Some, None, nat_eq, refl, sym, ap, ◌∙◌, arith, ◌⊎◌, inl, inr}
 use Rattle.daig_graph.specs.declared.pool.Member.{Member}
 use Rattle.daig_graph.specs.Linked.{AreLinked, held_at}
@@ -99,7 +99,7 @@ module _ {T : Type 0} (old new : ℕ → Option (Member T)) (firsts new_firsts :
           (b.to, b.at, b.list_same ∙ n.2, b.next_same ∙ n.3)
     ]
 
-    -- a member with another in front of it keeps that
+    -- a member with another before it keeps that
     kept_before : (k j : ℕ) (m : Member T) (e : old j ≡ Some m) → m.before ≡ Some k → (became j m e).to.before ≡ Some k
     kept_before k j m e some = elim (became j m e).before_is [
       | inl h ↦ h ∙ some

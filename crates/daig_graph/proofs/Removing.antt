@@ -17,7 +17,7 @@ module _ {T : Type 0} (old new : ℕ → Option (Member T)) (firsts new_firsts :
     pub heads : (q : ℕ) → (r.before ≡ None → q ≢ r.list) → new_firsts q ≡ firsts q
 
   module _ (linked : AreLinked old firsts) (there : old key ≡ Some r) where
-    -- the member in front of the key has it behind itself, and the one behind has it in front
+    -- the member before the key has it after itself, and the one after has it before
     pub next_of_before : (k : ℕ) (m : Member T) → r.before ≡ Some k → old k ≡ Some m → (m.next ≡ Some key) × (m.list ≡ r.list)
     next_of_before k m b e =
         let n = linked.back key k r there b in
@@ -30,7 +30,7 @@ module _ {T : Type 0} (old new : ℕ → Option (Member T)) (firsts new_firsts :
         let same : n.0 ≡ m = same_Some _ _ (sym n.1 ∙ e) in
         (sym (ap (λ o. o.before) same) ∙ n.3, sym (ap (λ o. o.list) same) ∙ n.2)
 
-    -- nothing stands in front of it and behind it
+    -- nothing stands before it and after it
     pub sides_apart : (k : ℕ) {P : Type 0} → r.before ≡ Some k → r.next ≡ Some k → P
     sides_apart k b a =
         let n = linked.back key k r there b in
@@ -54,7 +54,7 @@ module _ {T : Type 0} (old new : ℕ → Option (Member T)) (firsts new_firsts :
       next_is : ((r.before ≡ Some k) × (m.next ≡ Some key) × (to.next ≡ r.next)) ⊎ ((to.next ≡ m.next) × (m.next ≢ Some key))
       before_is : ((r.next ≡ Some k) × (m.before ≡ Some key) × (to.before ≡ r.before)) ⊎ ((to.before ≡ m.before) × (m.before ≢ Some key))
 
-    -- a member has the key behind it only where it stands in front of it
+    -- a member has the key after it only where it stands before it
     is_before : (k : ℕ) (m : Member T) → old k ≡ Some m → m.next ≡ Some key → r.before ≡ Some k
     is_before k m e a =
         let n = linked.ahead k key m e a in
@@ -152,7 +152,7 @@ module _ {T : Type 0} (old new : ℕ → Option (Member T)) (firsts new_firsts :
               left k m e (same_Some _ _ (sym first ∙ ap firsts same ∙ linked.front key r p.there b))) ∙ first
         ]
 
-    -- what stands in front of a member that is left has it behind itself
+    -- what stands before a member that is left has it after itself
     facing : (k j : ℕ) (n : Member T) → j ≢ key → k ≢ key → old j ≡ Some n → n.next ≡ Some k → (to : Member T) × (new j ≡ Some to) × (to.list ≡ n.list) × (to.next ≡ Some k)
     facing k j n nj nk e a =
         let b = became j n nj e in (

@@ -17,7 +17,7 @@ module _ {T : Type 0} (members : ℕ → Option (Member T)) where
   walk-at at (q ∷ es) w zero p e = let same : q ≡ p = cc in (w.0, ap (λ r. members r.0) (sym same) ∙ w.2, w.3 ∙ ap (λ r. r.1) same)
   walk-at at (q ∷ es) w (suc i) p e = walk-at w.0.next es w.4 i p e
 
-  -- the walk goes on behind each member
+  -- the walk goes on after each member
   pub walk-next : (at : Option ℕ) (es : List (ℕ × T)) → IsWalk members at es → (i : ℕ) (p : ℕ × T) → slice_get es i ≡ Some p → (m : Member T) → members p.0 ≡ Some m → (j : ℕ) → m.next ≡ Some j → (x : T) × (slice_get es (suc i) ≡ Some (j, x))
   walk-next at [] w i p e m h j n = cc
   walk-next at (q ∷ es) w zero p e m h j n =

@@ -6,7 +6,7 @@ use Rattle.daig_graph.specs.declared.pool.Member.{Member}
 abbrev pub held_at : {T : Type 0} → Option (Member T) → Option (ℕ × T)
 held_at o = option_map (λ m. (m.list, m.item)) o
 
--- The members at their keys and the first keys of the lists: neighbours know each other, a member without one in front is
+-- The members at their keys and the first keys of the lists: neighbours know each other, a member without one before is
 -- the first of its list, and ranks fall along each list.
 pub record AreLinked {T : Type 0} (members : ℕ → Option (Member T)) (firsts : ℕ → Option ℕ) : Type 0 where
   pub first : (l k : ℕ) → firsts l ≡ Some k → (m : Member T) × (members k ≡ Some m) × (m.list ≡ l) × (m.before ≡ None)

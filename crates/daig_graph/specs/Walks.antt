@@ -1,4 +1,4 @@
--- From a member to those behind it.
+-- From a member to those after it.
 use Rattle.std.specs.Prelude.{◌≡◌, ℕ, zero, suc, List, [], ◌∷◌, length, Option, Some, None}
 use Rattle.slab.specs.Slab.{Slab, get}
 use Rattle.daig_graph.specs.declared.pool.Member.{Member}

@@ -38,7 +38,7 @@ impl<V> Graph<V> {
     ///
     /// # Errors
     ///
-    /// [`Memory`] for want of memory. The cells are what they were then.
+    /// [`Memory`] when memory runs out. The cells are what they were then.
     #[inline]
     pub fn fill(
         &mut self,

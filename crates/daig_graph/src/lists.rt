@@ -34,7 +34,7 @@ impl<T: Copy> Lists<T> {
         self.firsts.reserve(list)
     }
 
-    /// Puts an item in front of a list, and gives its key.
+    /// Puts an item before a list, and gives its key.
     #[inline]
     pub(crate) fn push(&mut self, list: usize, item: T) -> usize
         requires room { 0 < self.old.room }
@@ -86,7 +86,7 @@ impl<T: Copy> Lists<T> {
     }
 }
 
-/// Another member, or none, comes in front of the one at a key.
+/// Another member, or none, comes before the one at a key.
 #[inline]
 fn set_before<T: Copy>(members: &mut Slab<Member<T>>, key: Link, before: Link)
     ensures set { (k : ℕ) (m : _) → key ≡ Some k → get members.old k ≡ Some m → get members.new k ≡ Some (record m { before = before }) }
@@ -100,7 +100,7 @@ fn set_before<T: Copy>(members: &mut Slab<Member<T>>, key: Link, before: Link)
     }
 }
 
-/// Another member, or none, comes behind the one at a key.
+/// Another member, or none, comes after the one at a key.
 #[inline]
 fn set_next<T: Copy>(members: &mut Slab<Member<T>>, key: Link, next: Link)
     ensures set { (k : ℕ) (m : _) → key ≡ Some k → get members.old k ≡ Some m → get members.new k ≡ Some (record m { next = next }) }
@@ -114,7 +114,7 @@ fn set_next<T: Copy>(members: &mut Slab<Member<T>>, key: Link, next: Link)
     }
 }
 
-/// Another member, or none, is the first of a list, where nothing comes in front of it.
+/// Another member, or none, is the first of a list, where nothing comes before it.
 #[inline]
 fn set_first(firsts: &mut Index, list: usize, before: Link, first: Link)
     requires place { before ≡ None → list < length firsts.old }

@@ -12,7 +12,7 @@ pub(crate) struct Member<T> {
     pub(crate) next: Link,
 }
 
-/// Lists called by numbers. An item is put in front of its list, and has a key by which it is taken out.
+/// Lists called by numbers. An item is put before its list, and has a key by which it is taken out.
 #[derive(Drop)]
 pub(crate) struct Lists<T> {
     pub(crate) members: Slab<Member<T>>,

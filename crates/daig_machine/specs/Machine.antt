@@ -24,7 +24,7 @@ without_ticket n [] = []
 without_ticket n (t ∷ ts) = if t.number == n then without_ticket n ts else t ∷ without_ticket n ts
 
 -- The present program; how its loops are interpreted; the next number of a statement; the open tickets and the number of
--- the next one; the names that are kept, in the order in which they were filled; how many the last question filled; the programs behind and ahead, the nearest
+-- the next one; the names that are kept, in the order in which they were filled; how many the last question filled; the programs before and after it, the nearest
 -- first.
 pub record Machine : Type 0 where
   pub program : List Procedure
@@ -54,7 +54,7 @@ abbrev pub turned_to : List Procedure → (past future : List (List Procedure)) 
 turned_to program past future next kept m =
     record { program = program; engine = m.engine; next = next; tickets = m.tickets; next_ticket = m.next_ticket; kept = kept; cost = m.cost; past = past; future = future }
 
--- a machine at first: nothing is kept, no ticket is open, and no program is behind or ahead
+-- a machine at first: nothing is kept, no ticket is open, and no program is before or after it
 abbrev pub first_machine : List Procedure → LoopOptions → (next : ℕ) → Machine
 first_machine program engine next =
     record { program = program; engine = engine; next = next; tickets = []; next_ticket = 1; kept = []; cost = 0; past = []; future = [] }

@@ -99,7 +99,7 @@ module _ {S : Type 0} (dom : Operations S) where
   abbrev pub after_edit : Edit → Machine → Machine
   after_edit e m = with_program (edited e m.program) (take 64 (m.program ∷ m.past)) [] (next_after e m.next) m
 
-  -- back to the program behind, and on to the one ahead, if there is one
+  -- back to the program before, and on to the one after it, if there is one
   abbrev pub back_to : List (List Procedure) → Machine → Machine
   back_to [] m = m
   back_to (p ∷ ps) m = with_program p ps (m.program ∷ m.future) m.next m
@@ -114,7 +114,7 @@ module _ {S : Type 0} (dom : Operations S) where
   abbrev pub redone : Machine → Machine
   redone m = on_to m.future m
 
--- For want of memory some of these names are filled, the first ones, and nothing else is changed.
+-- When memory runs out some of these names are filled, the first ones, and nothing else is changed.
 pub record IsBetween (xs : List CellName) (old : Machine) (stands : Machine → Type 0) : Type 0 where
   pub count : ℕ
   pub some : stands (with_names (take count xs) old)

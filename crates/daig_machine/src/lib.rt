@@ -1,6 +1,6 @@
 //! The machine that a session with a program is, over plain data.
 //!
-//! A [`Machine`] holds the present program, the programs behind it and ahead of it, numbers, open tickets, and the names of
+//! A [`Machine`] holds the present program, the programs before it and after it, numbers, open tickets, and the names of
 //! the cells that are kept: no state of a domain (`specs/Machine.antt`). Each answer comes from interpreting the present
 //! program from scratch, and what each request makes of the machine is a function (`specs/Turns.antt`).
 //!

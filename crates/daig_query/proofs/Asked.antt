@@ -75,7 +75,7 @@ module _ {S : Type 0} (dom : Operations S) (engine : LoopOptions) where
       by false e = rw e refl
 
 module _ {S : Type 0} (dom : Operations S) (plan : Plan) (store : Store S) (right : IsRight dom plan store) where
-  -- a join behind a loop with breaks, behind these inputs
+  -- a join after a loop with breaks, after these inputs
   pub joined_asks : (ns : List ℕ) (xs : List CellName) → AreNumbers store.names.names ns xs → AreCells store.graph.cells ns → (stays : Bool) (l : CellName) (n : ℕ) (w : List NameFrame) (p : Point) →
       joined_next plan.engine.budget store.graph.cells ns (plain.Joins stays l n w p) ≡ asks_row dom plan.engine (plain.Joins stays l n w p) (map (found dom plan) xs)
   joined_asks [] [] e c stays l n w p = refl

@@ -45,7 +45,7 @@ get_or_past zero b = low (omega arith)
 get_or_past (suc a) zero = high (omega arith)
 get_or_past (suc a) (suc b) = elim (get_or_past a b) [ low h ↦ low (omega arith) | high h ↦ high (omega arith) ]
 
--- behind iterates of which none is where they stop, at most the budget
+-- after iterates of which none is where they stop, at most the budget
 pub not_many : (cells : Cells) (numbers : List ℕ) (budget : ℕ) → AreCells cells numbers → (StopsWithin budget (iterate_of cells numbers) (length numbers) → ⊥) → length numbers ≤ budget
 not_many cells numbers budget there none = by (get_or_past (length numbers) budget)
   where

@@ -66,7 +66,7 @@ module _ {S : Type 0} where
     cells = λ n f e. subst (λ g. get g.cells n ≡ Some f) (sym h.graph) e;
   }
 
-  -- so many more, and so many behind them
+  -- so many more, and so many after them
   pub few_trans : (a b c : Store S) (m n : ℕ) → AddsFew m a b → AddsFew n b c → AddsFew (m + n) a c
   few_trans a b c m n h k = record { states = omega (arith, h.states, k.states); operations = omega (arith, h.operations, k.operations) }
 

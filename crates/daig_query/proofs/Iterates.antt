@@ -111,7 +111,7 @@ module _ {S : Type 0} (dom : Operations S) (plan : Plan) (store : Store S) (row 
   abbrev pub B : ℕ → Option S → Type 0
   B j q = Before dom store.states at.right.single (λ s t. (same s t).0) (λ s. (same s s).1 refl) plan.engine.budget iterate j q
 
-  -- what is in front of an iterate
+  -- what is before an iterate
   pub before : (j : ℕ) → j < k → B j (last_state None (first j))
   before zero h = nothing (λ i g e q. absurd (omega arith))
   before (suc i) h =

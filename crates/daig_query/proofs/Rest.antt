@@ -1,4 +1,4 @@
--- What is missing behind a fill, and demands in turn.
+-- What is missing after a fill, and demands in turn.
 use Rattle.std.proofs.Common.{◌≡◌, ℕ, zero, suc, ◌||◌, Bool, true, false, cond, not, List, [], ◌∷◌, ◌++◌, take, drop, length, Some, slice_get, refl, sym, ap, subst, ◌∙◌}
 use Rattle.std.proofs.Math.Seq.{take-length}
 use std.Path.{fun_ext}

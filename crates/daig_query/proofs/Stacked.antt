@@ -56,7 +56,7 @@ module _ {S : Type 0} (value : CellName → Cell S) (keeps : CellName → Bool) 
   step_on : (x : CellName) (xs : List CellName) → keeps x ≡ true → first_absent (held_of value keeps) (x ∷ xs) ≡ first_absent (held_of value keeps) xs
   step_on x xs h = ap (λ b. cond (not b) (Some x) (first_absent (held_of value keeps) xs)) (has_kept x ∙ h)
 
-  -- the first name without a cell is the one behind names that have cells
+  -- the first name without a cell is the one after names that have cells
   pub first_at : (xs : List CellName) (k : ℕ) (x : CellName) → ((i : ℕ) (y : CellName) → i < k → slice_get xs i ≡ Some y → keeps y ≡ true) → slice_get xs k ≡ Some x → keeps x ≡ false → first_absent (held_of value keeps) xs ≡ Some x
   first_at [] k x before e h = absurd cc
   first_at (y ∷ xs) zero x before e h =

@@ -89,7 +89,7 @@ module _ {S : Type 0} (dom : Operations S) (plan : Plan) (ts : List Target) wher
   first_path : (store : Store S) → IsRight dom plan store → path_at store.names.paths 0 ≡ []
   first_path store right = ap or_root right.root
 
-  -- on to the next target, behind a name that is the last of one
+  -- on to the next target, after a name that is the last of one
   pub placed_left : (store : Store S) → IsRight dom plan store → (old new : Walk) (cell : ℕ) (y : CellName) → Leaves cell old new → IsPlaced dom plan ts store old → asks (place_of ts store old) ≡ Some y → kept store y ≡ true →
       law.found (found dom plan y) (place_of ts store old) ≡ (found dom plan y).value ∷ [] → goes (found dom plan y) (place_of ts store old) ≡ law.start (drop (suc old.target) ts) → slice_get store.names.names cell ≡ Some y → IsSome (get store.graph.cells cell) →
       IsPlaced dom plan ts store new

@@ -30,7 +30,7 @@ over_state : (n : ℕ) (chain : List ℕ) (h : Held) → Some (Over n chain) ≡
 over_state n chain h e = cc
 
 module _ {S : Type 0} (dom : Operations S) (states : List S) (once : IsOnce states) (same : (s t : S) → (dom.same s t ≡ true) → s ≡ t) (self : (s : S) → dom.same s s ≡ true) (budget : ℕ) (iterate : ℕ → Option (Value Held)) (j : ℕ) where
-  -- What is in front of iterate j: nothing that is a state, or this state, whose number iterate j - 1 holds.
+  -- What is before iterate j: nothing that is a state, or this state, whose number iterate j - 1 holds.
   pub data Before : Option S → Type 0 where
     nothing : ((i : ℕ) (g : Held) → j ≡ suc i → iterate i ≡ Some (State g) → ⊥) → Before None
     some : (i : ℕ) (g : Held) (t : S) → j ≡ suc i → iterate i ≡ Some (State g) → slice_get states g.state ≡ Some t → g.index ≡ 0 → Before (Some t)

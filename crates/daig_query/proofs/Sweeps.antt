@@ -155,7 +155,7 @@ module _ {S : Type 0} (old new : Store S) (entries : List (S × ℕ)) (count : �
       (λ m n s e f. once m n s s e f (same s))
       (subst (AreResults dom new.operations new.states) (sym empty) (no-results dom new.operations new.states))
 
--- What is bounded behind a sweep is so behind a fill.
+-- What is bounded after a sweep is so after a fill.
 module _ {S : Type 0} where
   pub swept-bounded : (spare : ℕ) (store : Store S) → IsWithin (most_held spare store) store → IsBounded spare store
   swept-bounded spare store h = record { states = omega (arith, h.states); operations = omega (arith, h.operations) }

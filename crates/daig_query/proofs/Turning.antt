@@ -30,7 +30,7 @@ pub record IsTurn {S E : Type 0} (dom : Operations S) (plan : Plan) (ts : List T
   pub most : later ≤ ticks + each
 
 module _ {S : Type 0} (dom : Operations S) (plan : Plan) (ts : List Target) where
-  -- Turns that fill nothing, behind a look that gave names numbers.
+  -- Turns that fill nothing, after a look that gave names numbers.
   module _ (old mid : Store S) (before : List CellName) (after : Walk) (spent : Bool) (each ticks : ℕ) (right : IsRight dom plan mid) (names : Names old mid) (good : IsGood dom plan ts mid after) where
     pub turn_failed : {E : Type 0} (e : E) (r : Result AdvanceResult E) → r ≡ Err e → IsTurn dom plan ts old mid before after spent each ticks ticks r
     turn_failed {E} e r is =
@@ -72,7 +72,7 @@ module _ {S : Type 0} (dom : Operations S) (plan : Plan) (ts : List Target) wher
       most = omega arith;
     }
 
-  -- Turns that come to a fill, behind such a look.
+  -- Turns that come to a fill, after such a look.
   module _ (old mid new : Store S) (before : List CellName) (spent : Bool) (each ticks later : ℕ) (names : Names old mid) (least : ticks ≤ later) (most : later ≤ ticks + each) where
     pub turn_unfilled : (w : Walk) → Computes dom plan mid new → IsGood dom plan ts mid w → {E : Type 0} (e : E) (r : Result AdvanceResult E) → r ≡ Err e → IsTurn dom plan ts old new before w spent each ticks later r
     turn_unfilled w computes good {E} e r is =

@@ -106,7 +106,7 @@ module _ {S : Type 0} (y : CellName) (c : Cell S) where
       go (Go n ∷ ss) w none i = go ss (InCall n ∷ w) none i
       go (Take n ∷ ss) w none i = by n ss w c.value none i
 
-  -- Behind a target's last name the next target begins; that name's path has the fixed points on the way.
+  -- After a target's last name the next target begins; that name's path has the fixed points on the way.
   ends_here : (ts : List Target) (w : List NameFrame) → asks (law.walk w ts) ≡ Some y → law.found c (law.walk w ts) ≡ c.value ∷ [] → ((goes c (law.walk w ts)).path ≡ []) × (fixes y.path ≡ fixes w)
   ends_here [] w e one = absurd cc
   ends_here (t ∷ ts) w e one = go t.steps w e one

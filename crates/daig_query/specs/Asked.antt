@@ -9,7 +9,7 @@ use Rattle.imp_flow_rows.specs.Inputs.{first_of, second_of, break_of}
 use Rattle.daig_query.specs.declared.held.Held.{Held}
 use Rattle.daig_query.specs.Kept.{Cells}
 
--- an operation on one value or two, behind so many inputs
+-- an operation on one value or two, after so many inputs
 abbrev pub by_count : ℕ → Row → Option CellName
 by_count zero r = first_of r
 by_count (suc zero) r = second_of r
@@ -25,7 +25,7 @@ abbrev pub by_round : Option ℕ → Row → Option CellName
 by_round None r = None
 by_round (Some k) r = break_of k r
 
--- a join behind a loop with breaks, behind the inputs that have these cells
+-- a join after a loop with breaks, after the inputs that have these cells
 abbrev pub joined_next : ℕ → Cells → List ℕ → Row → Option CellName
 joined_next budget cells [] r = first_of r
 joined_next budget cells (c ∷ []) r = by_round (round_of budget (value_at cells c)) r

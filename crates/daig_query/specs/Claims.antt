@@ -30,12 +30,12 @@ WalksStayGood {S} dom = (plan : Plan) (ts : List Target) (old new : Store S) (w 
 abbrev pub DoneStaysDone : {S : Type 0} → Operations S → Type 0
 DoneStaysDone {S} dom = (plan : Plan) (ts : List Target) (old new : Store S) (w : Walk) → IsRight dom plan new → Grows old new → IsDone dom plan ts old w → IsDone dom plan ts new w
 
--- Behind a fill of the first so many, the rest is missing.
+-- After a fill of the first so many, the rest is missing.
 abbrev pub RestIsMissing : {S : Type 0} → Operations S → Type 0
 RestIsMissing {S} dom = (plan : Plan) (ts : List Target) (old new : Store S) (count : ℕ) → IsRight dom plan old → Fills dom plan ts old new count → missing dom plan ts new ≡ drop count (missing dom plan ts old)
 
 -- Demands in turn, as a report makes them, fill what the first fills, and then what the others do over the cells that are
--- kept behind it.
+-- kept after it.
 abbrev pub DemandsAreInTurn : {S : Type 0} → Operations S → Type 0
 DemandsAreInTurn {S} dom =
     (plan : Plan) (ts : List Target) (old new : Store S) (xss : List (List CellName)) → Fills dom plan ts old new (length (missing dom plan ts old)) →

@@ -89,7 +89,7 @@ index_in (Two op a b) h = 0
 index_in (Fixed n p) h = 0
 index_in (Joins stays left n right) h = index_if_stays stays h
 
--- the left input of a join behind a loop with breaks, where it is alone
+-- the left input of a join after a loop with breaks, where it is alone
 abbrev pub alone_in : Row → Option Held → Option Held → Option Held
 alone_in (Init layout) l r = None
 alone_in (One op a) l r = None

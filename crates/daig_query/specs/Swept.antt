@@ -63,11 +63,11 @@ module _ {S : Type 0} where
     pub states : length store.states ≤ most
     pub operations : length store.operations ≤ most
 
-  -- how many are kept at most behind a sweep
+  -- how many are kept at most after a sweep
   abbrev pub most_held : (spare : ℕ) → Store S → ℕ
   most_held spare store = 4 * len store.graph.cells + spare
 
-  -- how many behind a call of a session: those of each cell that it filled more, and one of a cell that it could not fill
+  -- how many after a call of a session: those of each cell that it filled more, and one of a cell that it could not fill
   abbrev pub IsBounded : (spare : ℕ) → Store S → Type 0
   IsBounded spare store = IsWithin (5 * len store.graph.cells + spare + 1) store
 

@@ -46,7 +46,7 @@ Obeys spent Filled = spent ≡ false
 Obeys spent Spent = spent ≡ true
 Obeys spent Done = Unit {0}
 
--- Behind the names `before`, a name without a cell is pushed.
+-- After the names `before`, a name without a cell is pushed.
 pub record Pushes {S : Type 0} (old new : Store S) (before : List CellName) (after : Walk) : Type 0 where
   pub top : CellName
   pub names : stacked_names new after.stack.items ≡ before ++ top ∷ []

@@ -115,7 +115,7 @@ module _ {S : Type 0} (dom : Operations S) (plan : Plan) where
     pub chained : (i : ℕ) (o u : Open) → slice_get stack i ≡ Some o → slice_get stack (suc i) ≡ Some u → next_of dom plan store o ≡ Some (name_of store u)
 
 module _ {S : Type 0} (dom : Operations S) (plan : Plan) (ts : List Target) where
-  -- A walk stands here: the names that were asked for have cells, and of each target that was left behind the cell of the
+  -- A walk stands here: the names that were asked for have cells, and of each target that was left after the cell of the
   -- last name is found. What was asked for are these last names and the fixed points on the ways to them, and to here.
   pub record Stands (store : Store S) (k : law.Walk) (cells : List ℕ) : Type 0 where
     pub asked : List CellName

@@ -67,7 +67,7 @@ fn turn_walk<D: Domain>(
     }
 }
 
-/// The name on top gets the cell of the name that was filled for it: its next input. For want of memory it does not, and
+/// The name on top gets the cell of the name that was filled for it: its next input. When memory runs out it does not, and
 /// finds it again by its name.
 #[inline]
 fn hand_down(stack: &mut Vec<Open>, cell: usize)
@@ -222,7 +222,7 @@ impl<D: Domain> Engine<D> {
     ///
     /// # Errors
     ///
-    /// [`Memory`] for want of memory. Some of the names may be filled then, the first ones, and all cells are right; the
+    /// [`Memory`] when memory runs out. Some of the names may be filled then, the first ones, and all cells are right; the
     /// operation that failed may have ticked too.
     pub fn advance<L: Ledger>(
         &mut self,

@@ -122,7 +122,7 @@ fn index_of(row: &Row<'_>, left: Option<Held>) -> u32
     }
 }
 
-/// The left input of a join behind a loop with breaks, where it is alone.
+/// The left input of a join after a loop with breaks, where it is alone.
 #[inline]
 fn alone(row: &Row<'_>, left: Option<Held>, right: Option<Held>) -> Option<Held>
     ensures is { result ≡ alone_in row.now left right }

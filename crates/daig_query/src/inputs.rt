@@ -16,7 +16,7 @@ use imp_flow::Flow;
 use imp_flow_rows::{Input, Row};
 use loop_unroll::next_wanted;
 
-/// Of an operation on one value or two, behind so many inputs.
+/// Of an operation on one value or two, after so many inputs.
 #[inline]
 fn next_of_operation(row: &Row<'_>, count: usize) -> Option<Input>
     ensures is { (w : List PathFrame) → option_map (input_name w) result ≡ by_count count (row_in w row.now) }
@@ -51,7 +51,7 @@ fn last_round(graph: &Graph<Held>, budget: u32, cell: usize) -> Option<u32>
     }
 }
 
-/// Of a join behind a loop with breaks: what is in front of the break in the loop's last round, if it has one.
+/// Of a join after a loop with breaks: what is before the break in the loop's last round, if it has one.
 #[inline]
 fn next_joined(graph: &Graph<Held>, budget: u32, row: &Row<'_>, found: &[usize]) -> Option<Input>
     ensures is { (w : List PathFrame) → option_map (input_name w) result ≡ joined_next budget graph.now.cells found.now (row_in w row.now) }

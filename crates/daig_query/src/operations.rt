@@ -88,7 +88,7 @@ fn apply_binary<D: Domain, L: Ledger>(
     }
 }
 
-/// What a row makes of the states that it is applied to: of `Init` of none, of a join behind a loop with breaks of both.
+/// What a row makes of the states that it is applied to: of `Init` of none, of a join after a loop with breaks of both.
 #[inline]
 pub(crate) fn apply<D: Domain, L: Ledger>(
     alloc: Global,

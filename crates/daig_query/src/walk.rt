@@ -44,7 +44,7 @@ impl Walk {
         }
     }
 
-    /// The cells of the last names of the targets that are left behind, in order.
+    /// The cells of the last names of the targets that are left after, in order.
     pub fn found(&self) -> &[usize]
         ensures same { result.now ≡ self.now.found.items }
     {
@@ -77,7 +77,7 @@ impl Walk {
         Ok(())
     }
 
-    /// On to the next target, behind one whose last name has this cell.
+    /// On to the next target, after one whose last name has this cell.
     fn next_target(&mut self, cell: usize) -> Result<(), Memory>
         requires room { self.old.target + 1 < 2 ^ 64 }
         ensures leaves { OnOk result (Leaves cell self.old self.new) }
@@ -150,7 +150,7 @@ fn take<D: Domain>(
     Ok(None)
 }
 
-/// Behind all steps of a target: its last point is asked for; where that has a cell the walk goes on to the next target.
+/// After all steps of a target: its last point is asked for; where that has a cell the walk goes on to the next target.
 fn last<D: Domain>(
     alloc: Global,
     dom: &D,
@@ -185,7 +185,7 @@ fn last<D: Domain>(
     Ok(None)
 }
 
-/// At the next step of a target, or behind its last.
+/// At the next step of a target, or after its last.
 fn step<D: Domain>(
     alloc: Global,
     dom: &D,

@@ -106,7 +106,7 @@ fn summed<D: Named, L: Ledger>(
     tally.line(alloc)
 }
 
-/// The summary of the generated script over the program. It fails for want of memory alone.
+/// The summary of the generated script over the program. It fails only when memory runs out.
 pub(crate) fn summary<D: Named, L: Ledger>(
     alloc: Global,
     domain: D,

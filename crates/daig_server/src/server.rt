@@ -36,7 +36,7 @@ fn next_number(table: &Table) -> u32
 }
 
 impl<D: Named> Server<D> {
-    /// The server of this program, which remembers so many results. It fails for want of memory alone.
+    /// The server of this program, which remembers so many results. It fails only when memory runs out.
     pub(crate) fn start(
         alloc: Global,
         domain: D,

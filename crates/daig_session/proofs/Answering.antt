@@ -56,7 +56,7 @@ module _ {S : Type 0} (dom : Operations S) (book : Book) (store : Store S) where
   says_here m l string v h s = subst (λ a. Says a (Some v)) (answer_here m l string h) s
 
   module _ (new : Store S) (l : Location) (string : List ℕ) (ts : List Target) (count : ℕ) (checked : IsChecked (flow_in book).program) (a : IsAsked (flow_in book).program l string ts) (f : Fills dom (flow_in book) ts store new count) (law : FillingKeeps dom) where
-    -- for want of memory some was filled
+    -- when memory runs out some was filled
     pub between_some : (m : Machine) → Holds dom store book m → IsBetween (missing_at dom l string m) m (Holds dom new book)
     between_some m h = record { count = count; some = added_holds dom book store new l string ts count checked a f law m h }
 

@@ -91,7 +91,7 @@ among_both ps ns ms = by_both (entry_of (entries_of ps)) ns ms
 pub among_next : (ps : List Procedure) (ns : List ℕ) (n : ℕ) → checked_among ps (ns ++ n ∷ []) ≡ checked_among ps ns ++ checked_at ps n
 among_next ps ns n = by_both (entry_of (entries_of ps)) ns (n ∷ []) ∙ ap (λ cs. checked_among ps ns ++ cs) (append-nil (checked_at ps n))
 
--- The statements from a procedure on are its own, and those of the procedures behind it.
+-- The statements from a procedure on are its own, and those of the procedures after it.
 pub numbers_from : (ps : List Procedure) (k : ℕ) → k < length ps → numbers_at ps k ++ program_numbers (drop (k + 1) ps) ≡ program_numbers (drop k ps)
 numbers_from ps k h = let e : k + 1 ≡ suc k = omega arith in ap (λ j. numbers_at ps k ++ program_numbers (drop j ps)) e ∙ go ps k h
   where

@@ -142,7 +142,7 @@ module _ {S : Type 0} (dom : Operations S) where
         ∙ ap (λ (z : Machine). with_program dom (edited ed z.program) (take 64 (z.program ∷ z.past)) [] (next_after ed z.next) m) h.is
         ) (moved_holds store new_store old new (edited ed old.history.now) (take 64 (old.history.now ∷ old.history.past)) [] p.edited.next r turned leave (edit_fine store old p ed r pl) m h)
 
-  -- The program behind is the present one.
+  -- The program after is the present one.
   module _ (store new_store : Store S) (old new : Book) (r : IsReady dom store old) (past_is : new.history.now ∷ new.history.past ≡ old.history.past) where
     behind_is : AreBehind old.next old.history.now (new.history.now ∷ new.history.past)
     behind_is = subst (AreBehind old.next old.history.now) (sym past_is) r.order.behind

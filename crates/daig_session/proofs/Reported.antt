@@ -69,7 +69,7 @@ module _ {S : Type 0} (dom : Operations S) (m : Machine) where
   abbrev demands : CheckedStatement → List CellName
   demands c = demanded (cell_value dom m) (check_targets (routines_of m.program) c)
 
-  -- the machine behind some of them
+  -- the machine after some of them
   abbrev pub behind : List CheckedStatement → (cost : ℕ) → Machine
   behind cs cost = keeping (m.kept ++ missing_of dom m cs) cost m
 
@@ -134,7 +134,7 @@ module _ {S : Type 0} (dom : Operations S) (m : Machine) where
           some = subst (λ zs. Holds dom store book (keeping (m.kept ++ zs) book.cost m)) (sym (ap (take q.0) (missing_both m.cost cs ds) ∙ q.1)) p.some;
         }
 
-  -- One checked statement is a question in front of it.
+  -- One checked statement is a question before it.
   module _ (n : ℕ) (e : Effect) (k : Check) where
     abbrev one : List CheckedStatement
     one = checked_one n e (Some k)

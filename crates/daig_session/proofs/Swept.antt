@@ -28,14 +28,14 @@ module _ {S : Type 0} (dom : Operations S) (old new : Store S) (swept : Swept ol
   pub swept-holds : (book : Book) (m : Machine) → Holds dom old book m → Holds dom new book m
   swept-holds book m h = record { is = h.is; same = λ x. swept-kept old new swept x ∙ h.same x; cells = h.cells }
 
-  -- what is left behind a move is left behind a sweep
+  -- what is left after a move is left after a sweep
   pub swept-leaves : (before : Store S) (from to : Plan) → StaysRight dom old new → Leaves dom from to before old → Leaves dom from to before new
   swept-leaves before from to stays l = record {
     right = stays to l.right;
     names = λ x. (λ t. (l.names x).0 (sym (swept-kept old new swept x) ∙ t), λ k. swept-kept old new swept x ∙ (l.names x).1 k);
   }
 
--- A session behind a sweep of its engine, which keeps its domain.
+-- A session after a sweep of its engine, which keeps its domain.
 module _ {S : Type 0} (dom after : Operations S) (same : after ≡ dom) (old new : Store S) (swept : Swept old new) (book : Book) where
   pub behind-ready : StaysRight dom old new → IsReady dom old book → IsReady after new book
   behind-ready stays ready = subst (λ (d : Operations S). IsReady d new book) (sym same) (swept-ready dom old new swept book stays ready)

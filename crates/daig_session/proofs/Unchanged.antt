@@ -1,4 +1,4 @@
--- What is the same but for room.
+-- What is the same except room.
 use Rattle.std.proofs.Common.{◌≡◌, sym, subst, ◌∙◌}
 use Rattle.domain_laws.specs.Operations.{Operations}
 use Rattle.edit_keeps.specs.Apart.{flow_of}

@@ -27,7 +27,7 @@ IsSet b = b.setting ≡ setting_of b.setting.engine (routines_of b.history.now)
 abbrev pub AreBelow : (next : ℕ) → List Procedure → Type 0
 AreBelow next program = All (λ (n : ℕ). n < next) (program_numbers program)
 
--- Each program is made by an edit of the one behind it, ..
+-- Each program is made by an edit of the one after it, ..
 abbrev pub AreBehind : (next : ℕ) → List Procedure → List (List Procedure) → Type 0
 AreBehind next now [] = Unit {0}
 AreBehind next now (p ∷ ps) = IsEdited p now × AreBelow next p × AreBehind next p ps
@@ -75,7 +75,7 @@ pub record IsFirst (book : Book) (program : List Procedure) (e : LoopOptions) (n
   pub are_open : AreOpen book.tickets
   pub cost : book.cost ≡ 0
 
--- Another program is the present one, with these behind it and ahead of it; the tickets begin anew.
+-- Another program is the present one, with these before it and after it; the tickets begin anew.
 pub record IsTurned (old : Book) (program : List Procedure) (past future : List (List Procedure)) (next : ℕ) (new : Book) : Type 0 where
   pub now : new.history.now ≡ program
   pub past_is : new.history.past ≡ past
@@ -95,7 +95,7 @@ pub record IsWithout (place : ℕ) (old new : Book) : Type 0 where
   pub cost : new.cost ≡ old.cost
   pub left : (o : OpenTicket Going) → slice_get old.tickets.open_ones.items place ≡ Some o → new.tickets.open_ones.items ≡ slice_set old.tickets.open_ones.items place (anew o)
 
--- The same but for room.
+-- The same except room.
 pub record IsSame (old new : Book) : Type 0 where
   pub now : new.history.now ≡ old.history.now
   pub past_is : new.history.past ≡ old.history.past

@@ -32,7 +32,7 @@ ask_error query.Memory = ask.Memory
 
 -- what answers are of a machine, and which machine stands after them
 module _ {S : Type 0} (dom : Operations S) (m : Machine) (stands : Machine → Type 0) where
-  -- A question without an answer: the program refuses it; or some of what was missing is kept, for want of memory.
+  -- A question without an answer: the program refuses it; or some of what was missing is kept, when memory runs out.
   abbrev pub Fails : Location → (string : List ℕ) → QueryError → Type 0
   Fails l string (query.Refused r) = (answer_at dom l string m ≡ Refuses r) × stands m
   Fails l string query.Memory = IsBetween (missing_at dom l string m) m stands

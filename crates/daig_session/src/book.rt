@@ -23,7 +23,7 @@ pub(crate) struct Going {
     pub(crate) walk: Walk,
 }
 
-/// The program with those behind it and ahead of it, how its loops are interpreted, the next number of a statement, the
+/// The program with those before it and after it, how its loops are interpreted, the next number of a statement, the
 /// open tickets, and how many cells the last question filled.
 #[derive(Drop)]
 pub(crate) struct Book {
@@ -79,7 +79,7 @@ impl Book {
         self.tickets.begin_anew();
     }
 
-    /// Goes back to the program behind, which has this setting.
+    /// Goes back to the program after, which has this setting.
     pub(crate) fn back(&mut self, setting: Setting)
         requires there { 0 < length self.old.history.past }
         ensures past { self.new.history.now ∷ self.new.history.past ≡ self.old.history.past }

@@ -27,7 +27,7 @@ pub struct Planned {
 }
 
 impl<D: Domain> Session<D> {
-    /// Works out an edit beside what stands: nothing is changed but for room.
+    /// Works out an edit beside what stands: nothing is changed except room.
     fn planned(&mut self, alloc: Global, edit: &Edit) -> Result<Planned, EditError>
         requires ready { IsReady (D.operations self.old.engine.domain) self.old.engine.store self.old.book }
         requires continues { Continues edit.now self.old.book.next }
@@ -89,7 +89,7 @@ impl<D: Domain> Session<D> {
     /// # Errors
     ///
     /// The first refusal of the edit: where it goes, then whether the numbers suffice, then the first fault of the new
-    /// program; or [`EditError::Memory`] for want of memory. The session is then as it was.
+    /// program; or [`EditError::Memory`] when memory runs out. The session is then as it was.
     pub fn prepare(&mut self, alloc: Global, edit: &Edit) -> Result<Prepared<'_, D>, EditError>
         requires ready { IsReady (D.operations self.old.engine.domain) self.old.engine.store self.old.book }
         requires continues { Continues edit.now self.old.book.next }

@@ -15,7 +15,7 @@ pub enum QueryError {
     /// The program has no such location, or no such chain.
     #[error("the query is refused")]
     Refused(QueryRefusal),
-    /// Want of memory.
+    /// Out of memory.
     #[error("out of memory")]
     Memory,
 }
@@ -37,7 +37,7 @@ pub enum AskError {
     /// Sixteen tickets are open.
     #[error("sixteen tickets are open")]
     Full,
-    /// Want of memory.
+    /// Out of memory.
     #[error("out of memory")]
     Memory,
 }
@@ -59,7 +59,7 @@ pub enum StepError {
     /// The present program has no such location any more, or no chain to it. The ticket is closed.
     #[error("the ticket's location is gone")]
     Gone,
-    /// Want of memory.
+    /// Out of memory.
     #[error("out of memory")]
     Memory,
 }
@@ -78,7 +78,7 @@ pub enum UndoError {
     /// There is no program to go to.
     #[error("nothing to undo or redo")]
     Nothing,
-    /// Want of memory.
+    /// Out of memory.
     #[error("out of memory")]
     Memory,
 }

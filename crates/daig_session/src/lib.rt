@@ -1,24 +1,24 @@
 //! Sessions: a program that is edited, and questions about it that are answered from cells.
 //!
-//! A [`Session`] has an engine of demands (`daig_query`) and a program with those behind it and ahead of it
+//! A [`Session`] has an engine of demands (`daig_query`) and a program with those before it and after it
 //! (`edit_history`). It stands for a machine (`daig_machine`), which has no state of a domain: of what was computed it
 //! has the names alone, and it answers by interpreting the present program from scratch. Each call is a turn of that
 //! machine, exactly (`specs/Turns.antt`): what it answers, and which machine the session then stands for (`Holds`).
 //!
 //! A caller keeps `IsReady` of a session from [`Session::start`] on: each call asks for it, and gives it again.
 //!
-//! - [`Session::query`] fills what is missing for one question, and answers it; [`Session::report`] asks in front of each
+//! - [`Session::query`] fills what is missing for one question, and answers it; [`Session::report`] asks before each
 //!   statement that has a check, one after another.
 //! - [`Session::ask`] opens a ticket for a question, [`Session::step`] fills a few cells for it at a time,
 //!   [`Session::cancel`] closes it. A ticket keeps how far it has come until the program is another one.
 //! - [`Session::prepare`] works an edit out beside what stands. [`Prepared::commit`] makes it: it takes no memory and
 //!   cannot fail. [`Session::undo`] and [`Session::redo`] go back and forth.
 //!
-//! For want of memory a query, a report or a step leaves some of the missing cells filled, the first of them, and all else
+//! When memory runs out a query, a report or a step leaves some of the missing cells filled, the first of them, and all else
 //! as it was; any other call leaves the session as it was.
 //!
 //! States and operations that no cell holds any more are given back: at the start of each question and step, and at the end
-//! of each move, where they are many. So behind each call the tables hold at most five states and five operations for each
+//! of each move, where they are many. So after each call the tables hold at most five states and five operations for each
 //! kept cell, four for each result that may be remembered, and 4,097 (`IsBounded` of `daig_query`, with `spare` of
 //! [`Session::start`]).
 #![tactic(auto)]

@@ -102,7 +102,7 @@ impl<D: Domain> Session<D> {
         Ok(Filled { going, count })
     }
 
-    /// The same, behind a sweep.
+    /// The same, after a sweep.
     fn fill_for<L: Ledger>(
         &mut self,
         alloc: Global,
@@ -147,7 +147,7 @@ impl<D: Domain> Session<D> {
     ///
     /// [`QueryError::Refused`] for the first of these causes: the string has more than two calls; the program has no such
     /// procedure, no such statement, no such loop; no chain ends in the string. The session is then as it was.
-    /// [`QueryError::Memory`] for want of memory: some of what was missing may be kept then, the first of it, and all else
+    /// [`QueryError::Memory`] when memory runs out: some of what was missing may be kept then, the first of it, and all else
     /// is as it was.
     pub fn query<L: Ledger>(
         &mut self,
@@ -179,8 +179,8 @@ impl<D: Domain> Session<D> {
     }
 
     /// The statements that the answer of [`Session::query`] depends on, an Over too, rising, each once: the one that the
-    /// location names, the call sites of the selected chains, and those of all that the answer is computed from, but for
-    /// simple statements of which it needs only what is behind an Over or a dead state. Another simple statement in the
+    /// location names, the call sites of the selected chains, and those of all that the answer is computed from, except
+    /// simple statements of which it needs only what is after an Over or a dead state. Another simple statement in the
     /// place of one that is not listed, neither of them a call or a break, gives the same answer, where the thresholds of all
     /// procedures stay.
     ///

@@ -59,7 +59,7 @@ fn found_of<S>(known: &Result<Value<S>, QueryRefusal>) -> Found<'_, S>
     }
 }
 
-/// What is found of a statement that has a check, by what is known in front of it.
+/// What is found of a statement that has a check, by what is known before it.
 fn finding<D: Domain>(
     alloc: Global,
     dom: &D,
@@ -84,7 +84,7 @@ impl<D: Domain> Session<D> {
         checked_stmt(&view, id).is_some()
     }
 
-    /// What is found of a statement that has a check, by what is known in front of it.
+    /// What is found of a statement that has a check, by what is known before it.
     fn found_at(
         &self,
         alloc: Global,
@@ -102,7 +102,7 @@ impl<D: Domain> Session<D> {
         }
     }
 
-    /// Fills what is missing in front of a statement, and gives what is known there, or why nothing is.
+    /// Fills what is missing before a statement, and gives what is known there, or why nothing is.
     fn known_before<L: Ledger>(
         &mut self,
         alloc: Global,
@@ -134,7 +134,7 @@ impl<D: Domain> Session<D> {
         }
     }
 
-    /// Fills what is missing in front of a statement, and adds what is found of it, if it has a check.
+    /// Fills what is missing before a statement, and adds what is found of it, if it has a check.
     fn add_finding<L: Ledger>(
         &mut self,
         alloc: Global,

@@ -178,7 +178,7 @@ impl<D: Domain> Session<D> {
     /// # Errors
     ///
     /// [`StepError::NoTicket`] exactly where no ticket of this number is open. [`StepError::Gone`] exactly where the
-    /// present program refuses the question; the ticket is closed then. [`StepError::Memory`] for want of memory: some of
+    /// present program refuses the question; the ticket is closed then. [`StepError::Memory`] when memory runs out: some of
     /// what was missing may be kept then, the first of it, and all else is as it was.
     pub fn step<L: Ledger>(
         &mut self,

@@ -78,7 +78,7 @@ impl<D: Domain> Session<D> {
     /// # Errors
     ///
     /// The first of these causes: the call string has more than two calls; [`AskError::Full`] where sixteen tickets are
-    /// open; the program refuses the question, as [`Session::query`] says. [`AskError::Memory`] for want of memory. The
+    /// open; the program refuses the question, as [`Session::query`] says. [`AskError::Memory`] when memory runs out. The
     /// session is then as it was.
     pub fn ask(&mut self, alloc: Global, at: Location, string: Items<u32>) -> Result<u64, AskError>
         requires ready { IsReady (D.operations self.old.engine.domain) self.old.engine.store self.old.book }

@@ -37,7 +37,7 @@ impl<D: Domain> Session<D> {
     ///
     /// # Errors
     ///
-    /// [`UndoError::Nothing`] exactly where no program is behind, and [`UndoError::Memory`] for want of memory. The session
+    /// [`UndoError::Nothing`] exactly where no program is after, and [`UndoError::Memory`] when memory runs out. The session
     /// is then as it was.
     pub fn undo(&mut self, alloc: Global) -> Result<u32, UndoError>
         requires ready { IsReady (D.operations self.old.engine.domain) self.old.engine.store self.old.book }
@@ -60,7 +60,7 @@ impl<D: Domain> Session<D> {
     ///
     /// # Errors
     ///
-    /// [`UndoError::Nothing`] exactly where no program is ahead, and [`UndoError::Memory`] for want of memory. The session
+    /// [`UndoError::Nothing`] exactly where no program is ahead, and [`UndoError::Memory`] when memory runs out. The session
     /// is then as it was.
     pub fn redo(&mut self, alloc: Global) -> Result<u32, UndoError>
         requires ready { IsReady (D.operations self.old.engine.domain) self.old.engine.store self.old.book }

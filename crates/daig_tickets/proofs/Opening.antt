@@ -27,7 +27,7 @@ module _ {G : Type 0} where
   end_below n [] o a h = (h, tt)
   end_below n (x ∷ xs) o a h = (a.0, end_below n xs o a.1 h)
 
-  -- the ticket of the next number comes behind the others
+  -- the ticket of the next number comes after the others
   pub opens : (t u : Tickets G) (o : OpenTicket G) → AreOpen t → length t.open_ones.items < 16 → u.open_ones.items ≡ t.open_ones.items ++ o ∷ [] → o.number ≡ t.next → u.next ≡ t.next + 1 → AreOpen u
   opens t u o are few items is next =
       let os = t.open_ones.items in

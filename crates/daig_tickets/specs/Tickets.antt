@@ -36,7 +36,7 @@ module _ {G : Type 0} where
     pub there : slice_get t.open_ones.items place ≡ Some one
     pub same : one.number ≡ n
 
--- no ticket has this number; or this is the place of one that has it, and none in front of it has
+-- no ticket has this number; or this is the place of one that has it, and none before it has
 abbrev pub IsPlaced : {G : Type 0} → (n : ℕ) → List (OpenTicket G) → Option ℕ → Type 0
 IsPlaced {G} n os None = (i : ℕ) (o : OpenTicket G) → slice_get os i ≡ Some o → o.number ≢ n
 IsPlaced {G} n os (Some place) = (o : OpenTicket G) × (slice_get os place ≡ Some o) × (o.number ≡ n)

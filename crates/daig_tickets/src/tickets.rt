@@ -84,7 +84,7 @@ impl<G> Tickets<G> {
 
 impl<G: Drop> Tickets<G> {
     #[tactic(auto, using(crate::proofs::Opening::opens))]
-    /// Opens a ticket that has come so far, and gives its number. For want of memory it opens none.
+    /// Opens a ticket that has come so far, and gives its number. When memory runs out it opens none.
     pub fn add(&mut self, at: Location, string: Items<u32>, going: G) -> Result<u64, Memory>
         requires tickets { AreOpen self.old }
         requires few { length self.old.open_ones.items < 16 }

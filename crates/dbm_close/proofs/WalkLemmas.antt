@@ -47,7 +47,7 @@ edges-least w n i j p q = record {
     edges-lower w i j [] h = AtMost-refl (w i j)
     edges-lower w i j (x ∷ xs) h = let q : x < 0 = h.0 in absurd (omega arith)
 
--- an edge in front of a least walk
+-- an edge before a least walk
 edge_front : (w d : ℕ → ℕ → Option ℤ) (b i x j : ℕ) → x < b → IsLeastWalk w b i j (d i j) → IsLeastWalk w b x j (d x j) → AtMost (d i j) (add_weight (w i x) (d x j))
 edge_front w d b i x j h p q =
     AtMost-trans (d i j) (add_weight (w i x) (path_weight w x q.reached.0 j)) (add_weight (w i x) (d x j))

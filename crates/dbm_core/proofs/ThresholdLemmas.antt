@@ -19,7 +19,7 @@ by_order P x y p q = go (int_lt x y) refl
 pub under : (a b : ℤ) → a <ℤ b → a ≤ℤ b
 under a b p = omega (arith, ints)
 
--- a threshold that is less than the bound in front changes nothing
+-- a threshold that is less than the bound before changes nothing
 skipped : (m : ℤ) (ms : List ℤ) (d : Bool) (x : ℤ) (o : Option ℤ) → IsNextThreshold ms d x o → threshold_value d m <ℤ x → IsNextThreshold (m ∷ ms) d x o
 skipped m ms d x None h l = λ k i. elim i [
   | inl e ↦ subst (λ t. threshold_value d t <ℤ x) (sym e) l
@@ -36,7 +36,7 @@ skipped m ms d x (Some v) h l = (
   ),
 )
 
--- any other threshold in front is the next one, where no later one is smaller
+-- any other threshold before is the next one, where no later one is smaller
 kept : (m : ℤ) (ms : List ℤ) (d : Bool) (x : ℤ) (o : Option ℤ) → IsNextThreshold ms d x o → x ≤ℤ threshold_value d m → IsNextThreshold (m ∷ ms) d x (least (Some (threshold_value d m)) o)
 kept m ms d x None h l = (
   (m, inl refl, refl),
@@ -83,7 +83,7 @@ next_threshold-above ms d x = go (next_threshold ms d x) (next_threshold-is-leas
     go None h = tt
     go (Some v) h = h.1.0
 
--- a threshold in front, taken in where it is not less than the bound
+-- a threshold before, taken in where it is not less than the bound
 pub next_threshold-cons : (next : Option ℤ) (m : ℤ) (ms : List ℤ) (d : Bool) (x : ℤ) →
     least (cond (int_lt (threshold_value d m) x) next (least next (Some (threshold_value d m)))) (next_threshold ms d x) ≡ least next (next_threshold (m ∷ ms) d x)
 next_threshold-cons next m ms d x = elim (int_lt (threshold_value d m) x)

@@ -63,7 +63,7 @@ least-cases P (Some x) None p q = p
 least-cases P (Some x) (Some y) p q =
     elim (int_lt y x) as (λ v. P (Some (cond v y x))) [ true ↦ q | false ↦ p ]
 
--- a weight of 0 or more in front adds nothing below
+-- a weight of 0 or more before adds nothing below
 pub add_weight-from_zero : (a b : Option ℤ) → AtMost (Some (pos 0)) a → AtMost b (add_weight a b)
 add_weight-from_zero None b p = tt
 add_weight-from_zero (Some x) None p = tt

@@ -12,7 +12,7 @@ unbounded i j = cond (eqb i j) (Some (pos 0)) None
 abbrev pub joined : HalfMatrix → HalfMatrix → ℕ → ℕ → Option ℤ
 joined a b i j = greatest (entry a i j) (entry b i j)
 
--- the bounds on slot k dropped, but for the diagonal
+-- the bounds on slot k dropped, except the diagonal
 abbrev pub forgotten : (ℕ → ℕ → Option ℤ) → ℕ → ℕ → ℕ → Option ℤ
 forgotten d k i j = cond (eqb i j) (d i j) (cond (eqb (i / 2) k || eqb (j / 2) k) None (d i j))
 

@@ -4,7 +4,7 @@ use Rattle.std.proofs.Common.{suc, zero}
 use Rattle.dbm_core.specs.Half.{HalfMatrix, HasEntries, row_width}
 use Rattle.dbm_core.specs.Nodes.{IsCoherent}
 
--- behind these, the values of g at the numbers below n
+-- after these, the values of g at the numbers below n
 abbrev pub then_row : List (Option ℤ) → (ℕ → Option ℤ) → ℕ → List (Option ℤ)
 then_row front g zero = front
 then_row front g (suc n) = then_row front g n ++ (g n ∷ [])

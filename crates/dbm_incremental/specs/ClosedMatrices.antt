@@ -16,7 +16,7 @@ pub record IsStrong (n : ℕ) (u : ℕ → ℕ → Option ℤ) : Type 0 where
   pub evens : (i : ℕ) → i < n → even_down (u i (flip i)) ≡ u i (flip i)
   pub halves : (i j : ℕ) → i < n → j < n → AtMost (u i j) (half (add_weight (u i (flip i)) (u (flip j) j)))
 
--- m has u's entries, but for those of 2^64 or more
+-- m has u's entries, except those of 2^64 or more
 pub record IsClosedFrom (m : HalfMatrix) (u : ℕ → ℕ → Option ℤ) : Type 0 where
   pub matrix : IsMatrix m
   pub strong : IsStrong (nodes m) u
@@ -32,6 +32,6 @@ IsClosed m = (u : ℕ → ℕ → Option ℤ) × IsClosedFrom m u
 abbrev pub IsWhole : HalfMatrix → Type 0
 IsWhole m = IsTriangular (nodes m) (entry m)
 
--- t has the bounds of m but for those on slot q
+-- t has the bounds of m except those on slot q
 abbrev pub AgreesBut : ℕ → HalfMatrix → HalfMatrix → Type 0
 AgreesBut q m t = (i j : ℕ) → i < nodes m → j < nodes m → (IsOfSlot q i j → ⊥) → entry t i j ≡ entry m i j

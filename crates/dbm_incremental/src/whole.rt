@@ -50,7 +50,7 @@ pub fn close_whole(matrix: Matrix) -> Closed
 }
 
 /// Closes a matrix that obeys the triangle law and has the bounds of a closed matrix that obeys it too,
-/// but for those on one slot: only the slot's bounds are tightened and strengthened.
+/// except those on one slot: only the slot's bounds are tightened and strengthened.
 pub fn close_slot(closed: &Matrix, matrix: Matrix, slot: usize) -> Closed
     requires slot { slot < length matrix.kinds }
     requires same_kinds { matrix.kinds ≡ closed.now.kinds }

@@ -23,7 +23,7 @@ step (x ∷ ks) (r ∷ rs) (suc i) k h e = step ks rs i k (omega arith) e
 pub filled_step : (done : List SlotRange) (ks : List Numeric) (rs : List Bounds) (i : ℕ) (k : Numeric) → i < length ks → k ≡ get_or ks i k → done ++ filled (drop i ks) (drop i rs) ≡ (done ++ filled_slot k rs i ∷ []) ++ filled (drop (i + 1) ks) (drop (i + 1) rs)
 filled_step done ks rs i k h e = rw add-one (ap (λ xs. done ++ xs) (step ks rs i k h e) ∙ sym (append_assoc done (filled_slot k rs i ∷ []) (filled (drop (suc i) ks) (drop (suc i) rs))))
 
--- the ranges so far with one more, in front of the others
+-- the ranges so far with one more, before the others
 pub behind_front : (xs : List Bounds) (r : Bounds) (o : Option (List Bounds)) → behind_these (xs ++ r ∷ []) o ≡ behind_these xs (in_front r o)
 behind_front xs r None = refl
 behind_front xs r (Some ys) = ap Some (append_assoc xs (r ∷ []) ys)

@@ -9,7 +9,7 @@ use Rattle.dom_interval_meaning.specs.declared.slot_range.SlotRange.{SlotRange}
 abbrev pub filled_slot : Numeric → List Bounds → ℕ → SlotRange
 filled_slot k rs i = record { is_array = k.is_array; range = slice_index_or rs i (single (pos 0)) }
 
--- the one list behind the other, if it is there
+-- the one list after the other, if it is there
 abbrev pub behind_these : List Bounds → Option (List Bounds) → Option (List Bounds)
 behind_these xs None = None
 behind_these xs (Some ys) = Some (xs ++ ys)

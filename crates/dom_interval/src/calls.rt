@@ -47,7 +47,7 @@ fn filled(
     Ok(slots)
 }
 
-/// The state in front of main's body.
+/// The state before main's body.
 #[tactic(auto, unfolding(dom_interval_meaning::specs::Operations::init))]
 pub fn initial(alloc: Global, main: &Layout) -> Result<IntervalState, AllocError>
     ensures exact { IfOk result (λ s. s ≡ operations.init main.now) }
@@ -55,7 +55,7 @@ pub fn initial(alloc: Global, main: &Layout) -> Result<IntervalState, AllocError
     Ok(within(filled(alloc, main.numbers(), &[])?))
 }
 
-/// The ranges of the arguments that take numeric slots, behind these.
+/// The ranges of the arguments that take numeric slots, after these.
 #[tactic(auto, using(crate::proofs::Fills::behind_front))]
 fn argument_ranges(
     slots: &[SlotRange],
@@ -101,7 +101,7 @@ fn entered_from(
     }
 }
 
-/// The state in front of a callee's body.
+/// The state before a callee's body.
 #[tactic(auto, unfolding(dom_interval_meaning::specs::Operations::enter))]
 pub fn entered(
     alloc: Global,
@@ -127,7 +127,7 @@ fn taken(returning: Option<Returning>, slots: Vec<SlotRange>, callee: &[SlotRang
     }
 }
 
-/// The state behind a call.
+/// The state after a call.
 #[tactic(auto, unfolding(dom_interval_meaning::specs::Operations::leave))]
 pub fn left(
     returning: Option<Returning>,

@@ -127,7 +127,7 @@ fn needs_value(e: &SlotExpr, slots: Vec<SlotRange>) -> IntervalState
     }
 }
 
-/// What a statement does behind its check.
+/// What a statement does after its check.
 #[tactic(auto, unfolding(dom_interval_meaning::specs::Operations::does))]
 fn done(action: &SlotAction, slots: Vec<SlotRange>) -> IntervalState
     ensures exact { result ≡ operations.does (effect_of action.now) slots.items }
@@ -154,7 +154,7 @@ fn done(action: &SlotAction, slots: Vec<SlotRange>) -> IntervalState
     }
 }
 
-/// The slots behind a simple statement.
+/// The slots after a simple statement.
 #[tactic(auto, unfolding(dom_interval_meaning::specs::Operations::post))]
 fn performed(
     alloc: Global,
@@ -169,7 +169,7 @@ fn performed(
     }
 }
 
-/// The state behind a simple statement or a break.
+/// The state after a simple statement or a break.
 #[tactic(auto, unfolding(dom_interval_meaning::specs::Operations::post), using(dom_interval_meaning::proofs::Laws::post_empty))]
 pub fn behind(
     alloc: Global,

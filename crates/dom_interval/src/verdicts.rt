@@ -127,7 +127,7 @@ fn action_verdict(
     }
 }
 
-/// What a state says of the check of the statement behind it.
+/// What a state says of the check of the statement after it.
 #[tactic(auto, using(dom_interval_meaning::proofs::Laws::check_empty), unfolding(dom_interval_meaning::specs::Operations::check, dom_interval_meaning::specs::Operations::dead))]
 pub fn verdict(alloc: Global, stmt: &SlotStmt, s: &IntervalState) -> Result<Verdict, AllocError>
     ensures exact { IfOk result (λ v. v ≡ operations.check (act_of stmt.now) s.now) }

@@ -111,7 +111,7 @@ same-holds (s ∷ rs) (n ∷ ns) zero m e h = (subst (λ z. Lies z s.range) (sym
 same-holds (s ∷ rs) (n ∷ ns) (suc x) m e h = (h.0, same-holds rs ns x m e h.1)
 
 module _ (l : Layout) (h : Heap) (v : Variables) (x : Heap × Variables) (numbers : AllZip IsNumber l.numbers v.numbers) (inputs : All IsWord h.inputs) (cells : All (IsCell (length h.cells)) h.cells) where
-  -- the variables behind a step
+  -- the variables after a step
   moved : (k : Heap) (u : Variables) (s : Intervals) → Gives (k, u) ≡ Gives x → Describes u s → Describes x.1 s
   moved k u s e d = let w : (k, u) ≡ x = gives_same e in subst (λ (y : Heap × Variables). Describes y.1 s) w d
 

@@ -99,7 +99,7 @@ join (Within rs) (Within qs) = Within (map (λ p. hull_slot p.0 p.1) (zip rs qs)
 unfoldable pub assume : Guard → Bool → Intervals → Intervals
 assume = assumed compare compare_links join
 
--- what a simple statement does behind its check
+-- what a simple statement does after its check
 unfoldable pub does : Effect → List SlotRange → Intervals
 does Skip rs = Within rs
 does (Assert g) rs = Within rs

@@ -20,7 +20,7 @@ mod slot_range;
 
 pub use slot_range::SlotRange;
 
-/// The operations are those of a domain: what is described in front of a step is described behind
+/// The operations are those of a domain: what is described before a step is described after
 /// it, states that fit stay so, verdicts are right, and simple statements change no dead state.
 pub fn intervals_are_a_domain()
     ensures laws { Laws intervals covers }

@@ -1,4 +1,4 @@
--- Slots behind others.
+-- Slots after others.
 use Rattle.std.proofs.Common.{◌≡◌, subst, arith, pos, ◌≤ℤ◌, ◌&&◌, int_le, ℤ, refl, sym, ap, ◌∙◌, List, [], ◌∷◌, ◌++◌, Option, Some, None, Bool, true, false, if◌then◌else◌, append_assoc}
 use Rattle.std.specs.Option.{option_map}
 use Rattle.imp_slots.specs.Plain.{Numeric}
@@ -12,7 +12,7 @@ use Rattle.std.proofs.lemmas.Int.{ints}
 use Rattle.dom_interval_meaning.specs.declared.slot_range.SlotRange.{SlotRange}
 use Rattle.num_bounds.proofs.Ends.{le-true}
 
--- the slots so far with one more, in front of the others
+-- the slots so far with one more, before the others
 pub more_behind : (done : List SlotRange) (s : SlotRange) (o : Option (List SlotRange)) (first : Option SlotRange) → first ≡ Some s →
     option_map (λ more. (done ++ s ∷ []) ++ more) o ≡ option_map (λ more. done ++ more) (before first o)
 more_behind done s o first e = by o ∙ ap (λ (first : Option SlotRange). option_map (λ more. done ++ more) (before first o)) (sym e)

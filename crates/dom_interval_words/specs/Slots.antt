@@ -9,7 +9,7 @@ abbrev pub slots_in : Option (List SlotRange) → Intervals
 slots_in None = Empty
 slots_in (Some rs) = Within rs
 
--- both ends, each with a space in front
+-- both ends, each with a space before
 abbrev pub slot_text : SlotRange → List ℕ
 slot_text r = (32 ∷ word_text (Some r.range.lo)) ++ (32 ∷ word_text (Some r.range.hi))
 

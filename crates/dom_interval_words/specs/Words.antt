@@ -34,7 +34,7 @@ first_slot k (Some lo ∷ []) = None
 first_slot k (Some lo ∷ (None ∷ ws)) = None
 first_slot k (Some lo ∷ (Some hi ∷ ws)) = slot_if k (slot_with k lo hi)
 
--- a slot in front of others, where both are there
+-- a slot before others, where both are there
 abbrev pub before : Option SlotRange → Option (List SlotRange) → Option (List SlotRange)
 before None rest = None
 before (Some s) rest = option_map (λ ss. s ∷ ss) rest

@@ -52,7 +52,7 @@ fn first_slot(number: &NumericSlot, words: &[Option<i128>]) -> Option<SlotRange>
     }
 }
 
-/// The slots behind these.
+/// The slots after these.
 #[tactic(auto, using(crate::proofs::Slots::more_behind))]
 fn slots_of(
     numbers: &[NumericSlot],
@@ -106,7 +106,7 @@ fn state_of(
 }
 
 /// The slots of the state of frames with these layouts, the last one's first, that has this text, none for
-/// Empty; or None where no such state fits. It fails for want of memory alone.
+/// Empty; or None where no such state fits. It fails only when memory runs out.
 pub fn take(
     alloc: Global,
     layouts: &[Layout],

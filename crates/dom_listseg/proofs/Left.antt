@@ -1,4 +1,4 @@
--- Behind a call, where both states describe something.
+-- After a call, where both states describe something.
 use Rattle.std.proofs.Common.{◌≡◌, true, false, List, [], ◌∷◌, Option, refl}
 use Rattle.imp_slots.specs.Plain.{Returning}
 use Rattle.shape_graph.specs.Shape.{Shape}

@@ -54,7 +54,7 @@ over-none : (xs : List (Option ℕ)) → over xs [] ≡ []
 over-none [] = refl
 over-none (x ∷ xs) = refl
 
--- behind the last slot none are to come
+-- after the last slot none are to come
 pub sides_all : (xs : List (Option ℕ)) (names : List (List ℕ)) (sides whole : List (Option ℕ)) (i : ℕ) → length names ≤ i → sides ++ over (drop i xs) (map first_link (drop i names)) ≡ whole → sides ≡ whole
 sides_all xs names sides whole i h w =
     sym (append-nil sides) ∙ ap (λ v. sides ++ v) (sym (ap (λ ns. over (drop i xs) (map first_link ns)) (drop_all i names h) ∙ over-none (drop i xs))) ∙ w

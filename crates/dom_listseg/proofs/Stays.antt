@@ -25,7 +25,7 @@ slot-stays g slot t e = ap (λ frames. shape_of frames g.atoms) (ap (set_last g.
 pub slot_stays : (g : Shape) (slot : ℕ) (t : Option ℕ) → same_link (slot_of g.frames slot) t ≡ true → forget_of g slot t ≡ g
 slot_stays g slot t e = slot-stays g slot t (same-is (slot_of g.frames slot) t e)
 
--- one cell with the target behind it
+-- one cell with the target after it
 pub behind_is : (a : Atom) (t : Option ℕ) → a.many ≡ false → same_link a.target t ≡ true → a ≡ record { many = false; target = t }
 behind_is a t m e = λ i. record { many = m i; target = same-is a.target t e i }
 

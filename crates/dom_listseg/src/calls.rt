@@ -27,7 +27,7 @@ fn nils(alloc: Global, names: &[Text]) -> Result<Vec<Option<usize>>, Memory>
     Ok(vec![in alloc; None; names.len()]?)
 }
 
-/// The state in front of main's body.
+/// The state before main's body.
 #[tactic(auto, using(crate::proofs::Started::started_state))]
 pub fn initial(alloc: Global, main: &Layout) -> Result<SegmentState, Memory>
     ensures exact { IfOk result (λ s. s ≡ operations.init main.now) }
@@ -133,7 +133,7 @@ fn entered_graphs(
     capped(alloc, all)
 }
 
-/// The state in front of a callee's body.
+/// The state before a callee's body.
 #[tactic(auto, unfolding(dom_listseg_meaning::specs::Operations::enter))]
 pub fn entered(alloc: Global, entering: &Entering, s: &SegmentState) -> Result<SegmentState, Memory>
     ensures exact { IfOk result (λ t. t ≡ operations.enter entering.now s.now) }
@@ -186,7 +186,7 @@ fn returned_graphs(
     capped(alloc, all)
 }
 
-/// The state behind a call.
+/// The state after a call.
 #[tactic(auto, unfolding(dom_listseg_meaning::specs::Operations::leave), using(crate::proofs::Left::leave_graphs, crate::proofs::Left::leave_top, crate::proofs::Left::leave_dead, crate::proofs::Left::leave_done))]
 pub fn left(
     alloc: Global,

@@ -6,7 +6,7 @@
 //! `dom_listseg_meaning`; the code here computes exactly these operations.
 //!
 //! An operation that changes links makes one graph or two of each graph, folds them in time linear in their slots and
-//! nodes but for what `fold` says, and puts each in its place among the graphs so far, by going through these; a graph
+//! nodes except what `fold` says, and puts each in its place among the graphs so far, by going through these; a graph
 //! that it leaves as it is is shared, and not folded. A comparison of links goes through the graphs once, and again to
 //! share those that it keeps. A join goes through both sets once, and again where the right one adds graphs. Copies of
 //! a state share its set; where a statement changes no link, a comparison holds in all graphs, or a join adds none to

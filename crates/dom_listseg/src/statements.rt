@@ -95,7 +95,7 @@ pub fn is_cell(alloc: Global, p: u32, sense: bool, s: &SegmentState) -> Result<S
     }
 }
 
-// What a statement does behind its check.
+// What a statement does after its check.
 #[tactic(auto, unfolding(dom_listseg_meaning::specs::Operations::does))]
 fn done(alloc: Global, action: &SlotAction, s: SegmentState) -> Result<SegmentState, Memory>
     ensures exact { IfOk result (λ t. t ≡ operations.does (effect_of action.now) s) }
@@ -119,7 +119,7 @@ fn done(alloc: Global, action: &SlotAction, s: SegmentState) -> Result<SegmentSt
     }
 }
 
-// The state behind a simple statement. One without a check is done on the graphs as they stand.
+// The state after a simple statement. One without a check is done on the graphs as they stand.
 #[tactic(auto, unfolding(dom_listseg_meaning::specs::Operations::does))]
 fn acted(alloc: Global, action: &SlotAction, s: &SegmentState) -> Result<SegmentState, Memory>
     ensures exact { IfOk result (λ t. t ≡ operations.does (effect_of action.now) (past_check operations.assume (checks.check_of (effect_of action.now)) s.now)) }
@@ -132,7 +132,7 @@ fn acted(alloc: Global, action: &SlotAction, s: &SegmentState) -> Result<Segment
     }
 }
 
-// The state behind a simple statement, by its check.
+// The state after a simple statement, by its check.
 fn checked_first(
     alloc: Global,
     action: &SlotAction,
@@ -144,7 +144,7 @@ fn checked_first(
     done(alloc, action, passed)
 }
 
-/// The state behind a simple statement or a break.
+/// The state after a simple statement or a break.
 #[tactic(auto, unfolding(dom_listseg_meaning::specs::Operations::post))]
 pub fn behind(alloc: Global, stmt: &SlotStmt, s: &SegmentState) -> Result<SegmentState, Memory>
     ensures exact { IfOk result (λ t. t ≡ operations.post (act_of stmt.now) s.now) }

@@ -61,7 +61,7 @@ fn write(
     Ok(graphs)
 }
 
-/// The graphs behind a statement, from the one in front of it.
+/// The graphs after a statement, from the one before it.
 #[tactic(auto, unfolding(dom_listseg_meaning::specs::Operations::stepped))]
 pub fn stepped(
     alloc: Global,
@@ -92,7 +92,7 @@ pub fn stepped(
     }
 }
 
-// Whether a node is one cell with this target behind it.
+// Whether a node is one cell with this target after it.
 #[tactic(auto, using(crate::proofs::Stays::behind_is))]
 fn has_behind(graph: &ShapeGraph, node: usize, target: Option<usize>) -> bool
     requires node { node < nodes graph.now }
@@ -116,7 +116,7 @@ fn read_stays(graph: &ShapeGraph, to: usize, from: usize) -> bool
     }
 }
 
-// Whether `p.next = q` puts behind p's node, one cell, what is there.
+// Whether `p.next = q` puts after p's node, one cell, what is there.
 #[tactic(auto, using(crate::proofs::Stays::write_stays))]
 fn write_stays(graph: &ShapeGraph, to: usize, from: usize) -> bool
     ensures same { IsTrue result → operations.write_at graph.now (slot_of graph.now.frames to) from ≡ graph.now ∷ [] }

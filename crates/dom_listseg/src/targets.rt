@@ -32,7 +32,7 @@ pub fn target(graph: &ShapeGraph, slot: usize) -> Option<usize>
     }
 }
 
-/// What is behind a node; nil where there is no such node.
+/// What is after a node; nil where there is no such node.
 pub fn behind(graph: &ShapeGraph, node: usize) -> Option<usize>
     ensures target { result ≡ target_at graph.now node }
     ensures inside { IsTarget (nodes graph.now) result }

@@ -33,7 +33,7 @@ fn put_target(text: &mut Text, target: Option<usize>) -> Result<(), Memory>
     }
 }
 
-// A space in front of each slot but the first.
+// A space before each slot but the first.
 fn put_space(text: &mut Text, slot: usize) -> Result<(), Memory>
     ensures value { OnOk result (text.new ≡ text.old ++ texts.space_at slot) }
 {
@@ -43,7 +43,7 @@ fn put_space(text: &mut Text, slot: usize) -> Result<(), Memory>
     Ok(())
 }
 
-// `p=nil` or `p=k`, with a space in front of each but the first.
+// `p=nil` or `p=k`, with a space before each but the first.
 #[tactic(auto, using(base_values::proofs::Joined::joined_4))]
 fn put_slot(text: &mut Text, slot: usize, name: &Text, target: Option<usize>) -> Result<(), Memory>
     ensures value { OnOk result (text.new ≡ text.old ++ (texts.space_at slot ++ name.now ++ codes "=" ++ texts.target_text target)) }
@@ -65,7 +65,7 @@ fn put_kind(text: &mut Text, many: bool) -> Result<(), Memory>
     }
 }
 
-// `k:one(t)` or `k:seg(t)`, with a space in front.
+// `k:one(t)` or `k:seg(t)`, with a space before.
 #[tactic(auto, unfolding(dom_listseg_meaning::specs::Text::node_text), using(base_values::proofs::Joined::joined_5))]
 fn put_node(text: &mut Text, node: usize, atom: Atom) -> Result<(), Memory>
     ensures value { OnOk result (text.new ≡ text.old ++ texts.node_text node atom) }
@@ -112,7 +112,7 @@ fn put_graph(text: &mut Text, names: &[Text], graph: &ShapeGraph) -> Result<(), 
     put_nodes(text, graph.atoms())
 }
 
-// The graphs, with ` | ` in front of each.
+// The graphs, with ` | ` before each.
 fn put_more(text: &mut Text, names: &[Text], graphs: &[FoldedGraph]) -> Result<(), Memory>
     ensures value { OnOk result (text.new ≡ text.old ++ texts.more_text names.now graphs.now) }
 {

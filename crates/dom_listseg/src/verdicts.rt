@@ -69,7 +69,7 @@ fn action_verdict(alloc: Global, action: &SlotAction, s: &SegmentState) -> Resul
     }
 }
 
-/// What a state says of the check of the statement behind it.
+/// What a state says of the check of the statement after it.
 #[tactic(auto, unfolding(dom_listseg_meaning::specs::Operations::check), using(crate::proofs::Findings::dead_verdict))]
 pub fn verdict(alloc: Global, stmt: &SlotStmt, s: &SegmentState) -> Result<Verdict, Memory>
     ensures exact { IfOk result (λ v. v ≡ operations.check (act_of stmt.now) s.now) }

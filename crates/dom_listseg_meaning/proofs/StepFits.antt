@@ -44,7 +44,7 @@ write-framed ns g x p q (Some k) e f i =
       frames = ap (map length) w.frames ∙ f.frames;
     })
 
--- the graphs behind a statement
+-- the graphs after a statement
 pub stepped-framed : (ns : List ℕ) (e : Effect) (g x : Shape) → Framed ns g → In x (stepped e g) → Framed ns x
 unfolding stepped
 stepped-framed ns Skip g x f i = only ns g x f i

@@ -52,7 +52,7 @@ set-self (x ∷ xs) zero w h = let e : x ≡ w = same_Some x w h in ap (λ y. y 
 set-self (x ∷ xs) (suc k) w h = ap (λ v. x ∷ v) (set-self xs k w h)
 
 module _ (ns : List ℕ) (h : Heap) (v : Variables) (vs : List Variables) (x : Heap × Variables) where
-  -- what is described in front
+  -- what is described before
   abbrev before : List (List (Option ℕ))
   before = main_first (v ∷ vs)
 

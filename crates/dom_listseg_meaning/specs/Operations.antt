@@ -63,7 +63,7 @@ abbrev pub write_at : Shape → Option ℕ → ℕ → List Shape
 write_at g None q = []
 write_at g (Some node) q = write_of g node q
 
--- the graphs behind a statement, from one in front of it
+-- the graphs after a statement, from one before it
 unfoldable pub stepped : Effect → Shape → List Shape
 stepped Skip g = g ∷ []
 stepped (Assert c) g = g ∷ []
@@ -99,7 +99,7 @@ moves (ReadNext p q) = true
 moves (WriteNext p q) = true
 moves (WriteItem p e) = false
 
--- what a statement does behind its check
+-- what a statement does after its check
 unfoldable pub does : Effect → Segments → Segments
 does e s = if moves e then each (stepped e) s else s
 

@@ -12,18 +12,18 @@ unfoldable pub target_text : Option ℕ → List ℕ
 target_text None = codes "nil"
 target_text (Some k) = decimal (k + 1)
 
--- a space in front of each slot but the first
+-- a space before each slot but the first
 abbrev pub space_at : ℕ → List ℕ
 space_at zero = []
 space_at (suc k) = codes " "
 
--- `p=nil` or `p=k`, with a space in front of each but the slot 0; from slot n on
+-- `p=nil` or `p=k`, with a space before each but the slot 0; from slot n on
 abbrev pub slots_text : ℕ → List (List ℕ) → List (Option ℕ) → List ℕ
 slots_text n [] ts = []
 slots_text n (name ∷ names) [] = []
 slots_text n (name ∷ names) (t ∷ ts) = (space_at n ++ name ++ codes "=" ++ target_text t) ++ slots_text (n + 1) names ts
 
--- `k:one(t)` or `k:seg(t)`, with a space in front
+-- `k:one(t)` or `k:seg(t)`, with a space before
 unfoldable pub node_text : ℕ → Atom → List ℕ
 node_text k a = codes " " ++ decimal (k + 1) ++ (if a.many then codes ":seg(" else codes ":one(") ++ target_text a.target ++ codes ")"
 
@@ -37,7 +37,7 @@ unfoldable pub graph_text : List (List ℕ) → Shape → List ℕ
 graph_text [] g = codes "any"
 graph_text (name ∷ names) g = slots_text 0 (name ∷ names) (last_of g.frames) ++ nodes_text 0 g.atoms
 
--- ` | ` in front of each graph
+-- ` | ` before each graph
 abbrev pub more_text : List (List ℕ) → List Shape → List ℕ
 more_text names [] = []
 more_text names (g ∷ gs) = (codes " | " ++ graph_text names g) ++ more_text names gs

@@ -17,7 +17,7 @@ ghost use Rattle.dom_listseg_meaning.specs.Covers.{covers};
 ghost use Rattle.dom_listseg_meaning.specs.Domain.{segments};
 ghost use Rattle.dom_listseg_meaning.specs.Convergence.{JoiningEnds, WideningEnds};
 
-/// The operations are those of a domain: what is described in front of a step is described behind it, states that fit
+/// The operations are those of a domain: what is described before a step is described after it, states that fit
 /// stay so, verdicts are right, and simple statements change no dead state.
 pub fn segments_are_a_domain()
     ensures laws { Laws segments covers }

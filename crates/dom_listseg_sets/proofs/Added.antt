@@ -11,7 +11,7 @@ use Rattle.dom_listseg_meaning.specs.Sets.{union, rises}
 use Rattle.dom_listseg_sets.proofs.Merged.{left_union, both_union, right_union, drop_rises, none_left}
 use Rattle.base_values.proofs.Lists.{drop_item}
 
--- none is added in front of these places
+-- none is added before these places
 abbrev pub IsKept : (gs hs : List Shape) (p q : ℕ) → Type 0
 IsKept gs hs p q = union gs hs ≡ take p gs ++ union (drop p gs) (drop q hs)
 

@@ -21,7 +21,7 @@ below-at h [] k d b lt = absurd (omega arith)
 below-at h (i ∷ is) zero d b lt = b.0
 below-at h (i ∷ is) (suc k) d b lt = below-at h is k d b.1 (omega arith)
 
--- what comes behind one of the graphs goes behind it
+-- what comes after one of the graphs goes after it
 behind-at : (g : Shape) (gs : List Shape) (k : ℕ) (d : Shape) → k < length gs → rises gs ≡ true → shape_cmp g (get_or gs k d) ≡ Greater
     → put g gs ≡ take (suc k) gs ++ put g (drop (suc k) gs)
 behind-at g [] k d lt r e = absurd (omega arith)

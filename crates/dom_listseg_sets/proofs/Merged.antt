@@ -10,7 +10,7 @@ use Rattle.dom_listseg_meaning.specs.Sets.{put, union, rises}
 use Rattle.dom_listseg_meaning.proofs.Rising.{less-is, tail-rises}
 use Rattle.base_values.proofs.Lists.{drop_item}
 
--- each of the graphs comes behind the first
+-- each of the graphs comes after the first
 abbrev pub IsBelow : Shape → List Shape → Type 0
 IsBelow g [] = Unit {0}
 IsBelow g (h ∷ hs) = (shape_cmp g h ≡ Less) × IsBelow g hs
@@ -24,7 +24,7 @@ rises-below g h (i ∷ is) e r =
 put-behind : (g h : Shape) (gs : List Shape) → shape_cmp g h ≡ Less → put h (g ∷ gs) ≡ g ∷ put h gs
 put-behind g h gs e = ap (λ o. match_ordering o (h ∷ g ∷ gs) (g ∷ gs) (g ∷ put h gs)) (shape_total.antisymm h g ∙ ap ordering_reverse e)
 
--- what comes behind the first graph is put behind it
+-- what comes after the first graph is put after it
 union-behind : (g : Shape) (gs hs : List Shape) → IsBelow g hs → union (g ∷ gs) hs ≡ g ∷ union gs hs
 union-behind g gs [] b = refl
 union-behind g gs (h ∷ hs) b = ap (λ v. union v hs) (put-behind g h gs b.0) ∙ union-behind g (put h gs) hs b.1
@@ -86,7 +86,7 @@ module _ (gs hs : List Shape) (p q : ℕ) (g h : Shape) (a : p < length gs) (b :
       (λ k. union (left k) (drop_item hs q h b y k)) ∙ right_first g h (drop (p + 1) gs) (drop (q + 1) hs) right-rises e ∙
       (λ k. h ∷ union (sym left k) (drop (q + 1) hs))
 
--- one graph more behind those that are there
+-- one graph more after those that are there
 pub pushed : (done added more all : List Shape) (g copy : Shape) → copy ≡ g → added ≡ done ++ copy ∷ [] → all ≡ g ∷ more → added ++ more ≡ done ++ all
 pushed done added more all g copy c a e =
     ap (λ v. v ++ more) a ∙ append_assoc done (copy ∷ []) more ∙ (λ k. done ++ c k ∷ more) ∙ ap (λ v. done ++ v) (sym e)

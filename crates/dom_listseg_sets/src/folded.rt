@@ -80,7 +80,7 @@ impl Hash for FoldedGraph {
 }
 
 impl FoldedGraph {
-    /// The graph folded. It fails for want of memory alone.
+    /// The graph folded. It fails only when memory runs out.
     #[tactic(auto, using(crate::proofs::Folds::fold_again))]
     pub fn from_graph(alloc: Global, graph: &ShapeGraph) -> Result<FoldedGraph, Memory>
         ensures folded { IfOk result (λ folded. folded ≡ fold_of graph.now) }

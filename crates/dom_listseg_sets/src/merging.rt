@@ -6,7 +6,7 @@ use crate::folded::FoldedGraph;
 use base_values::Memory;
 use std::cmp::Ordering;
 
-// Puts all graphs behind those that are there.
+// Puts all graphs after those that are there.
 fn append(graphs: &mut Vec<FoldedGraph>, others: &[FoldedGraph]) -> Result<(), Memory>
     ensures added { OnOk result (graphs.new.items ≡ graphs.old.items ++ others.now) }
 {
@@ -16,7 +16,7 @@ fn append(graphs: &mut Vec<FoldedGraph>, others: &[FoldedGraph]) -> Result<(), M
     Ok(())
 }
 
-/// Puts the union of two lists, of which the right one rises, behind the graphs that are there.
+/// Puts the union of two lists, of which the right one rises, after the graphs that are there.
 pub fn merge(
     graphs: &mut Vec<FoldedGraph>,
     left: &[FoldedGraph],

@@ -75,7 +75,7 @@ impl GraphSet {
         self.graphs.as_slice()
     }
 
-    /// Puts a graph in its place, unless it is there. It fails for want of memory alone, and then the set stays.
+    /// Puts a graph in its place, unless it is there. It fails only when memory runs out, and then the set stays.
     #[tactic(auto, using(dom_listseg_meaning::proofs::Rising::put_rises))]
     pub fn put(&mut self, graph: FoldedGraph) -> Result<(), Memory>
         ensures put { OnOk result (self.new ≡ sets.put graph self.old) }
@@ -97,7 +97,7 @@ impl GraphSet {
         has_all(self.as_slice(), other.as_slice())
     }
 
-    /// The graphs of both sets. It fails for want of memory alone.
+    /// The graphs of both sets. It fails only when memory runs out.
     #[tactic(auto, using(dom_listseg_meaning::proofs::Rising::union_rises))]
     pub fn union(&self, alloc: Global, other: &GraphSet) -> Result<GraphSet, Memory>
         ensures union { IfOk result (λ set. set ≡ sets.union self.now other.now) }

@@ -122,7 +122,7 @@ after-atoms-back atoms ws h =
 
 -- ---- graphs
 
--- the words of a graph in front of others
+-- the words of a graph before others
 graph-first : (g : Shape) (ws : List (Option ℤ)) → graph_told g ++ ws ≡ map target_word (all_slots_of g.frames) ++ (Some (pos (length g.atoms)) ∷ (flat_map atom_told g.atoms ++ ws))
 graph-first g ws = append_assoc (map target_word (all_slots_of g.frames)) (Some (pos (length g.atoms)) ∷ flat_map atom_told g.atoms) ws
 

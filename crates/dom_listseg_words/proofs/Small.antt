@@ -8,7 +8,7 @@ use Rattle.cert_words.specs.Claims.{IsSmall, AreSmall}
 use Rattle.cert_words.specs.Words.{limit, word_text, more_text, words_text}
 use Rattle.dom_listseg_words.specs.Words.{target_word, atom_told, graph_told}
 
--- a text has at least as many bytes as words behind the first
+-- a text has at least as many bytes as words after the first
 more-long : (ws : List (Option ℤ)) → length ws ≤ length (more_text ws)
 more-long [] = omega arith
 more-long (w ∷ ws) = let e = more-long ws in omega (arith, length-append (word_text w) (more_text ws))

@@ -38,7 +38,7 @@ pub graphs_more : (ns : List ℕ) (many : ℕ) (ws : List (Option ℤ)) → many
 graphs_more ns zero ws h = absurd (h refl)
 graphs_more ns (suc k) ws h = let e : k ≡ suc k - 1 = omega arith in ap (λ k. before (graph_if ns (graph_of ns ws)) (graphs_of ns k (after_atoms (after_frames ns ws)))) e
 
--- the graphs so far with one more, in front of the others
+-- the graphs so far with one more, before the others
 pub more_behind : (done : List Shape) (g : Shape) (o : Option (List Shape)) (first : Option Shape) → first ≡ Some g →
     option_map (λ more. (done ++ g ∷ []) ++ more) o ≡ option_map (λ more. done ++ more) (before first o)
 more_behind done g o first e = by o ∙ ap (λ (first : Option Shape). option_map (λ more. done ++ more) (before first o)) (sym e)

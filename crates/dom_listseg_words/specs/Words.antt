@@ -66,7 +66,7 @@ abbrev pub frames_of : List ℕ → List (Option ℤ) → List (List (Option ℕ
 frames_of [] ws = []
 frames_of (n ∷ ns) ws = map target_of (take n ws) ∷ frames_of ns (drop n ws)
 
--- the words behind such frames
+-- the words after such frames
 abbrev pub after_frames : List ℕ → List (Option ℤ) → List (Option ℤ)
 after_frames [] ws = ws
 after_frames (n ∷ ns) ws = after_frames ns (drop n ws)
@@ -75,14 +75,14 @@ after_frames (n ∷ ns) ws = after_frames ns (drop n ws)
 abbrev pub node_count : List (Option ℤ) → ℕ
 node_count ws = min (number_of limit (word_at ws 0)) (length ws / 2)
 
--- the atom of a node, whose words stand behind the number of nodes
+-- the atom of a node, whose words stand after the number of nodes
 abbrev pub atom_of : List (Option ℤ) → ℕ → Atom
 atom_of ws k = record { many = is_number 1 (word_at ws (2 * k + 1)); target = target_of (word_at ws (2 * k + 2)) }
 
 abbrev pub atoms_of : List (Option ℤ) → List Atom
 atoms_of ws = map (atom_of ws) (range_with_len 0 (node_count ws))
 
--- the words behind the number of nodes and the nodes
+-- the words after the number of nodes and the nodes
 abbrev pub after_atoms : List (Option ℤ) → List (Option ℤ)
 after_atoms ws = drop (2 * node_count ws + 1) ws
 
@@ -97,7 +97,7 @@ fits_counts ns g = is_folded g && pointwise nat_eq (map length g.frames) ns
 abbrev pub graph_if : List ℕ → Shape → Option Shape
 graph_if ns g = if fits_counts ns g then Some g else None
 
--- a graph in front of others, where both are there
+-- a graph before others, where both are there
 abbrev pub before : Option Shape → Option (List Shape) → Option (List Shape)
 before None gs = None
 before (Some g) gs = option_map (λ gs. g ∷ gs) gs

@@ -70,7 +70,7 @@ fn graph_of(
     graph_if(alloc, counts, frames, atoms)
 }
 
-/// So many graphs that fit, behind these.
+/// So many graphs that fit, after these.
 pub fn graphs_of(
     alloc: Global,
     counts: &[usize],

@@ -37,7 +37,7 @@ fn target_of(word: Option<i128>) -> Option<usize>
     }
 }
 
-/// The words behind so many.
+/// The words after so many.
 pub fn behind(words: &[Option<i128>], count: usize) -> &[Option<i128>]
     ensures exact { result.now ≡ drop count words.now }
 {
@@ -98,7 +98,7 @@ pub fn frames_of(
     Ok(frames)
 }
 
-/// The words behind such frames.
+/// The words after such frames.
 #[tactic(auto, using(crate::proofs::Steps::after_step))]
 pub fn after_frames<'a>(counts: &[usize], words: &'a [Option<i128>]) -> &'a [Option<i128>]
     ensures exact { result.now ≡ meant.after_frames counts.now words.now }
@@ -144,7 +144,7 @@ pub fn atoms_of(alloc: Global, words: &[Option<i128>]) -> Result<Vec<Atom>, Allo
     Ok(atoms)
 }
 
-/// The words behind the number of nodes and the nodes.
+/// The words after the number of nodes and the nodes.
 #[tactic(auto, using(crate::proofs::Steps::nodes_few))]
 pub fn after_atoms(words: &[Option<i128>]) -> &[Option<i128>]
     ensures exact { result.now ≡ meant.after_atoms words.now }

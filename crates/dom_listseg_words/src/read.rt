@@ -35,7 +35,7 @@ fn if_told(
     }
 }
 
-/// The state of the graphs that words tell behind the first, if it is one.
+/// The state of the graphs that words tell after the first, if it is one.
 fn graphs_if(
     alloc: Global,
     counts: &[usize],
@@ -82,7 +82,7 @@ fn state_with(
 }
 
 /// The graphs of the state of frames with these numbers of slots, main's first, that has this text, none for
-/// Top; or None where no such state fits. It fails for want of memory alone.
+/// Top; or None where no such state fits. It fails only when memory runs out.
 pub fn take(
     alloc: Global,
     counts: &[usize],

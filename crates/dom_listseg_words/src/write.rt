@@ -96,7 +96,7 @@ pub fn graphs_told(alloc: Global, graphs: &[FoldedGraph]) -> Result<Vec<Option<i
     Ok(words)
 }
 
-/// The text of the state with these graphs, of Top where there are none. It fails for want of memory alone.
+/// The text of the state with these graphs, of Top where there are none. It fails only when memory runs out.
 pub fn put(alloc: Global, graphs: Option<&[FoldedGraph]>) -> Result<Text, Memory>
     ensures exact { IfOk result (λ text. text ≡ words.words_text (meant.state_words (state_in (option_map (λ g. g.now) graphs.entry)))) }
 {

@@ -9,7 +9,7 @@ unfoldable pub end_text : ℤ → List ℕ
 end_text (pos n) = if nat_eq n 9223372036854775807 then codes "max" else signed_decimal (pos n)
 end_text (negsuc n) = if nat_eq n 9223372036854775807 then codes "min" else signed_decimal (negsuc n)
 
--- a slot's name, that of an array with `#` in front
+-- a slot's name, that of an array with `#` before
 abbrev pub name_text : Numeric → List ℕ
 name_text k = (if k.is_array then codes "#" else []) ++ k.name
 
@@ -17,7 +17,7 @@ name_text k = (if k.is_array then codes "#" else []) ++ k.name
 unfoldable pub range_text : Numeric → Bounds → List ℕ
 range_text k r = name_text k ++ codes "=[" ++ end_text r.lo ++ codes "," ++ end_text r.hi ++ codes "]"
 
--- a space in front of each slot but the first
+-- a space before each slot but the first
 abbrev pub space_at : ℕ → List ℕ
 space_at zero = []
 space_at (suc k) = codes " "

@@ -7,7 +7,7 @@ use imp_slots::NumericSlot;
 use itoa::Buffer;
 use num_bounds::Range;
 
-/// Writes the space in front of a slot; none in front of slot 0. It fails for want of memory alone.
+/// Writes the space before a slot; none before slot 0. It fails only when memory runs out.
 pub fn put_space(text: &mut Text, slot: usize) -> Result<(), Memory>
     ensures value { OnOk result (text.new ≡ text.old ++ space_at slot) }
 {
@@ -17,7 +17,7 @@ pub fn put_space(text: &mut Text, slot: usize) -> Result<(), Memory>
     Ok(())
 }
 
-/// Writes the name of a slot, that of an array behind a `#`. It fails for want of memory alone.
+/// Writes the name of a slot, that of an array after a `#`. It fails only when memory runs out.
 pub fn put_name(text: &mut Text, number: &NumericSlot) -> Result<(), Memory>
     ensures value { OnOk result (text.new ≡ text.old ++ name_text number.now) }
 {
@@ -41,7 +41,7 @@ fn put_end(text: &mut Text, end: i64) -> Result<(), Memory>
     text.append(buffer.format(end).as_bytes())
 }
 
-/// Writes `x=[lo,hi]`, where `max` and `min` stand for the greatest and the least number. It fails for want of memory
+/// Writes `x=[lo,hi]`, where `max` and `min` stand for the greatest and the least number. It fails when memory runs out
 /// alone.
 #[tactic(auto, unfolding(crate::specs::Texts::range_text), using(base_values::proofs::Joined::joined_6))]
 pub fn put_range(text: &mut Text, number: &NumericSlot, range: Range) -> Result<(), Memory>

@@ -5,7 +5,7 @@ use Rattle.dom_octagon_meaning.specs.Operations.{in_front}
 use Rattle.dom_octagon_meaning.specs.declared.source.ArgumentSource.{ArgumentSource}
 use Rattle.dom_octagon_meaning.specs.declared.source.ArgumentSource.TheVariants.{FromSlot, InRange}
 
--- the one list behind the other, if it is there
+-- the one list after the other, if it is there
 abbrev pub behind_these : List ArgumentSource → Option (List ArgumentSource) → Option (List ArgumentSource)
 behind_these xs None = None
 behind_these xs (Some ys) = Some (xs ++ ys)

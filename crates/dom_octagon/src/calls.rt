@@ -53,7 +53,7 @@ fn zeros(alloc: Global, kinds: &[bool]) -> Result<Matrix, Memory>
     )
 }
 
-/// The state in front of main's body.
+/// The state before main's body.
 #[tactic(auto, unfolding(dom_octagon_meaning::specs::Operations::init))]
 pub fn initial(alloc: Global, main: &Layout) -> Result<OctagonState, Memory>
     ensures exact { IfOk result (λ s. s ≡ operations.init main.now) }
@@ -88,7 +88,7 @@ fn ranged_source(m: &Matrix, e: &SlotExpr) -> Option<ArgumentSource>
     }
 }
 
-/// The sources of the arguments that take numeric slots, behind these.
+/// The sources of the arguments that take numeric slots, after these.
 #[tactic(auto, using(crate::specs::Lists::behind_front))]
 fn sources(
     m: &Matrix,
@@ -219,7 +219,7 @@ fn meet_sources(m: &mut Matrix, k: usize, sources: &[ArgumentSource])
     }
 }
 
-/// The state in front of a callee's body, from a closed matrix of the caller.
+/// The state before a callee's body, from a closed matrix of the caller.
 fn entered_by(alloc: Global, entering: &Entering, m: &Matrix) -> Result<OctagonState, Memory>
     requires tight { IsTight m.now }
     ensures exact { IfOk result (λ t. t ≡ operations.entered_by m.now entering.now.layout.numbers (operations.sources m.now entering.now.arguments)) }
@@ -264,7 +264,7 @@ fn close_entered(
     close_kept(alloc, m, callee)
 }
 
-/// The state in front of a callee's body.
+/// The state before a callee's body.
 #[tactic(auto, unfolding(dom_octagon_meaning::specs::Operations::enter))]
 pub fn entered(alloc: Global, entering: &Entering, s: &OctagonState) -> Result<OctagonState, Memory>
     ensures exact { IfOk result (λ t. t ≡ operations.enter entering.now s.now) }

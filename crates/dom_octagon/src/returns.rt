@@ -32,7 +32,7 @@ fn taken(
     }
 }
 
-/// The state behind a call.
+/// The state after a call.
 #[tactic(auto, unfolding(dom_octagon_meaning::specs::Operations::leave))]
 pub fn left(
     alloc: Global,

@@ -126,7 +126,7 @@ fn needs_value(alloc: Global, e: &SlotExpr, m: &Matrix) -> Result<OctagonState, 
     }
 }
 
-/// What a statement does behind its check, of a closed matrix.
+/// What a statement does after its check, of a closed matrix.
 #[tactic(auto, unfolding(dom_octagon_meaning::specs::Operations::does))]
 fn done(alloc: Global, action: &SlotAction, m: &Matrix) -> Result<OctagonState, Memory>
     requires tight { IsTight m.now }
@@ -161,7 +161,7 @@ fn done_in(alloc: Global, action: &SlotAction, s: &OctagonState) -> Result<Octag
     }
 }
 
-/// The state behind a simple statement or a break.
+/// The state after a simple statement or a break.
 #[tactic(auto, unfolding(dom_octagon_meaning::specs::Operations::post))]
 pub fn behind(alloc: Global, stmt: &SlotStmt, s: &OctagonState) -> Result<OctagonState, Memory>
     ensures exact { IfOk result (λ t. t ≡ operations.post (act_of stmt.now) s.now) }

@@ -59,7 +59,7 @@ fn index_verdict(alloc: Global, a: u32, e: &SlotExpr, s: &OctagonState) -> Resul
     Ok(safe_if_empty(&failing))
 }
 
-/// The verdict on a statement in front of which a closed state is not empty.
+/// The verdict on a statement before which a closed state is not empty.
 #[tactic(auto, unfolding(dom_octagon_meaning::specs::States::dead))]
 fn action_verdict(alloc: Global, action: &SlotAction, s: &OctagonState) -> Result<Verdict, Memory>
     requires there { states.dead s.now ≡ false }
@@ -87,7 +87,7 @@ fn action_verdict(alloc: Global, action: &SlotAction, s: &OctagonState) -> Resul
     }
 }
 
-/// What a state says of the check of the statement behind it.
+/// What a state says of the check of the statement after it.
 #[tactic(auto, using(dom_octagon_meaning::proofs::Laws::verdict_empty), unfolding(dom_octagon_meaning::specs::Operations::check))]
 pub fn verdict(alloc: Global, stmt: &SlotStmt, s: &OctagonState) -> Result<Verdict, Memory>
     ensures exact { IfOk result (λ v. v ≡ operations.check (act_of stmt.now) s.now) }

@@ -68,7 +68,7 @@ post-fits l DoBreak s f h = tt
 post-fits l (Does e) s f h = after-fits (kinds_of l.numbers) (kinds_of l.numbers) (closed (past_check assume (check_of e) s)) (does e)
     (closed-fits (kinds_of l.numbers) (past_check assume (check_of e) s) (past_check-fits l (check_of e) s (check-fits l e f) h)) (λ m k. does-fits (kinds_of l.numbers) e m k)
 
--- ---- values behind a statement
+-- ---- values after a statement
 
 -- slot x gets another value, the others keep theirs
 pub others-agree : (v : Variables) (x : ℕ) (n : Number) → AgreeButAt x (values v) (values (with_number v x n))
@@ -103,7 +103,7 @@ pub same-satisfied : (m : HalfMatrix) (x y : ℕ → ℤ) → ((k : ℕ) → x k
 same-satisfied m x y e s = subst (IsSatisfiedBy m) (λ t k. e k t) s
 
 module _ (l : Layout) (h : Heap) (v : Variables) (x : Heap × Variables) (numbers : AllZip IsNumber l.numbers v.numbers) (slots : AreInSlots (kinds_of l.numbers) (values x.1)) where
-  -- the variables behind a step
+  -- the variables after a step
   moved : (k : Heap) (u : Variables) → Gives (k, u) ≡ Gives x → u ≡ x.1
   moved k u e = let w : (k, u) ≡ x = gives_same e in ap (λ (y : Heap × Variables). y.1) w
 

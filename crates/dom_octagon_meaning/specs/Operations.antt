@@ -127,7 +127,7 @@ does_copy a b m = close_of (assigned m a (Some (slot_form b)) (range_at m b))
 abbrev pub does_need : Term → HalfMatrix → Closed
 does_need e m = needs (range_of m e) (λ r. Matrix m)
 
--- what a simple statement does behind its check, of a closed matrix
+-- what a simple statement does after its check, of a closed matrix
 unfoldable pub does : Effect → HalfMatrix → Closed
 does Skip m = Matrix m
 does (Assert g) m = Matrix m

@@ -16,7 +16,7 @@ pub record ObeysTriangles (m : HalfMatrix) : Type 0 where
   pub diagonal : HasZeroDiagonal (nodes m) (entry m)
   pub whole : IsWhole m
 
--- a matrix of m's slots, with m's bounds but for those on slot q
+-- a matrix of m's slots, with m's bounds except those on slot q
 abbrev pub ChangesOnly : ℕ → HalfMatrix → HalfMatrix → Type 0
 ChangesOnly q m s = (s.kinds ≡ m.kinds) × AgreesBut q m s
 

@@ -10,7 +10,7 @@ use cert_words::{put_more, put_word};
 use dbm_core::Matrix;
 use std::alloc::Global;
 
-/// All entries, row by row, each with a space in front.
+/// All entries, row by row, each with a space before.
 #[tactic(auto, using(crate::proofs::Below::place_within, crate::proofs::Texts::some_row, crate::proofs::Texts::few_places, crate::proofs::Texts::place_step))]
 fn put_entries(text: &mut Text, m: &Matrix) -> Result<(), Memory>
     ensures added { OnOk result (text.new ≡ text.old ++ more_text (table_told (nodes m.now) (entry m.now))) }
@@ -22,7 +22,7 @@ fn put_entries(text: &mut Text, m: &Matrix) -> Result<(), Memory>
     Ok(())
 }
 
-/// The text of the state with this matrix, of Empty where there is none. It fails for want of memory
+/// The text of the state with this matrix, of Empty where there is none. It fails when memory runs out
 /// alone.
 pub fn put(alloc: Global, matrix: Option<&Matrix>) -> Result<Text, Memory>
     ensures exact { IfOk result (λ text. text ≡ words_text (state_words (state_in (option_copied matrix.entry)))) }

@@ -13,8 +13,8 @@ ghost use Rattle.dom_product_meaning.specs.Product.{product, covered_by_both};
 
 use domain_laws::Domain;
 
-/// The operations are those of a domain, whatever the two domains are: what is described in front
-/// of a step is described behind it, states that fit stay so, verdicts are right, and simple
+/// The operations are those of a domain, whatever the two domains are: what is described before
+/// of a step is described after it, states that fit stay so, verdicts are right, and simple
 /// statements change no dead state.
 pub fn products_are_domains<A: Domain, B: Domain>()
     ensures laws { (a : A) (b : B) → Laws (product (A.operations a) (B.operations b)) (covered_by_both (A.covers a) (B.covers b)) }

@@ -249,7 +249,7 @@ check-passed (WriteItem p t) h v x g =
 no-arithmetic : (k : FaultKind) → arithmetic k ≡ false → arithmetic k ≡ true → ⊥
 no-arithmetic k e f = let h : false ≡ true = sym e ∙ f in cc
 
--- what faults behind a value, where terms do not
+-- what faults after a value, where terms do not
 behind-value : {A : Type 0} (v : Variables) (t : Term) (f : ℤ → Attempt A) (k : FaultKind) → arithmetic k ≡ false → andthen (value_of v t) f ≡ Faults k → (z : ℤ) × (value_of v t ≡ Gives z) × (f z ≡ Faults k)
 behind-value v t f k n h =
     elim (andthen-faults (value_of v t) f k h) [

@@ -8,7 +8,7 @@ use Rattle.imp_words.specs.declared.fault.FaultKind.TheVariants.{Index, Null, As
 use Rattle.imp_words.specs.declared.findings.Check as asked
 use Rattle.imp_words.specs.declared.findings.Check.TheVariants as asks
 
--- What must hold in front of a statement that it does not fail, and how it fails where it does not hold.
+-- What must hold before a statement that it does not fail, and how it fails where it does not hold.
 pub data Check : Type 0 where
   Within : (a : ℕ) → Term → Check
   IsCell : (p : ℕ) → Check

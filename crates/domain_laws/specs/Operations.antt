@@ -4,18 +4,18 @@ use Rattle.imp_slots.specs.Plain.{Layout, Guard, Act, Entering, Returning}
 use Rattle.imp_words.specs.declared.verdict.Verdict.{Verdict}
 
 pub record Operations (S : Type 0) : Type 0 where
-  -- in front of main's body, from main's layout
+  -- before main's body, from main's layout
   pub init : Layout → S
-  -- behind a simple statement or a break
+  -- after a simple statement or a break
   pub post : Act → S → S
   -- where the guard has this truth value
   pub assume : Guard → Bool → S → S
   pub join : S → S → S
   -- the next iterate of a loop, from the one before and what the body makes of it, with the loop's thresholds
   pub widen : List ℤ → S → S → S
-  -- in front of a callee's body
+  -- before a callee's body
   pub enter : Entering → S → S
-  -- behind a call, from the state in front of it and the one behind the callee's body
+  -- after a call, from the state before it and the one after the callee's body
   pub leave : Option Returning → S → S → S
   -- the last frame alone
   pub shed : S → S

@@ -18,7 +18,7 @@ use std::sync::ledger::Ledger;
 /// Each operation that is lent a counter ticks it [`ticks`](Domain::ticks) times, also where memory
 /// runs out, and nothing else ticks it. Its value is a function of plain arguments (`operations`).
 /// The laws say what the values mean: `covers` says which configurations a state describes.
-/// The only error is want of memory.
+/// The only error is out of memory.
 pub trait Domain {
     /// The states. Equal ones are the same.
     type State: Eq + Hash + Drop;
@@ -29,7 +29,7 @@ pub trait Domain {
 
     ghost counted: { Self → ℕ };
 
-    /// The state in front of main's body, from main's layout.
+    /// The state before main's body, from main's layout.
     fn init<L: Ledger>(
         &self,
         alloc: Global,
@@ -39,8 +39,8 @@ pub trait Domain {
         ensures value { IfOk result (λ t. t ≡ (operations self.now).init main.now) }
         ensures ticked { steps.new ≡ steps.old + counted self.now };
 
-    /// The state behind a simple statement but a call, from the one in front of it. A statement
-    /// with a check first assumes it; nothing is described behind a break.
+    /// The state after a simple statement but a call, from the one before it. A statement
+    /// with a check first assumes it; nothing is described after a break.
     fn post<L: Ledger>(
         &self,
         alloc: Global,
@@ -87,7 +87,7 @@ pub trait Domain {
         ensures value { IfOk result (λ t. t ≡ (operations self.now).widen thresholds.now l.now r.now) }
         ensures ticked { steps.new ≡ steps.old + counted self.now };
 
-    /// The state in front of a callee's body, from the one in front of the call.
+    /// The state before a callee's body, from the one before the call.
     fn enter<L: Ledger>(
         &self,
         alloc: Global,
@@ -98,7 +98,7 @@ pub trait Domain {
         ensures value { IfOk result (λ t. t ≡ (operations self.now).enter call.now.entering s.now) }
         ensures ticked { steps.new ≡ steps.old + counted self.now };
 
-    /// The state behind a call, from the one in front of it and the one behind the callee's body.
+    /// The state after a call, from the one before it and the one after the callee's body.
     fn leave<L: Ledger>(
         &self,
         alloc: Global,
@@ -130,7 +130,7 @@ pub trait Domain {
     fn dead(&self, s: &Self::State) -> bool
         ensures exact { result ≡ (operations self.now).dead s.now };
 
-    /// What the state in front of a statement says of its check.
+    /// What the state before a statement says of its check.
     fn check(&self, alloc: Global, stmt: &SlotStmt, s: &Self::State) -> Result<Verdict, Memory>
         ensures value { IfOk result (λ v. v ≡ (operations self.now).check (act_of stmt.now) s.now) };
 

@@ -3,7 +3,7 @@
 //! [`Domain`] is the trait. Its ghost member `operations` (`specs/Operations.antt`) has the
 //! operations as functions of plain data, and each method's value is the function of its plain
 //! arguments; `covers` says which heaps and variables a state describes. The laws
-//! (`specs/Laws.antt`) say that what is described in front of a step is described behind it, that
+//! (`specs/Laws.antt`) say that what is described before a step is described after it, that
 //! states that fit the layouts of frames stay so, and what the verdicts on checks promise.
 //!
 //! `specs/Checks.antt` gives the check of a statement and the negation of a condition, and

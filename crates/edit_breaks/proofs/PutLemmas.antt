@@ -44,7 +44,7 @@ swapped n k m x y z h = go (n == m) refl
         ap (λ t. cond t y x) (sym q)
     go false e = refl
 
--- One more, where all before it have greater numbers and all behind it less.
+-- One more, where all before it have greater numbers and all after it less.
 pub added_overlay : (ps : List Put) (i : ℕ) (p : Put) (at : ℕ → Option Entry) (m : ℕ) → AreGreater ps p.number i → overlay (insert ps i p) at m ≡ cond (p.number == m) p.entry (overlay ps at m)
 added_overlay ps zero p at m h = refl
 added_overlay [] (suc i) p at m h = refl

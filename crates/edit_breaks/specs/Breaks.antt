@@ -19,7 +19,7 @@ leaving_part leaving e (Call n x g es) = []
 leaving_part leaving e (If n c t u) = leaving e.inner.first ++ leaving e.other.first
 leaving_part leaving e (While n c b) = []
 
--- .. and those that leave what stands behind it
+-- .. and those that leave what stands after it
 abbrev pub leaving_on : (leaving : Option ℕ → List ℕ) → Option Entry → List ℕ
 leaving_on leaving None = []
 leaving_on leaving (Some e) = leaving_part leaving e e.part ++ leaving e.next
@@ -30,7 +30,7 @@ leaving_from at zero o = []
 leaving_from at (suc most) None = []
 leaving_from at (suc most) (Some n) = leaving_on (leaving_from at most) (at n)
 
--- A place of a block is behind a statement, or in front of the block: then in the statement that has it, if that is no loop.
+-- A place of a block is after a statement, or before the block: then in the statement that has it, if that is no loop.
 abbrev pub unless_body : Which → Option Entry → Option Entry
 unless_body which.Then o = o
 unless_body which.Else o = o
@@ -42,7 +42,7 @@ above at (suc most) w (Some n) = at n
 above at (suc most) None None = None
 above at (suc most) (Some w) None = unless_body w.which (at w.stmt)
 
--- the breaks that leave that statement in front of the place
+-- the breaks that leave that statement before the place
 abbrev pub passed_in : (leaving : Option ℕ → List ℕ) → Which → Entry → List ℕ
 passed_in leaving which.Then e = []
 passed_in leaving which.Else e = leaving e.inner.first
@@ -57,7 +57,7 @@ abbrev pub counted : (count : Option Around → Option ℕ → ℕ) → (passed 
 counted count passed None = 0
 counted count passed (Some e) = length (passed e) + count e.context.around e.front
 
--- How many breaks of the loop around a place stand in front of it.
+-- How many breaks of the loop around a place stand before it.
 abbrev pub front_count : (at : ℕ → Option Entry) → (most : ℕ) → (around : Option Around) → (front : Option ℕ) → ℕ
 front_count at zero w o = 0
 front_count at (suc most) w o = counted (front_count at most) (passed (leaving_from at most) w o) (above at (suc most) w o)

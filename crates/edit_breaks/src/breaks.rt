@@ -56,8 +56,8 @@ fn add_all(numbers: &[StmtId], all: &mut Items<StmtId>) -> Result<(), Memory>
     Ok(())
 }
 
-/// How many of the breaks that are left stand in front of those that come, where any are left and any come. Then it takes
-/// time in proportion to the statements of the loop in front of the place.
+/// How many of the breaks that are left stand before those that come, where any are left and any come. Then it takes
+/// time in proportion to the statements of the loop before the place.
 fn count_before(
     alloc: Global,
     table: &Table,
@@ -170,7 +170,7 @@ fn breaks_stay(gap: &Gap, news: &Block, entry: &Entry) -> bool
 
 /// The change of the loop around the place, if there is one and its breaks do not stay. It takes time in proportion to what
 /// comes and, for each statement that goes, to the breaks of the loop, and, where breaks come and others stay, to the
-/// statements of the loop in front of the place.
+/// statements of the loop before the place.
 ///
 /// # Errors
 ///

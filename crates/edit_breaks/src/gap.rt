@@ -8,9 +8,9 @@ use imp_syntax::StmtId;
 pub struct Gap {
     /// The block.
     pub context: Context,
-    /// The statement in front.
+    /// The statement before.
     pub front: Option<StmtId>,
-    /// The statement behind.
+    /// The statement after.
     pub next: Option<StmtId>,
     /// The statement that goes, between the two, and those inside it; none is a call.
     pub gone: Items<StmtId>,

@@ -1,4 +1,4 @@
-//! The breaks of the loop around a place that stand in front of it, found from one statement to the next.
+//! The breaks of the loop around a place that stand before it, found from one statement to the next.
 ghost use Rattle.std.specs.Prelude.{◌≡◌, ◌+◌, ◌++◌, length, suc, IfOk, OnOk};
 ghost use Rattle.std.specs.Option.{option_copied};
 ghost use Rattle.imp_check.specs.Entries.{entries_of, entry_of};
@@ -78,7 +78,7 @@ fn holder(table: &Table, around: Around) -> Option<&Entry>
     }
 }
 
-/// The statement in front of a place, or else the one that has its block, if that is no loop; `None` too if no more
+/// The statement before a place, or else the one that has its block, if that is no loop; `None` too if no more
 /// statements there are.
 fn above<'a>(
     table: &'a Table,
@@ -100,7 +100,7 @@ fn above<'a>(
     }
 }
 
-/// Adds the breaks of that statement that stand in front of the place.
+/// Adds the breaks of that statement that stand before the place.
 fn add_passed(
     table: &Table,
     most: u32,
@@ -123,7 +123,7 @@ fn add_passed(
     }
 }
 
-/// Adds the breaks of the loop around a place that stand in front of it, in some order.
+/// Adds the breaks of the loop around a place that stand before it, in some order.
 #[tactic(auto, using(imp_check::proofs::FewLemmas::few_statements, crate::proofs::BreakLemmas::above_some, crate::proofs::BreakLemmas::count_step, crate::proofs::BreakLemmas::count_none))]
 fn add_front(table: &Table, gap: &Gap, found: &mut Items<StmtId>) -> Result<(), Memory>
     ensures counted { OnOk result (length found.new ≡ length found.old + front_count (entry_of (entries_of table.now.program)) (suc (program_count table.now.program)) gap.now.context.around gap.now.front) }
@@ -141,7 +141,7 @@ fn add_front(table: &Table, gap: &Gap, found: &mut Items<StmtId>) -> Result<(), 
     Ok(())
 }
 
-/// How many breaks of the loop around a place stand in front of it. It takes time in proportion to the statements of the
+/// How many breaks of the loop around a place stand before it. It takes time in proportion to the statements of the
 /// loop that stand there.
 pub(crate) fn front_count(alloc: Global, table: &Table, gap: &Gap) -> Result<usize, Memory>
     ensures is { IfOk result (λ count. count ≡ front_count (entry_of (entries_of table.now.program)) (suc (program_count table.now.program)) gap.now.context.around gap.now.front) }

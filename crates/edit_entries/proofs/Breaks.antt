@@ -202,7 +202,7 @@ none_leaves hs before olds news behind quits z =
     let d = some_parts (leaving olds) (leaving behind) (sym (leaving_append olds behind) ∙ a.1) in
     leaving_append before (append news behind) ∙ nothing (leaving before) (leaving (append news behind)) a.0 (leaving_append news behind ∙ nothing (leaving news) (leaving behind) quits d.1))
 
--- The breaks in front of the part, and those behind it.
+-- The breaks before the part, and those after it.
 abbrev pub in_front : List Hole → (before : Statements) → List ℕ
 in_front [] before = leaving before
 in_front (Then b n c e r ∷ hs) before = leaving b ++ in_front hs before
@@ -247,7 +247,7 @@ among_parts : (f come k : List ℕ) → among (length f) come (f ++ k) ≡ f ++ 
 among_parts [] come k = refl
 among_parts (n ∷ f) come k = ap (λ ns. n ∷ ns) (among_parts f come k)
 
--- So the breaks are those that are left, with those that come behind the ones in front of the part.
+-- So the breaks are those that are left, with those that come after the ones before the part.
 pub gained : (before olds news behind : Statements) (hs : List Hole) → has_loop hs ≡ false → Distinct (numbers (plug hs (between before behind olds))) →
     leaving (plug hs (between before behind news)) ≡ among (length (in_front hs before)) (leaving news) (left_of (numbers olds) (leaving (plug hs (between before behind olds))))
 gained before olds news behind hs i once =

@@ -27,7 +27,7 @@ module _ (before : List Routine) (l : Layout) (f : Resolver) where
   abbrev One : Statement → Type 0
   One s = FitsCode before l (statement_in f s slot.Stop)
 
-  -- a statement, and the code behind it
+  -- a statement, and the code after it
   record Parts (s : Statement) (r : Code) : Type 0 where
     one : One s
     rest : FitsCode before l r
@@ -120,7 +120,7 @@ module _ (f : Resolver) where
     block_breaks Ends = refl
     block_breaks (Starts s ss) = statement_breaks s (code_in f ss) ∙ ap (λ a. some (leaving_in s) || a) (block_breaks ss) ∙ sym (some_both (leaving_in s) (leaving ss))
 
--- Procedures behind others with the same heads.
+-- Procedures after others with the same heads.
 module _ (l : Layout) (ps : List Procedure) where
   abbrev whole : Resolver
   whole = record { layout = l; earlier = ps }

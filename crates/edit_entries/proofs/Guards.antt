@@ -116,7 +116,7 @@ module _ (ps qs : List Procedure) (p : Procedure) (hs : List Hole) (before behin
   number_kept (If n c t e) = refl
   number_kept (While n c b) = refl
 
-  -- Of the statement itself the same is known but for its condition.
+  -- Of the statement itself the same is known except its condition.
   pub guard_own : Distinct (program_numbers (at s)) → Distinct (program_numbers (at (with_condition s d))) → (x : Entry) → entry_of (entries_of (at s)) (number_of s) ≡ Some x →
       entry_of (entries_of (at (with_condition s d))) (number_of s) ≡ Some (record x { part = part_of (with_condition s d); form = form_in (resolver_at ps p) (with_condition s d) })
   guard_own old new x e =

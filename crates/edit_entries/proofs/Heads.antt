@@ -94,7 +94,7 @@ module _ (l : Layout) (ps : List Procedure) where
         ap (λ (os : List Entry). os ++ block_entries f k (Some (number_of s)) p ss) (statement_bare k a (first_or ss p) s)
         ∙ ap (λ (os : List Entry). statement_entries g k a (first_or ss p) s ++ os) (block_bare k (Some (number_of s)) p ss)
 
--- Procedures behind others whose bodies differ.
+-- Procedures after others whose bodies differ.
 pub as_many : (ps : List Procedure) → length (bares ps) ≡ length ps
 as_many [] = refl
 as_many (p ∷ ps) = ap suc (as_many ps)

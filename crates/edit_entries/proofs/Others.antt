@@ -50,7 +50,7 @@ module _ (f : Resolver) (m : ℕ) where
   head_other c a b p q (tree.If n d t e) h = rw h refl
   head_other c a b p q (tree.While n d x) h = rw h refl
 
-  -- a block with something else in front of it or behind it
+  -- a block with something else before it or after it
   pub next_other : (c : Context) (front p q : Option ℕ) (b : Statements) → is (last_or b None) m ≡ false → entry_of (block_entries f c front p b) m ≡ entry_of (block_entries f c front q b) m
   next_other c front p q Ends h = refl
   next_other c front p q (Starts s Ends) h =

@@ -75,7 +75,7 @@ module _ (ps qs : List Procedure) (p : Procedure) (hs : List Hole) (before part 
     pub part_found : (e : Entry) → In e (block_entries resolver context (last_or before None) (first_or behind None) part) → entry_of (entries_of program) e.number ≡ Some e
     part_found e i = in_block e (in_part resolver e context None None before (append part behind) (inr (in_part resolver e context (last_or before None) None part behind (inl i))))
 
-    -- the statement in front is in front of the first of the part, or of what is behind it
+    -- the statement before is before the first of the part, or of what is after it
     pub front_found : (b : Statements) (s : Statement) → before ≡ append b (Starts s Ends) →
         entry_of (entries_of program) (number_of s) ≡ Some (entry_at resolver context (last_or b None) (first_or part (first_or behind None)) s)
     front_found b s e =
@@ -86,7 +86,7 @@ module _ (ps qs : List Procedure) (p : Procedure) (hs : List Hole) (before part 
         (subst (λ z. In x (block_entries resolver context None (first_or part (first_or behind None)) z)) (sym e)
         (in_part resolver x context None (first_or part (first_or behind None)) b (Starts s Ends) (inr (in_left x (statement_entries resolver context (last_or b None) (first_or part (first_or behind None)) s) [] (own_in resolver context (last_or b None) (first_or part (first_or behind None)) s))))))))
 
-    -- the statement behind is behind the last of the part, or what is in front of it
+    -- the statement after is after the last of the part, or what is before it
     pub next_found : (r : Statements) (s : Statement) → behind ≡ Starts s r →
         entry_of (entries_of program) (number_of s) ≡ Some (entry_at resolver context (last_or part (last_or before None)) (first_or r None) s)
     next_found r s e =

@@ -2,7 +2,7 @@
 use Rattle.std.specs.Prelude.{ℕ, List, [], ◌∷◌, Option, Some, Bool, true}
 use Rattle.imp_syntax.specs.Plain.{Condition, Statements, Ends, Starts, If, While, Procedure}
 
--- one block behind another
+-- one block after another
 abbrev pub append : Statements → Statements → Statements
 append Ends ys = ys
 append (Starts s xs) ys = Starts s (append xs ys)
@@ -43,7 +43,7 @@ loop_of o (Then b n c e r ∷ hs) = loop_of o hs
 loop_of o (Else b n c t r ∷ hs) = loop_of o hs
 loop_of o (Body b n c r ∷ hs) = loop_of (Some n) hs
 
--- these statements in front of, and behind, what is put in
+-- these statements before, and after, what is put in
 abbrev pub between : (before behind : Statements) → Statements → Statements
 between before behind more = append before (append more behind)
 

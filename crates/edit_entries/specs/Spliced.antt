@@ -22,7 +22,7 @@ abbrev pub left_of : (gone : List ℕ) → List ℕ → List ℕ
 left_of gone [] = []
 left_of gone (n ∷ ns) = cond (has gone n) (left_of gone ns) (n ∷ left_of gone ns)
 
--- these come behind the first ones of those that are left
+-- these come after the first ones of those that are left
 abbrev pub among : (before : ℕ) → (come left : List ℕ) → List ℕ
 among before come left = take before left ++ (come ++ drop before left)
 
@@ -44,7 +44,7 @@ pub record Splice : Type 0 where
   -- the innermost loop around them, and the breaks that it then has
   pub loop : Option ℕ
   pub breaks : List ℕ
-  -- what is then behind the one in front, and in front of the one behind
+  -- what is then after the one before, and before the one after
   pub first : Option ℕ
   pub last : Option ℕ
 

@@ -1,4 +1,4 @@
--- A program with those behind it and those ahead of it.
+-- A program with those before it and those after it.
 use Rattle.std.specs.Prelude.{ℕ, ◌+◌, ◌≤◌, List, length, refl}
 use Rattle.std.specs.Coded.{Coded, code_by, coded×, coded_list, coded_ℕ}
 use Rattle.imp_syntax.specs.Plain.{Procedure}

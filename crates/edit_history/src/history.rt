@@ -16,7 +16,7 @@ use std::marker::Model;
 /// How many programs can be gone back to.
 const MOST: usize = 64;
 
-/// The table of a program with the changes that lead to the programs behind it and ahead of it, seen as the programs, the
+/// The table of a program with the changes that lead to the programs before it and after it, seen as the programs, the
 /// nearest first.
 #[derive(Drop)]
 pub struct History {
@@ -40,7 +40,7 @@ impl Model for History {
 }
 
 impl History {
-    /// The history of a program at first: nothing is behind it or ahead of it. It takes all the memory that going back
+    /// The history of a program at first: nothing is before it or after it. It takes all the memory that going back
     /// and forth needs.
     pub fn new(alloc: Global, table: Table) -> Result<History, Memory>
         ensures now { IfOk result (λ h. h.now ≡ table.program) }
@@ -66,7 +66,7 @@ impl History {
         &self.table
     }
 
-    /// Makes places of the table below a number. For want of memory it keeps those that it has.
+    /// Makes places of the table below a number. When memory runs out it keeps those that it has.
     pub fn make_room(&mut self, below: u32) -> Result<(), Memory>
         ensures room { OnOk result (below ≤ self.new.room) }
         ensures no_less { self.old.room ≤ self.new.room }
@@ -77,7 +77,7 @@ impl History {
         self.table.make_room(below)
     }
 
-    /// The change that leads to the program behind, or `None` where there is none.
+    /// The change that leads to the program after, or `None` where there is none.
     pub fn behind(&self) -> Option<&Change>
         ensures there { IsSome result ↔ (0 < length self.now.past) }
         ensures is { MatchOption result (self.now.past ≡ []) (λ change. LeadsOn self.now.room self.now.now change.now self.now.past) }
@@ -93,7 +93,7 @@ impl History {
         self.future.front()
     }
 
-    /// Puts a change in. The program before it is then the nearest one behind, the one furthest behind goes where there
+    /// Puts a change in. The program before it is then the nearest one after, the one furthest after goes where there
     /// would be 65, and none is ahead. It takes no memory and cannot fail.
     pub fn remember(&mut self, mut change: Change)
         ghost program: { List Procedure }
@@ -111,7 +111,7 @@ impl History {
         self.past.push_front_reserved(change);
     }
 
-    /// Goes back to the program behind, which then has the present one ahead of it. It takes no memory and cannot fail.
+    /// Goes back to the program before, which then has the present one after it. It takes no memory and cannot fail.
     pub fn back(&mut self)
         requires there { 0 < length self.old.past }
         ensures now { self.new.now ∷ self.new.past ≡ self.old.past }
@@ -121,7 +121,7 @@ impl History {
         go(&mut self.table, &mut self.past, &mut self.future);
     }
 
-    /// Goes on to the program ahead, which then has the present one behind it. It takes no memory and cannot fail.
+    /// Goes on to the program after it, which then has the present one before it. It takes no memory and cannot fail.
     pub fn forth(&mut self)
         requires there { 0 < length self.old.future }
         ensures now { self.new.now ∷ self.new.future ≡ self.old.future }

@@ -2,7 +2,7 @@
 use Rattle.std.specs.Prelude.{◌≡◌, ◌⊎◌, Bool, true}
 use Rattle.cell_rows.specs.Rows.{Row, Joins}
 
--- Joins behind loops with breaks, with the same left input, which is the only one that the cell has.
+-- Joins after loops with breaks, with the same left input, which is the only one that the cell has.
 abbrev pub AskLeft : (alone : Bool) → Row → Row → Type 0
 AskLeft alone (Joins s l n w p) (Joins t k m v q) = (l ≡ k) × (alone ≡ true)
 AskLeft alone _ _ = ⊥

@@ -73,7 +73,7 @@ fn same_binary(a: &Binary<'_>, b: &Binary<'_>) -> bool
     }
 }
 
-/// Whether two rows are the same but for the left inputs of joins behind loops.
+/// Whether two rows are the same except the left inputs of joins after loops.
 fn same_row(in_main: bool, left_alone: bool, row: &Row<'_>, other: &Row<'_>) -> bool
     ensures is { result ≡ same_row in_main left_alone row.now other.now }
 {
@@ -92,7 +92,7 @@ fn same_row(in_main: bool, left_alone: bool, row: &Row<'_>, other: &Row<'_>) -> 
 }
 
 /// Whether two rows of a name ask for the same. `in_main` says that the name's path is empty, and `left_alone` that its
-/// cell has one input. They do where they are the same row; or where both are joins behind a loop with breaks, with the
+/// cell has one input. They do where they are the same row; or where both are joins after a loop with breaks, with the
 /// same left input, which is the only one of the cell.
 ///
 /// It takes time linear in what the rows use, as conditions, layouts and thresholds.

@@ -3,7 +3,7 @@
 //! An edit exchanges a program, and the cells of a graph may no longer be right. [`plan`] finds those that are not: of
 //! the cells that belong to changed statements it takes those whose own row is changed ([`same_rows`]), and then, along
 //! the graph's dependents, all that are computed from them. It takes all memory, and changes nothing. `commit` of crate
-//! `cell_removal` takes the planned cells away, each behind those that use it; it takes no memory and cannot fail.
+//! `cell_removal` takes the planned cells away, each after those that use it; it takes no memory and cannot fail.
 //!
 //! What is left are exactly the kept cells of the edit (`IsKept` of crate `cell_kept_set`), and they are cells of the new
 //! program ([`plans_leave_kept`]).

@@ -132,7 +132,7 @@ procedure_seen es p =
     seen : (q : ℕ × Text) → TextSeen (record { layout = layout_in p; earlier = es }) p.name (seats p.name [] p.body) [] q → IsSeen (seats p.name [] p.body) (flat_of (routine_of es p) (reverse (routines_of es)) q)
     seen q s = record { callee = s.callee; sits = s.sits; told = λ m e. by_code (callee_of q.1.code) s.callee s.told m e }
 
--- The same for procedures behind others.
+-- The same for procedures after others.
 rest_seen : (es ps : List Procedure) (xs : List (ℕ × Seat)) → Each (IsSeen xs) (flat (reverse (routines_of es))) → Each (IsSeen (xs ++ program_seats ps)) (flat (reverse (routines_of (es ++ ps))))
 rest_seen es [] xs e =
     subst (λ ys. Each (IsSeen ys) (flat (reverse (routines_of (es ++ []))))) (sym (append-nil xs)) (subst (λ zs. Each (IsSeen xs) (flat (reverse (routines_of zs)))) (sym (append-nil es)) e)

@@ -18,7 +18,7 @@ mod laws;
 
 pub use laws::edits_leave_kept;
 
-/// A statement that the programs before and behind an edit both have stands in the same procedure and in the same
+/// A statement that the programs before and after an edit both have stands in the same procedure and in the same
 /// loops of it, and a call is of the same procedure.
 pub fn edits_keep_places()
     ensures keep { EditsKeepPlaces }

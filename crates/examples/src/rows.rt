@@ -1,7 +1,7 @@
-//! Runs that a text tells of: blocks of lines, an empty line behind each. The first byte of a line says what it is: `#` a
+//! Runs that a text tells of: blocks of lines, an empty line after each. The first byte of a line says what it is: `#` a
 //! remark, `$` the words, `:` a line of the source `f`, `%` a line of the certificate `c`, `>` a line of the script and
 //! `~` a last one without its end, `<` a line that is to be written, `?` the status to end with, 0 where none is told.
-//! What it holds stands behind a space; `%` alone says that there is a certificate, of which other lines tell.
+//! What it holds stands after a space; `%` alone says that there is a certificate, of which other lines tell.
 use crate::served::{MOST, status_of};
 use io_edge::{FaultPlan, MemFiles, MemSink, MemSource, NamedFile};
 use std::alloc::Global;

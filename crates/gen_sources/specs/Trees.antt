@@ -21,7 +21,7 @@ use Rattle.imp_round_trip.specs.Renumbered.{renumbered}
 abbrev pub named : ℕ → Expression
 named x = Variable (variable_text x)
 
--- a statement without its number, in front of others
+-- a statement without its number, before others
 abbrev pub before : plain.Action → Statements → Statements
 before a rest = Starts (plain.Simple 0 a) rest
 
@@ -31,7 +31,7 @@ sets x e = plain.Assign (variable_text x) e
 abbrev pub less : Expression → Expression → Condition
 less a b = Compare Less (Value a) (Value b)
 
--- the statements of a piece in front of others, without their numbers; the state is the one behind the draw of its kind
+-- the statements of a piece before others, without their numbers; the state is the one after the draw of its kind
 abbrev pub piece_tree : PieceKind → ℕ → Statements → Statements
 piece_tree Constant s rest = before (sets (variable s) (Literal (constant (next s)))) rest
 piece_tree Sum s rest = before (sets (variable s) (Binary Add (named (variable (next s))) (Literal (constant (next (next s)))))) rest

@@ -42,7 +42,7 @@ kind_in line =
 abbrev pub nothing : ReplyTally
 nothing = record { edits = 0; filled = 0; over = 0; refused = 0; states = 0; is_answered = false }
 
--- one more reply; a cost counts where it comes straight behind a state or an over
+-- one more reply; a cost counts where it comes straight after a state or an over
 abbrev pub counted : ReplyKind → (cost : ℕ) → ReplyTally → ReplyTally
 counted Next cost t = record { edits = t.edits + 1; filled = t.filled; over = t.over; refused = t.refused; states = t.states; is_answered = false }
 counted State cost t = record { edits = t.edits; filled = t.filled; over = t.over; refused = t.refused; states = t.states + 1; is_answered = true }

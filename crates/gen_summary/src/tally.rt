@@ -9,7 +9,7 @@ use crate::kind::{ReplyKind, kind_of};
 use base_values::Memory;
 use std::alloc::Global;
 
-/// How many replies there are of each kind, and how many cells the states cost whose cost was asked for straight behind.
+/// How many replies there are of each kind, and how many cells the states cost whose cost was asked for straight after.
 #[derive(Clone, Copy, Debug, PartialEq, Eq)]
 pub struct ReplyTally {
     /// Edits that were made.

@@ -86,7 +86,7 @@ places_are_found program c p r e =
       name = named_at 0 program p r c.names_once e ∙ ap Some j;
     }
 
--- A procedure's callers stand behind it.
+-- A procedure's callers stand after it.
 pub callee_before : (before : List Routine) (l : Layout) (i : Invoke) (q : ℕ) (o : Option Routine) → slice_get before q ≡ o → FitsCall l i o → q < length before
 callee_before before l i q None e f = absurd f
 callee_before before l i q (Some c) e f = slice_get_within before q c e
@@ -105,7 +105,7 @@ called_earlier before l p (Call n i q r) f h =
     (λ e. called_earlier before l p r f.1 h)
 called_earlier before l p (Break n r) f h = called_earlier before l p r f h
 
--- Two ways to the chains of callers that agree on all procedures behind p go through the same callers.
+-- Two ways to the chains of callers that agree on all procedures after p go through the same callers.
 same_here : (f g : ℕ → List (List ℕ)) (before : List Routine) (r : Routine) (p k : ℕ) → FitsCode before r.layout r.code → k ≡ length before → (p < k → f k ≡ g k) → extended (f k) (calls_to p r.code) ≡ extended (g k) (calls_to p r.code)
 same_here f g before r p k fit e s = by (nat_lt p k) refl
   where

@@ -95,7 +95,7 @@ head_word : (x : ℤ) (xs : List ℤ) → IsRising (x ∷ xs) → IsWord x
 head_word x [] r = r
 head_word x (y ∷ ys) r = r.0
 
--- behind a smaller first threshold
+-- after a smaller first threshold
 behind : (x z : ℤ) (ys : List ℤ) → IsWord z → x <ℤ z → IsRising (x ∷ ys) → IsRising (with_threshold z ys) → IsRising (x ∷ with_threshold z ys)
 behind x z [] w h r k = (r, h, w)
 behind x z (y ∷ ys) w h r k = go (int_lt z y) (int_lt y z) k

@@ -12,7 +12,7 @@ calls_to p (While n g b r) = calls_to p b ++ calls_to p r
 calls_to p (Call n i q r) = if p == q then n ∷ calls_to p r else calls_to p r
 calls_to p (Break n r) = calls_to p r
 
--- for each call in order, the chains of its procedure, with the call behind them
+-- for each call in order, the chains of its procedure, with the call after them
 abbrev pub extended : List (List ℕ) → List ℕ → List (List ℕ)
 extended zs [] = []
 extended zs (n ∷ ns) = map (λ z. n ∷ z) zs ++ extended zs ns

@@ -8,7 +8,7 @@ pub fn thresholds_rise()
 {}
 
 /// The chains to a procedure of a checked program that is not main are, in the order of the text, those
-/// of the procedures that call it, each with the call behind.
+/// of the procedures that call it, each with the call after.
 pub fn chains_go_through_callers()
     ensures through { ChainsAreThroughCallers }
 {}

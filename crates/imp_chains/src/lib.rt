@@ -2,7 +2,7 @@
 //!
 //! A *chain* to a procedure is the list of call statements from main to it: main has the empty one, any
 //! other procedure for each call of it, in the order of the text, each chain of the procedure that holds
-//! the call, with the call behind. A *call string* selects the chains of which it is a suffix. The
+//! the call, with the call after. A *call string* selects the chains of which it is a suffix. The
 //! definitions keep chains with the last call site first (`specs/Chains.antt`).
 //!
 //! The *thresholds* of a procedure are the numbers at which widening stops: -1, 0, 1, and L and -L for each

@@ -162,7 +162,7 @@ pub tallies_length : (ps : List Procedure) → length (tallies_of ps) ≡ length
 tallies_length [] = refl
 tallies_length (p ∷ ps) = ap suc (tallies_length ps)
 
--- the tallies from a procedure on, by those of the procedures behind it
+-- the tallies from a procedure on, by those of the procedures after it
 pub tallies_before : (ps : List Procedure) (i : ℕ) (p : Procedure) → i < length ps → p ≡ get_or ps i p → tallies_of (drop i ps) ≡ tally_of (chains_to p.name (drop (i + 1) ps)) ∷ tallies_of (drop (i + 1) ps)
 tallies_before ps i p h e = rw (drop-cons ps i p, add-one, ← e) refl
 

@@ -6,7 +6,7 @@ use Rattle.imp_slots.specs.Plain.{Code, Stop}
 use Rattle.imp_slots.specs.BlockViews.{before_code, code_of}
 use Rattle.imp_slots.specs.declared.blocks.SlotNode.{SlotNode}
 
--- statements with what comes behind them
+-- statements with what comes after them
 abbrev pub code_then : List SlotNode → Code → Code
 code_then [] r = r
 code_then (n ∷ ns) r = before_code n (code_then ns r)

@@ -37,7 +37,7 @@ pub known_right : (at : ℕ → Option Entry) (xs ys : List Entry) → Known at 
 known_right at xs ys k x h = k x (in_right x xs ys h)
 
 module _ (at : ℕ → Option Entry) (f : Resolver) where
-  -- a statement whose spot is found, and what is behind it
+  -- a statement whose spot is found, and what is after it
   step : (m : ℕ) (x : Entry) (s : Statement) (ss : Statements) → at x.number ≡ Some x → statement_with x.part (block_from at m x.inner.first) (block_from at m x.other.first) ≡ s → block_from at m x.next ≡ ss → block_from at (suc m) (Some x.number) ≡ Starts s ss
   step m x s ss k e r = ap (from_entry (block_from at m)) k ∙ ap (λ (t : Statement). Starts t (block_from at m x.next)) e ∙ ap (Starts s) r
 

@@ -38,7 +38,7 @@ walk_nothing at zero = refl
 walk_nothing at (suc m) = refl
 
 module _ (at : ℕ → Option Entry) (f : Resolver) where
-  -- a statement whose entry is found, those inside it, and those behind it
+  -- a statement whose entry is found, those inside it, and those after it
   step : (m : ℕ) (x : Entry) (xs ys zs : List ℕ) → at x.number ≡ Some x → walk at m x.inner.first ≡ xs → walk at m x.other.first ≡ ys → walk at m x.next ≡ zs → walk at (suc m) (Some x.number) ≡ x.number ∷ (xs ++ (ys ++ zs))
   step m x xs ys zs k p q r = ap (walked (walk at m)) k ∙ (λ i. x.number ∷ (p i ++ (q i ++ r i)))
 

@@ -16,12 +16,12 @@ abbrev mutual
   calls f Ends = []
   calls f (Starts s ss) = calls_in f s ++ calls f ss
 
--- each of these chains, with each of these calls behind it: all chains of the first call first
+-- each of these chains, with each of these calls after it: all chains of the first call first
 abbrev pub extended : List (List ℕ) → List ℕ → List (List ℕ)
 extended chains [] = []
 extended chains (s ∷ ss) = map (λ w. w ++ s ∷ []) chains ++ extended chains ss
 
--- The chains to the procedure f, of which `later` stand behind it: each call of f in a later procedure ends chains, one
+-- The chains to the procedure f, of which `later` stand after it: each call of f in a later procedure ends chains, one
 -- for each chain to that procedure. The last procedure has the one empty chain.
 abbrev mutual
   pub chains_to : List ℕ → (later : List Procedure) → List (List ℕ)

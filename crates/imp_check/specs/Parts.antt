@@ -11,7 +11,7 @@ part_of (Call n x g es) = Call n x g es
 part_of (If n c t e) = If n c Ends Ends
 part_of (While n c b) = While n c Ends
 
--- the first statement of a block, or else what stands behind it; the last one, or else what stands in front of it
+-- the first statement of a block, or else what stands after it; the last one, or else what stands before it
 abbrev pub first_or : Statements → Option ℕ → Option ℕ
 first_or Ends o = o
 first_or (Starts s ss) o = Some (number_of s)

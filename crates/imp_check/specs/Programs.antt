@@ -75,7 +75,7 @@ abbrev pub count_links : List Declaration → ℕ
 count_links [] = 0
 count_links (d ∷ ds) = one_link d.kind + count_links ds
 
--- one variable behind others: no name twice, at most 16 ints and arrays, at most 8 lists
+-- one variable after others: no name twice, at most 16 ints and arrays, at most 8 lists
 abbrev pub variable_fault : (seen : List Declaration) → Declaration → Option Fault
 variable_fault seen d =
     first (unless (not (is_known (kind_of seen d.name))) Redeclared)
@@ -148,7 +148,7 @@ pub record AreNumbered (ps : List Procedure) : Type 0 where
   pub no_zero : Absent 0 (program_numbers ps)
   pub once : Distinct (program_numbers ps)
 
--- the same as a test: no number is 0, and none stands again behind it
+-- the same as a test: no number is 0, and none stands again after it
 abbrev pub has : List ℕ → ℕ → Bool
 has [] n = false
 has (m ∷ ms) n = (n == m) || has ms n

@@ -191,7 +191,7 @@ callee_in f g = place_named f.earlier g
 abbrev pub invoke_in : Resolver → Option (List ℕ) → List ℕ → List Operand → Invoke
 invoke_in f x g es = invoke_of f.layout x es (slice_get f.earlier (callee_in f g))
 
--- a statement with what comes behind it, and a block
+-- a statement with what comes after it, and a block
 abbrev mutual
   pub statement_in : Resolver → Statement → Code → Code
   statement_in f (tree.Simple n a) r = slot.Simple n (effect_in f.layout a) r

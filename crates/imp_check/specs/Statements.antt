@@ -11,7 +11,7 @@ use Rattle.imp_check.specs.Faults.{unless, first, at}
 use Rattle.imp_check.specs.Names.{kind_of, is_int, is_array, is_link, procedure_named, is_named}
 use Rattle.imp_check.specs.Kinds.{knows, knows_operands, knows_condition, knows_action, fits_condition, fits_action, int_operand, array_operand, link_operand}
 
--- What the statements of a procedure may name: the procedures before it, itself and those behind it, its variables.
+-- What the statements of a procedure may name: the procedures before it, itself and those after it, its variables.
 pub record Scope : Type 0 where
   pub earlier : List Procedure
   pub others : List Procedure

@@ -17,7 +17,7 @@ tally_sum a b = record { count = capped (a.count + b.count); longest = max a.lon
 abbrev pub none : ChainTally
 none = record { count = 0; longest = 0 }
 
--- the chains of a tally, each with each of so many calls behind it
+-- the chains of a tally, each with each of so many calls after it
 unfoldable pub called : ChainTally → ℕ → ChainTally
 called t n = cond (nat_lt 0 t.count) (cond (nat_lt 0 n) (record { count = capped (t.count * n); longest = capped (t.longest + 1) }) none) none
 

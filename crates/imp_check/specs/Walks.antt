@@ -12,7 +12,7 @@ body_numbers (Some p) = numbers p.body
 abbrev pub numbers_at : List Procedure → (place : ℕ) → List ℕ
 numbers_at ps k = body_numbers (slice_get ps k)
 
--- a statement, those of its blocks, and those behind it
+-- a statement, those of its blocks, and those after it
 abbrev pub walked : (walk : Option ℕ → List ℕ) → Option Entry → List ℕ
 walked walk None = []
 walked walk (Some e) = e.number ∷ (walk e.inner.first ++ (walk e.other.first ++ walk e.next))

@@ -107,7 +107,7 @@ pub struct TableParts {
 }
 
 /// What the table of a program without faults has. It takes time linear in the program and in its largest number, and
-/// fails for want of memory alone.
+/// fails only when memory runs out.
 #[tactic(auto, using(crate::proofs::FewLemmas::few_checked, crate::proofs::FewLemmas::few_statements, crate::proofs::TableLemmas::made))]
 pub fn table_parts(alloc: Global, procs: &[Proc]) -> Result<TableParts, Memory>
     requires fine { IsFine procs.now }

@@ -27,7 +27,7 @@ impl ChainTally {
         }
     }
 
-    /// These chains, each with each of so many calls behind it.
+    /// These chains, each with each of so many calls after it.
     #[tactic(auto, unfolding(crate::specs::Tallies::called))]
     fn called(self, calls: u32) -> ChainTally
         ensures is { result ≡ called self calls }

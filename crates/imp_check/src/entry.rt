@@ -15,9 +15,9 @@ pub struct Entry {
     pub form: SlotForm,
     /// The block that it stands in.
     pub context: Context,
-    /// The statement in front of it in its block.
+    /// The statement before it in its block.
     pub front: Option<StmtId>,
-    /// The statement behind it in its block.
+    /// The statement after it in its block.
     pub next: Option<StmtId>,
     /// The ends of the first block of an if, or of the body of a while.
     pub inner: BlockEnds,

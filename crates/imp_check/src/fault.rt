@@ -62,7 +62,7 @@ pub enum CheckError {
     /// The program has a fault.
     #[error("the program has a fault")]
     Fault(LocatedFault),
-    /// Want of memory.
+    /// Out of memory.
     #[error("out of memory")]
     Memory,
 }

@@ -9,7 +9,7 @@ use std::alloc::Global;
 use std::collections::HashSet;
 
 /// Whether all statement numbers of a program are 1 or more, and each stands there once. It takes time linear in the
-/// program, and fails for want of memory alone.
+/// program, and fails only when memory runs out.
 #[tactic(auto, using(crate::proofs::NumberLemmas::numbered))]
 pub fn is_numbered(alloc: Global, program: &Program) -> Result<bool, Memory>
     ensures decides { IfOk result (λ answer. (answer ≡ true) ↔ AreNumbered program.now) }

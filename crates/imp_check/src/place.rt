@@ -37,7 +37,7 @@ impl TableSlot {
         TableSlot { entry: None }
     }
 
-    /// A place where this entry stands. It fails for want of memory alone.
+    /// A place where this entry stands. It fails only when memory runs out.
     pub fn of(alloc: Global, entry: Entry) -> Result<TableSlot, Memory>
         ensures is { IfOk result (λ place. place ≡ Some entry) }
     {

@@ -89,7 +89,7 @@ fn count_links(variables: &[Declaration]) -> usize
     count
 }
 
-/// The fault of a variable behind others.
+/// The fault of a variable after others.
 fn variable_fault(seen: &[Declaration], variable: &Declaration) -> Option<Fault>
     ensures is { result ≡ variable_fault seen.now variable.now }
 {
@@ -265,7 +265,7 @@ fn check_fault(alloc: Global, procs: &[Proc]) -> Result<Option<LocatedFault>, Me
 ///
 /// # Errors
 ///
-/// [`CheckError::Fault`] with the first fault, and [`CheckError::Memory`] for want of memory.
+/// [`CheckError::Fault`] with the first fault, and [`CheckError::Memory`] when memory runs out.
 pub fn check_procs(alloc: Global, procs: &[Proc]) -> Result<(), CheckError>
     requires numbered { AreNumbered procs.now }
     ensures fine { IfOk result (λ _. IsFine procs.now) }

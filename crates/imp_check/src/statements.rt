@@ -21,7 +21,7 @@ use imp_syntax::{
 };
 use std::marker::Model;
 
-/// What the statements of a procedure may name: the procedures before it, itself and those behind it, its variables.
+/// What the statements of a procedure may name: the procedures before it, itself and those after it, its variables.
 #[derive(Drop)]
 pub(crate) struct Scope<'a> {
     earlier: &'a [Proc],

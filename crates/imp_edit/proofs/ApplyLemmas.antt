@@ -21,7 +21,7 @@ is_refusal o Numbers e = e
 is_refusal o (Fault f) e = e
 is_refusal o Memory e = tt
 
--- what comes behind where the edit goes
+-- what comes after where the edit goes
 abbrev behind : Edit → List Procedure → ℕ → Option EditError
 behind e ps next = first (numbers_refusal (uses e) next) (option_map Fault (check_fault (edited e ps)))
 

@@ -74,7 +74,7 @@ last (Starts s ss) = go (last ss)
     go (inl e) = inr (record { before = Ends; stmt = s; is_last = ap (Starts s) e })
     go (inr l) = inr (record { before = Starts s l.before; stmt = l.stmt; is_last = ap (Starts s) l.is_last })
 
--- How many breaks are in front of a place, by those of a statement there.
+-- How many breaks are before a place, by those of a statement there.
 more_in_front : (hs : List Hole) (b x : Statements) → length (in_front hs (append b x)) ≡ length (leaving x) + length (in_front hs b)
 more_in_front [] b x = omega (arith, ap (λ (ns : List ℕ). length ns) (leaving_append b x), length-append (leaving b) (leaving x))
 more_in_front (Then v n c e r ∷ hs) b x = omega (arith, more_in_front hs b x, length-append (leaving v) (in_front hs (append b x)), length-append (leaving v) (in_front hs b))
@@ -143,7 +143,7 @@ module _ (ps qs : List Procedure) (p : Procedure) (outer : List Hole) (loop : Ho
   abbrev Counted : (m : ℕ) → List Hole → Statements → Type 0
   Counted m inner before = front_count at' m (k inner).around (last_or before None) ≡ length (in_front inner before)
 
-  -- behind a statement
+  -- after a statement
   counted_behind : (m : ℕ) (inner : List Hole) (b r : Statements) (s : Statement) → block_count (Starts s Ends) ≤ m → P ≡ with_block inner (append b (Starts s r)) → Counted m inner b → Counted (suc m) inner (append b (Starts s Ends))
   counted_behind m inner b r s few e rest =
       let w = (k inner).around in
@@ -156,7 +156,7 @@ module _ (ps qs : List Procedure) (p : Procedure) (outer : List Hole) (loop : Ho
       ∙ ap (λ n. n + length (in_front inner b)) (sym one)
       ∙ sym (more_in_front inner b (Starts s Ends))
 
-  -- in front of a block of an if
+  -- before a block of an if
   counted_then : (m : ℕ) (gs : List Hole) (b : Statements) (n : ℕ) (c : Condition) (u r x : Statements) → P ≡ with_block gs (append b (Starts (If n c x u) r)) → Counted m gs b → Counted (suc m) (gs ++ Then b n c u r ∷ []) Ends
   counted_then m gs b n c u r x e rest =
       let h = Then b n c u r in

@@ -35,7 +35,7 @@ quiet_none at (suc left) None h = refl
 quiet_none at (suc left) (Some n) h = ap (quiet_on (quiet_from at left)) h
 
 module _ (at : ℕ → Option Entry) (f : Resolver) where
-  -- a statement whose entry is found, those of its blocks, and those behind it
+  -- a statement whose entry is found, those of its blocks, and those after it
   step : (m : ℕ) (x : Entry) (p q r : Bool) → at x.number ≡ Some x → quiet_from at m x.inner.first ≡ p → quiet_from at m x.other.first ≡ q → quiet_from at m x.next ≡ r →
       quiet_from at (suc m) (Some x.number) ≡ (not (is_call x.part) && (p && (q && r)))
   step m x p q r k h i j =

@@ -169,7 +169,7 @@ module _ (d : Edit) (n : ℕ) (made : Statement → Statements) (P : List Proced
       }
 
 module _ (more : Statements) (P : List Procedure) (once : Distinct (program_numbers P)) (n : ℕ) (e : Entry) (k : entry_of (entries_of P) n ≡ Some e) where
-  -- Behind a statement.
+  -- After a statement.
   behind_part : GapPart (edit.Insert (place.After n) more) P (record { context = e.context; front = Some e.number; next = e.next; gone = [] })
   behind_part =
       let t = there n P e once k in
@@ -193,7 +193,7 @@ module _ (more : Statements) (P : List Procedure) (once : Distinct (program_numb
         becomes = program_edited n (followed more) P once s ∙ ap (λ b. s.front ++ with_body s.own (plug l.holes b) ∷ s.back) (sym (append_again l.before one (append more l.behind)));
       }
 
-  -- In front of a block of a statement.
+  -- Before a block of a statement.
   module _ (d : Edit) (made : Statement → Statements) (same : edited d P ≡ in_program n made P) (brings : brought d ≡ more) (c : Context) (o : Option ℕ) (t : There n P e) where
     abbrev s : Stands n P
     s = t.place
@@ -285,7 +285,7 @@ module _ (more : Statements) (P : List Procedure) (once : Distinct (program_numb
           (ap (λ (x : Entry). inside_loop x.context x.number) t.entry ∙ ap (λ s. inside_loop (context_of (context_at (length t.place.front)) l.holes) (number_of s)) q)
           (ap (λ (x : Entry). x.inner.first) t.entry ∙ ap (λ s. (first_ends s).first) q)
 
--- In front of the body of a procedure.
+-- Before the body of a procedure.
 record Named (x : List ℕ) (P : List Procedure) : Type 0 where
   front : List Procedure
   own : Procedure

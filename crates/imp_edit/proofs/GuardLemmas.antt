@@ -60,7 +60,7 @@ guarded_part d (Call n x g es) = refl
 guarded_part d (If n c t e) = refl
 guarded_part d (While n c b) = refl
 
--- The fault of a condition, with no other one behind it.
+-- The fault of a condition, with no other one after it.
 alone_in : {A B : Type 0} (f : Option A → B) (o t e : Option A) → t ≡ None → e ≡ None → f (first (first o (first t e)) None) ≡ f o
 alone_in f o t e p q = ap (λ z. f (first (first o (first z e)) None)) p ∙ ap (λ z. f (first (first o z) None)) q ∙ ap f (first_alone (first o None) ∙ first_alone o)
 

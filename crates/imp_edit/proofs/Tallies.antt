@@ -75,7 +75,7 @@ module _ (n m : ℕ) (made : Statement → Statements) (more : ℕ) (few : (s : 
       let d = ap (λ z. z * more) (often_both n (numbers p.body) (program_numbers ps)) in
       omega (arith, a, b, d, block_often p.body, program_often ps)
 
--- Lists of procedures one behind the other.
+-- Lists of procedures one after the other.
 pub programs_both : (m : ℕ) (ps qs : List Procedure) → often m (program_numbers (ps ++ qs)) ≡ often m (program_numbers ps) + often m (program_numbers qs)
 programs_both m [] qs = omega arith
 programs_both m (p ∷ ps) qs =

@@ -9,7 +9,7 @@ use Rattle.edit_entries.specs.Holes.{append}
 use Rattle.imp_edit.specs.Changes.{guarded, in_block, in_statement}
 use Rattle.imp_check.proofs.StepLemmas.{block_is_of}
 
--- the statements of one block in front of another, and back
+-- the statements of one block before another, and back
 pub both : (xs ys : Statements) → statements_of (append xs ys) ≡ statements_of xs ++ statements_of ys
 both Ends ys = refl
 both (Starts s xs) ys = ap (λ (zs : List Statement). s ∷ zs) (both xs ys)

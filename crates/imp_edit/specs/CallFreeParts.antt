@@ -11,7 +11,7 @@ is_call (Call n x g es) = true
 is_call (If n c t e) = false
 is_call (While n c b) = false
 
--- whether a statement, those of its blocks, and those behind it do not call
+-- whether a statement, those of its blocks, and those after it do not call
 abbrev pub quiet_on : (quiet : Option ℕ → Bool) → Option Entry → Bool
 quiet_on quiet None = true
 quiet_on quiet (Some e) = not (is_call e.part) && (quiet e.inner.first && (quiet e.other.first && quiet e.next))

@@ -22,7 +22,7 @@ abbrev pub in_program : ℕ → (made : Statement → Statements) → List Proce
 in_program n made [] = []
 in_program n made (p ∷ ps) = with_body p (in_block n made p.body) ∷ in_program n made ps
 
--- It is removed, with all inside it; it becomes another; others are put behind it, or in front of one of its blocks; it gets
+-- It is removed, with all inside it; it becomes another; others are put after it, or before one of its blocks; it gets
 -- another condition.
 abbrev pub deleted : Statement → Statements
 deleted s = Ends
@@ -66,7 +66,7 @@ abbrev pub at_named : List ℕ → (made : Procedure → List Procedure) → Lis
 at_named x made [] = []
 at_named x made (p ∷ ps) = cond (bytes_eq p.name x) (made p ++ ps) (p ∷ at_named x made ps)
 
--- Statements are put in front of its body; it gets a last local variable; another one is put before it; it is removed.
+-- Statements are put before its body; it gets a last local variable; another one is put before it; it is removed.
 abbrev pub started : Statements → Procedure → List Procedure
 started more p = with_body p (append more p.body) ∷ []
 

@@ -36,7 +36,7 @@ brought (edit.Declare x d) = Ends
 brought (edit.AddProc x p) = p.body
 brought (edit.DropProc x) = Ends
 
--- how many numbers it uses, and the next one behind them
+-- how many numbers it uses, and the next one after them
 abbrev pub uses : Edit → ℕ
 uses e = block_count (brought e)
 

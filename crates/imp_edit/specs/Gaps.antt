@@ -31,11 +31,11 @@ use Rattle.imp_edit.specs.CallFreeParts.{part_numbers, part_quiet}
 abbrev pub gone_gap : (at : ℕ → Option Entry) → (most : ℕ) → Entry → Option Gap
 gone_gap at most e = cond (part_quiet at most e) (Some (record { context = e.context; front = e.front; next = e.next; gone = part_numbers at most e })) None
 
--- behind a statement
+-- after a statement
 abbrev pub behind_gap : Entry → Option Gap
 behind_gap e = Some (record { context = e.context; front = Some e.number; next = e.next; gone = [] })
 
--- in front of a block, whose first statement is this one: a block of a statement, or the body of the procedure at a place
+-- before a block, whose first statement is this one: a block of a statement, or the body of the procedure at a place
 abbrev pub first_gap : Context → (first : Option ℕ) → Gap
 first_gap k first = record { context = k; front = None; next = first; gone = [] }
 

@@ -99,7 +99,7 @@ edit_refusal e ps next =
     (first (numbers_refusal (uses e) next)
     (option_map Fault (check_fault (edited e ps))))
 
--- the error is the first refusal, or want of memory
+-- the error is the first refusal, or out of memory
 abbrev pub IsRefusal : Option EditError → EditError → Type 0
 IsRefusal o NoProcedure = o ≡ Some NoProcedure
 IsRefusal o NoStatement = o ≡ Some NoStatement

@@ -27,7 +27,7 @@ use std::alloc::Global;
 pub struct Edited {
     /// The change of the program.
     pub change: Change,
-    /// The number behind all those of the new program: that of the next new statement.
+    /// The number after all those of the new program: that of the next new statement.
     pub next: u32,
 }
 
@@ -40,13 +40,13 @@ pub struct Edited {
 /// procedure. Where no call stands in the statements that come or in the one that goes, and each break that comes has a
 /// loop, it takes time in proportion to those that come, with those inside them, and, for each, to the square of the
 /// variables of the procedure, and to those that go and, for each of them, to the breaks of the loop around it; where a
-/// break comes to a loop that keeps others, to the statements of that loop in front of it; at the start or the end of a
+/// break comes to a loop that keeps others, to the statements of that loop before it; at the start or the end of a
 /// procedure's body, time linear in the procedures too. All else takes time linear in the program and in `next`.
 ///
 /// # Errors
 ///
 /// The first refusal by `edit_refusal`: where the edit goes, then whether the numbers suffice, then the first fault of
-/// the new program. [`EditError::Memory`] for want of memory.
+/// the new program. [`EditError::Memory`] when memory runs out.
 #[tactic(auto, using(crate::proofs::Numbered::numbered_again, crate::proofs::Numbered::below_again, crate::proofs::ApplyLemmas::site_refused, crate::proofs::ApplyLemmas::numbers_refused, crate::proofs::ApplyLemmas::fault_left, crate::proofs::ApplyLemmas::next_is, crate::proofs::ApplyLemmas::no_fault))]
 pub fn apply(alloc: Global, table: &Table, edit: &Edit, next: u32) -> Result<Edited, EditError>
     requires positive { 0 < next }

@@ -4,7 +4,7 @@ ghost use Rattle.imp_check.specs.Parts.{first_or, last_or};
 
 use imp_syntax::{Block, StmtId};
 
-/// The first statement of a block, or else what stands behind it.
+/// The first statement of a block, or else what stands after it.
 pub(crate) fn first_or(block: &Block, next: Option<StmtId>) -> Option<StmtId>
     ensures is { result ≡ first_or block.now next }
 {
@@ -14,7 +14,7 @@ pub(crate) fn first_or(block: &Block, next: Option<StmtId>) -> Option<StmtId>
     }
 }
 
-/// The last statement of a block, or else what stands in front of it.
+/// The last statement of a block, or else what stands before it.
 pub(crate) fn last_or(block: &Block, front: Option<StmtId>) -> Option<StmtId>
     ensures is { result ≡ last_or block.now front }
 {

@@ -31,7 +31,7 @@ pub enum EditError {
     /// The new program has this fault, and no earlier one.
     #[error("the new program has a fault")]
     Fault(LocatedFault),
-    /// Want of memory.
+    /// Out of memory.
     #[error("out of memory")]
     Memory,
 }

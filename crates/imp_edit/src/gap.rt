@@ -80,7 +80,7 @@ fn place_gap(alloc: Global, table: &Table, place: &Place) -> Option<Gap>
     }
 }
 
-/// Behind a statement.
+/// After a statement.
 fn behind_gap(alloc: Global, table: &Table, stmt: StmtId) -> Option<Gap>
     ensures is { result ≡ of_entry behind_gap (entry_of (entries_of table.now.program) stmt) }
 {
@@ -93,7 +93,7 @@ fn behind_gap(alloc: Global, table: &Table, stmt: StmtId) -> Option<Gap>
     })
 }
 
-/// In front of the first block of an if.
+/// Before the first block of an if.
 #[tactic(auto, using(crate::proofs::GapLemmas::shallow))]
 fn then_gap(alloc: Global, table: &Table, stmt: StmtId) -> Option<Gap>
     ensures is { result ≡ of_entry then_gap (entry_of (entries_of table.now.program) stmt) }
@@ -104,7 +104,7 @@ fn then_gap(alloc: Global, table: &Table, stmt: StmtId) -> Option<Gap>
     Some(first_gap(alloc, context, entry.inner.first))
 }
 
-/// In front of the second block of an if.
+/// Before the second block of an if.
 #[tactic(auto, using(crate::proofs::GapLemmas::shallow))]
 fn else_gap(alloc: Global, table: &Table, stmt: StmtId) -> Option<Gap>
     ensures is { result ≡ of_entry else_gap (entry_of (entries_of table.now.program) stmt) }
@@ -115,7 +115,7 @@ fn else_gap(alloc: Global, table: &Table, stmt: StmtId) -> Option<Gap>
     Some(first_gap(alloc, context, entry.other.first))
 }
 
-/// In front of the body of a while.
+/// Before the body of a while.
 #[tactic(auto, using(crate::proofs::GapLemmas::shallow))]
 fn body_gap(alloc: Global, table: &Table, stmt: StmtId) -> Option<Gap>
     ensures is { result ≡ of_entry body_gap (entry_of (entries_of table.now.program) stmt) }
@@ -126,7 +126,7 @@ fn body_gap(alloc: Global, table: &Table, stmt: StmtId) -> Option<Gap>
     Some(first_gap(alloc, context, entry.inner.first))
 }
 
-/// In front of the body of a procedure.
+/// Before the body of a procedure.
 fn start_gap(alloc: Global, table: &Table, proc: ProcId) -> Option<Gap>
     ensures is { result ≡ of_place (heads_of table.now.program) (Some proc) }
 {
@@ -140,7 +140,7 @@ fn start_gap(alloc: Global, table: &Table, proc: ProcId) -> Option<Gap>
     Some(first_gap(alloc, context, head.body.first))
 }
 
-/// In front of a block, whose first statement is this one.
+/// Before a block, whose first statement is this one.
 fn first_gap(alloc: Global, context: Context, first: Option<StmtId>) -> Gap
     ensures is { result ≡ first_gap context first }
 {

@@ -39,7 +39,7 @@ pub(crate) fn ends_with(gap: &Gap, news: &Block, ends: BlockEnds) -> BlockEnds
     BlockEnds { first, last }
 }
 
-/// What stands at a number, with another statement behind it.
+/// What stands at a number, with another statement after it.
 fn with_next(
     alloc: Global,
     table: &Table,
@@ -58,7 +58,7 @@ fn with_next(
     }
 }
 
-/// What stands at a number, with another statement in front of it.
+/// What stands at a number, with another statement before it.
 fn with_front(
     alloc: Global,
     table: &Table,
@@ -135,7 +135,7 @@ fn around_puts(alloc: Global, table: &Table, gap: &Gap, news: &Block) -> Result<
     }
 }
 
-/// Puts the statement behind the place.
+/// Puts the statement after the place.
 fn put_next(
     alloc: Global,
     table: &Table,
@@ -157,7 +157,7 @@ fn put_next(
     }
 }
 
-/// Puts the statement in front of the place.
+/// Puts the statement before the place.
 fn put_front(
     alloc: Global,
     table: &Table,
@@ -210,7 +210,7 @@ fn put_gone(gone: &[StmtId], puts: &mut Vec<Put>) -> Result<(), Memory>
 
 /// All entries that change, where these come. It takes time in proportion to those that come and go, to the breaks of the
 /// loop around them for each of those that go, and, where a break comes to a loop that keeps others, to the statements of
-/// that loop in front of the place.
+/// that loop before the place.
 pub(crate) fn puts_of(
     alloc: Global,
     table: &Table,

@@ -210,7 +210,7 @@ fn add(entries: &mut Vec<Entry>, entry: Entry) -> Result<(), Memory>
     Ok(())
 }
 
-/// The statement at a place of these, or else what stands behind them.
+/// The statement at a place of these, or else what stands after them.
 fn next_at(stmts: &[Stmt], at: usize, next: Option<StmtId>) -> Option<StmtId>
     ensures is { result ≡ first_or (block_of (drop at stmts.now)) next }
 {

@@ -21,7 +21,7 @@ fn uses(edit: &Edit) -> u32
     }
 }
 
-/// The next number behind those of the edit, or `None` where one would pass 1,000,000. It takes time linear in the
+/// The next number after those of the edit, or `None` where one would pass 1,000,000. It takes time linear in the
 /// edit.
 #[tactic(auto, using(crate::proofs::NextLemmas::too_many, crate::proofs::NextLemmas::none_new, crate::proofs::NextLemmas::few_new))]
 pub(crate) fn next_after(edit: &Edit, next: u32) -> Option<u32>

@@ -31,7 +31,7 @@ use std::alloc::Global;
 /// Another condition takes time in proportion to the condition, the breaks of the statement and the square of the
 /// procedure's variables. Statements take time in proportion to the statements that come, with those inside them, and to
 /// the square of the procedure's variables for each, to those that go and to the breaks of the loop around them for each,
-/// to the statements of that loop in front of the place where a break comes to it and it keeps others, and, at the start or
+/// to the statements of that loop before the place where a break comes to it and it keeps others, and, at the start or
 /// the end of a procedure, to the number of procedures.
 ///
 /// # Errors
@@ -160,7 +160,7 @@ fn one_put(alloc: Global, number: StmtId, entry: Entry) -> Result<Vec<Put>, Memo
     Ok(puts)
 }
 
-/// What is known of a statement with another condition: as this one, but for the statement itself and for what it does
+/// What is known of a statement with another condition: as this one, except the statement itself and for what it does
 /// over slots.
 fn changed_entry(entry: &Entry, part: Stmt, form: SlotForm, breaks: Items<StmtId>) -> Entry
     requires same { breaks ≡ entry.now.breaks }

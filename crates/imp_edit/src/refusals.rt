@@ -23,7 +23,7 @@ pub(crate) enum Needed {
     Conditional,
 }
 
-/// Why the edit does not fit where it goes. It takes constant time, but for names of procedures, which take time linear
+/// Why the edit does not fit where it goes. It takes constant time, except names of procedures, which take time linear
 /// in the procedures.
 pub(crate) fn site_refusal(table: &Table, edit: &Edit) -> Option<EditError>
     ensures is { result ≡ site_refusal edit.now table.now.program }

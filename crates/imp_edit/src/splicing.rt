@@ -29,7 +29,7 @@ const MOST_NESTING: u32 = 32;
 
 /// The change that puts statements at a place, in the procedure of this head, and takes away what goes. It takes time in
 /// proportion to the statements that come, with those inside them, and to the square of the procedure's variables for
-/// each, to those that go and to the breaks of the loop around them for each, to the statements of that loop in front of
+/// each, to those that go and to the breaks of the loop around them for each, to the statements of that loop before
 /// the place where a break comes to it and it keeps others, and, where the ends of a body change, to the number of
 /// procedures.
 ///

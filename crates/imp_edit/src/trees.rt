@@ -9,7 +9,7 @@ use base_values::{Items, Memory};
 use imp_syntax::{Block, Cond, Edit, Place, Proc, Program, Stmt, StmtId, StmtNode};
 use std::alloc::Global;
 
-/// One block in front of another.
+/// One block before another.
 #[tactic(auto, using(crate::proofs::TreeLemmas::in_front))]
 pub(crate) fn in_front(alloc: Global, more: &Block, block: &Block) -> Result<Block, Memory>
     ensures is { IfOk result (λ b. b ≡ append more.now block.now) }
@@ -125,7 +125,7 @@ fn add_all(stmts: &[Stmt], all: &mut Items<Stmt>) -> Result<(), Memory>
     Ok(())
 }
 
-/// A statement with others behind it.
+/// A statement with others after it.
 fn followed(more: &Block, stmt: &Stmt, all: &mut Items<Stmt>) -> Result<(), Memory>
     ensures added { OnOk result (all.new ≡ all.old ++ statements_of (followed more.now stmt.now)) }
 {
@@ -133,7 +133,7 @@ fn followed(more: &Block, stmt: &Stmt, all: &mut Items<Stmt>) -> Result<(), Memo
     add_all(more.as_slice(), all)
 }
 
-/// An if with these statements in front of its first block.
+/// An if with these statements before its first block.
 fn then_started(
     alloc: Global,
     more: &Block,
@@ -151,7 +151,7 @@ fn then_started(
     }
 }
 
-/// An if with these statements in front of its second block.
+/// An if with these statements before its second block.
 fn else_started(
     alloc: Global,
     more: &Block,
@@ -169,7 +169,7 @@ fn else_started(
     }
 }
 
-/// A while with these statements in front of its body.
+/// A while with these statements before its body.
 fn body_started(
     alloc: Global,
     more: &Block,

@@ -1,4 +1,4 @@
--- A statement whose node is the same in two programs, but for the loops around it, keeps its rows.
+-- A statement whose node is the same in two programs, except the loops around it, keeps its rows.
 use Rattle.std.proofs.lemmas.Bool.{ltb-true, lt-ltb}
 use Rattle.std.proofs.Common.{◌≡◌, ◌⊎◌, inl, inr, ℕ, ℤ, ◌≤◌, nat_lt, List, [], ◌∷◌, Option, Some, None, Bool, true, false, refl, sym, ap, ◌∙◌, arith}
 use Rattle.std.specs.Prelude.{if◌then◌else◌}

@@ -94,7 +94,7 @@ found_item (x ∷ bs) b (suc i) e =
 abbrev Agree : List Leave → List Leave → ℕ → Type 0
 Agree ls ks i = (k : ℕ) → k < i → slice_get ls k ≡ slice_get ks k
 
--- Points behind a loop are behind as many breaks.
+-- Points after a loop are after as many breaks.
 same_count : (n : ℕ) (ls ks : List Leave) → Distinct (breaks_of ks) → (i j : ℕ) → i ≤ length ls → j ≤ length ks → Agree ls ks i → joined_at n (breaks_of ks) j ≡ joined_at n (breaks_of ls) i → j ≡ i
 same_count n ls ks d zero zero h k a e = refl
 same_count n ls ks d zero (suc j) h k a e = absurd cc
@@ -142,11 +142,11 @@ module _ (w : List NameFrame) (n : ℕ) where
       let b = both_joined false ls ks i j l m f (ap (behind_loop w n g ks) (sym k) ∙ e) in
       differ (same_count n ls ks d i j (omega arith) (omega arith) a b.0) b.1
 
-  -- behind a loop without breaks
+  -- after a loop without breaks
   lost_plain : (g : Guard) (ks : List Leave) (j : ℕ) (m : Leave) → length ks ≡ suc j → slice_get ks j ≡ Some m → behind_loop w n g ks (length ks) ≡ Some (One (Assumes g false) (name w (Fix n))) → ⊥
   lost_plain g ks j m k f e = let h = sym (behind_there g ks j m k f) ∙ e in cc
 
--- A row behind the loop n that has the breaks ls, which it has not with ks.
+-- A row after the loop n that has the breaks ls, which it has not with ks.
 pub data LostLeaves (n : ℕ) (g : Guard) (ls ks : List Leave) : Type 0 where
   post : (r : Row) → behind_loop [] n g ls (length ls) ≡ Some r → (behind_loop [] n g ks (length ks) ≡ Some r → ⊥) → LostLeaves n g ls ks
   exit : 0 < length ls → length ks ≡ 0 → LostLeaves n g ls ks

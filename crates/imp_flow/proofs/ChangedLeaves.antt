@@ -38,7 +38,7 @@ pub count_breaks : (ls : List Leave) → length (breaks_of ls) ≡ length ls
 count_breaks [] = refl
 count_breaks (l ∷ ls) = ap suc (count_breaks ls)
 
--- What rows have of breaks: their places, the points in front of them, and the numbers of all but the last.
+-- What rows have of breaks: their places, the points before them, and the numbers of all but the last.
 pub record SameLeaves (ls ks : List Leave) : Type 0 where
   pub count : length ls ≡ length ks
   pub fronts : fronts_of ls ≡ fronts_of ks
@@ -93,7 +93,7 @@ module _ (w : List NameFrame) (n : ℕ) where
   abbrev leap_from : List Leave → ℕ → Option Row
   leap_from ls i = if nat_lt (suc i) (length ls) then joins_at w true n ls i else None
 
-  -- a row behind a break is where the break is not the last
+  -- a row after a break is where the break is not the last
   pub found_leap : (ls : List Leave) (b : ℕ) (r : Row) → leaping ls b ≡ Some r → (i : ℕ) × (place_of b (breaks_of ls) ≡ Some i) × (suc i < length ls) × (joins_at w true n ls i ≡ Some r)
   found_leap ls b r e = go (place_of b (breaks_of ls)) refl e
     where

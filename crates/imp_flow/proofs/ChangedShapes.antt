@@ -365,7 +365,7 @@ module _ (engine : LoopOptions) (ms os : List ℤ) (n a b : ℕ) (us vs : List �
         pair : g ≡ h → SameLeaves ls ks → (g ≡ h) × SameLeaves ls ks
         pair e s = (e, s)
 
-    -- behind the same point
+    -- after the same point
     pub told_shapes : (s t : Shape) → is_bare s ≡ false → AreOnce s → AreOnce t → Told p s t
     told_shapes (Act s) (Act t) b c d = told_act s t
     told_shapes (Act s) (If h x y) b c d = no (first_lost p p (Act s) (If h x y) refl (λ q e. e))

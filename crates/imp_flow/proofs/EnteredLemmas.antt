@@ -53,7 +53,7 @@ module _ (at : Table) (f : Resolver) where
   both : (xs ys : List ℕ) → map (leave_at at) xs ++ map (leave_at at) ys ≡ map (leave_at at) (xs ++ ys)
   both xs ys = sym (map-append (leave_at at) xs ys)
 
-  -- The breaks of a block, with the points in front of them, are told by their numbers.
+  -- The breaks of a block, with the points before them, are told by their numbers.
   leaves_are : (b : Statements) (c : Context) (o next : Option ℕ) → Known at (block_entries f c o next b) → leaves (code_in f b) (behind_or (start_of c.around) o) ≡ map (leave_at at) (leaving b)
   leaves_are Ends c o next k = refl
   leaves_are (Starts (tree.Simple n a) ss) c o next k = leaves_are ss c (Some n) next (λ y i. k y (inr i))
@@ -192,7 +192,7 @@ callees_are es ps q =
     ∙ in_front es ps q
     ∙ ap (λ n. end_in (es ++ ps) n q) (sym (counted [] es))
 
--- One more procedure, in front of those of which the last one stands first.
+-- One more procedure, before those of which the last one stands first.
 abbrev all_back : (es ps : List Procedure) → List Routine
 all_back es ps = reverse (routines_from es ps) ++ reverse (routines_of es)
 

@@ -111,14 +111,14 @@ from_past : (ps : List Routine) (q : ℕ) → length ps ≤ q → from ps q ≡ 
 from_past [] q h = refl
 from_past (r ∷ ps) q h = by_test q (length ps) (λ c. (if c then r ∷ ps else from ps q) ≡ []) (λ e. absurd (omega arith)) (λ e. from_past ps q (omega arith))
 
--- The shape of a statement, but for the place of a callee.
+-- The shape of a statement, except the place of a callee.
 abbrev pub without_place : Shape → Shape
 without_place (shape.Act s) = shape.Act s
 without_place (shape.If g t e) = shape.If g t e
 without_place (shape.While g end ls) = shape.While g end ls
 without_place (shape.Call i q end) = shape.Call i 0 end
 
--- Behind the procedures b, the last one first, r is put in, and those in front are shifted.
+-- After the procedures b, the last one first, r is put in, and those before are shifted.
 module _ (k : ℕ) (b : List Routine) (r : Routine) (at : length b ≡ k) where
   abbrev pub moved : List Routine → List Routine
   moved a = map (shift_routine k) a ++ r ∷ b

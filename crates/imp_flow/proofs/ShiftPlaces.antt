@@ -1,4 +1,4 @@
--- In slots, a procedure more shifts the places of the callees behind it.
+-- In slots, a procedure more shifts the places of the callees after it.
 use Rattle.std.proofs.lemmas.List.{length-append, take_at, drop_at}
 use Rattle.std.proofs.Common.{◌≡◌, ◌≢◌, ◌<◌, ℕ, zero, suc, List, [], ◌∷◌, ◌++◌, length, map, take, drop, slice_get, Option, Some, Bool, true, false, cond, refl, sym, ap, ◌∙◌, subst, arith, append_assoc, append-nil}
 use Rattle.std.specs.Str.{bytes_eq}
@@ -22,7 +22,7 @@ names_last : (xs : List Procedure) (p : Procedure) → names (xs ++ p ∷ []) �
 names_last [] p = refl
 names_last (x ∷ xs) p = ap (λ ns. x.name ∷ ns) (names_last xs p)
 
--- What is called stands among the procedures in front.
+-- What is called stands among the procedures before.
 called : (xs : List Routine) (q : ℕ) (l : Layout) (i : Invoke) → FitsCall l i (slice_get xs q) → q < length xs
 called [] q l i f = absurd f
 called (x ∷ xs) zero l i f = omega arith
@@ -38,7 +38,7 @@ other_name p (x ∷ xs) g a l = go (bytes_eq x.name g) (bytes_eq p.name g) refl 
     go true true e f l h = absurd (a.0 ((bytes_decides p.name g).0 f ∙ sym ((bytes_decides x.name g).0 e)))
     go false true e f l h = sym f ∙ h (omega arith)
 
--- With p behind ps, a name of another is found one place further if it stands behind ps.
+-- With p after ps, a name of another is found one place further if it stands after ps.
 place_shift : (ps : List Procedure) (p : Procedure) (done : List Procedure) (g : List ℕ) → bytes_eq p.name g ≡ false → place_named (ps ++ p ∷ done) g ≡ shift (length ps) (place_named (ps ++ done) g)
 place_shift [] p done g h = ap (λ c. cond c 0 (suc (place_named done g))) h ∙ by_less 0 (place_named done g) (λ s. suc (place_named done g) ≡ s) (λ l. absurd (omega arith)) (λ l. refl)
 place_shift (x ∷ ps) p done g h = go (bytes_eq x.name g) (place_shift ps p done g h)
@@ -59,7 +59,7 @@ procedure_shift (x ∷ ps) p done (suc q) =
     (λ l. by_less (length ps) q (λ s. slice_get (ps ++ p ∷ done) s ≡ slice_get (ps ++ done) q → slice_get (ps ++ p ∷ done) q ≡ slice_get (ps ++ done) q) (λ m e. e) (λ m e. absurd (omega arith)) (procedure_shift ps p done q))
     (λ l. by_less (length ps) q (λ s. slice_get (ps ++ p ∷ done) s ≡ slice_get (ps ++ done) q → slice_get (ps ++ p ∷ done) (suc q) ≡ slice_get (ps ++ done) q) (λ m e. absurd (omega arith)) (λ m e. e) (procedure_shift ps p done q))
 
--- The blocks of a procedure behind p, where `done` stand between.
+-- The blocks of a procedure after p, where `done` stand between.
 module _ (ps : List Procedure) (p : Procedure) (done : List Procedure) (away : Absent p.name (names (ps ++ done))) (before : List Routine) (as_long : length before ≡ length (ps ++ done)) (l : Layout) where
   abbrev K : ℕ
   K = length ps
@@ -95,7 +95,7 @@ module _ (ps : List Procedure) (p : Procedure) (done : List Procedure) (away : A
 routine_shift : (ps : List Procedure) (p : Procedure) (done : List Procedure) → Absent p.name (names (ps ++ done)) → (before : List Routine) → length before ≡ length (ps ++ done) → (q : Procedure) → FitsCode before (layout_in q) (routine_of (ps ++ done) q).code → routine_of (ps ++ p ∷ done) q ≡ shift_routine (length ps) (routine_of (ps ++ done) q)
 routine_shift ps p done away before as_long q f = ap (λ (c : Code). record { name = q.name; layout = layout_in q; code = c }) (block_shift ps p done away before as_long (layout_in q) q.body f)
 
--- All procedures behind p.
+-- All procedures after p.
 routines_shift : (ps : List Procedure) (p : Procedure) (done qs : List Procedure) → Absent p.name (names (ps ++ done)) → Absent p.name (names qs) → (before : List Routine) → length before ≡ length (ps ++ done) → FitInTurn before (routines_from (ps ++ done) qs) → routines_from (ps ++ p ∷ done) qs ≡ map (shift_routine (length ps)) (routines_from (ps ++ done) qs)
 routines_shift ps p done [] away absent before as_long f = refl
 routines_shift ps p done (q ∷ qs) away absent before as_long f =

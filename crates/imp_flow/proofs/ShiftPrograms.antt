@@ -115,7 +115,7 @@ module _ (k : ℕ) (b : List Routine) (r : Routine) (n : ℕ) (m : Member n (cod
         | inr j ↦ not_others a (right_once (code_numbers (shift_routine k c).code) rest d) j
       ]
 
--- The rows of a program and of that with r behind its first k procedures.
+-- The rows of a program and of that with r after its first k procedures.
 module _ (engine : LoopOptions) (program : List Routine) (k : ℕ) (r : Routine) (within : k < length program) where
   abbrev New : List Routine
   New = put_in k r program

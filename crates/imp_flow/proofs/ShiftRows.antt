@@ -46,7 +46,7 @@ itself_if : (o : Option Flat) → AreAlike o o
 itself_if None = tt
 itself_if (Some u) = itself u
 
--- A number of no statement of these is looked up behind them.
+-- A number of no statement of these is looked up after them.
 skipped : (r : Routine) (b : List Routine) (n : ℕ) (xs : List (ℕ × Text)) (rest : List (ℕ × Flat)) → Absent n (keys xs) → find n (map (flat_of r b) xs ++ rest) ≡ find n rest
 skipped r b n [] rest h = refl
 skipped r b n (x ∷ xs) rest h = by_test n x.0 (λ c. (if c then Some (flat_of r b x).1 else find n (map (flat_of r b) xs ++ rest)) ≡ find n rest) (λ e. absurd (h.0 e)) (λ e. skipped r b n xs rest h.1)
@@ -84,7 +84,7 @@ module _ (k : ℕ) (b : List Routine) (r : Routine) (at : length b ≡ k) where
       subst (λ (xs : List (ℕ × Text)). AreAlike (find n (map (New c a) xs ++ flat (M a))) (find n (map (Old c a) (texts c.code Entry) ++ flat (a ++ b)))) (sym (texts_shift k c.code Entry))
       (both c a n (texts c.code Entry) (flat (M a)) (flat (a ++ b)) (found_alike n h a))
 
--- A row by the thresholds of the procedure, the statement's number, the point in front of it and its shape; it does not read
+-- A row by the thresholds of the procedure, the statement's number, the point before it and its shape; it does not read
 -- the place of a callee.
 abbrev pub Reading : Type 0
 Reading = List ℤ → ℕ → Point → Shape → Option Row

@@ -71,7 +71,7 @@ is_in k x e = by_test x.place k (λ c. (if c then Some x else None) ≡ Some x) 
 is_out : (k : ℕ) (x : Node) → x.place ≢ k → if_in k x ≡ None
 is_out k x e = by_test x.place k (λ c. (if c then Some x else None) ≡ None) (λ i. absurd (e i)) (λ i. refl)
 
--- None of the procedures in front stands at the place behind them.
+-- None of the procedures before stands at the place after them.
 none_in_front : (ps : List Routine) (n : ℕ) (o : Option Flat) → find n (flat ps) ≡ o → in_place (length ps) o ≡ None
 none_in_front ps n None e = refl
 none_in_front ps n (Some u) e =
@@ -178,7 +178,7 @@ module _ (plan : Plan) (checked : IsChecked plan.program) where
   gone_on n None h = tt
   gone_on n (Some x) h = subst (λ ps. IsGone (way_in n x.steps ps)) (sym h) tt
 
-  -- a callee stands where it stands among those in front of its caller
+  -- a callee stands where it stands among those before its caller
   callee_stands : (k q : ℕ) (r c : Routine) (earlier more : List Routine) → from back k ≡ r ∷ earlier → from earlier q ≡ c ∷ more → from back q ≡ c ∷ more
   callee_stands k q r c earlier more f g =
       let l : q < length earlier = look_below earlier q c (look_from earlier q c more g) in

@@ -27,7 +27,7 @@ use Rattle.imp_flow_rows.specs.NodeRows.{breaks_of, fronts_of, iterate_at, joine
 use Rattle.imp_flow.specs.Plans.{Plan, thresholds_at, by_node, next_of, node_row}
 use Rattle.std.proofs.lemmas.Option.{same_Some}
 
--- The breaks of a block, with the points in front of them.
+-- The breaks of a block, with the points before them.
 pub breaks_are : (c : Code) (p : Point) → breaks_of (leaving c p) ≡ break_numbers c
 breaks_are Stop p = refl
 breaks_are (Simple n e r) p = breaks_are r (Post n)

@@ -42,7 +42,7 @@ abbrev pub is_start : List NameFrame → Point → Bool
 is_start [] Entry = true
 is_start _ _ = false
 
--- Each point of the statement keeps its row, but for the start of main.
+-- Each point of the statement keeps its row, except the start of main.
 abbrev pub Stays : Plan → Plan → ℕ → Type 0
 Stays old new n =
     (w : List NameFrame) (p : Point) (r : Row) →
@@ -60,7 +60,7 @@ abbrev pub last_leave : List Leave → Option (Leave × List Leave)
 last_leave [] = None
 last_leave (l ∷ ls) = Some (last_of l ls)
 
--- Of the last break only the point in front of it counts.
+-- Of the last break only the point before it counts.
 abbrev pub same_ends : Option (Leave × List Leave) → Option (Leave × List Leave) → Bool
 same_ends None None = true
 same_ends None (Some f) = false
@@ -84,7 +84,7 @@ abbrev pub IsTold : (old new : Plan) → ProcPair → Type 0
 IsTold old new pair = pair.is_same ≡ same_thresholds old new pair.place pair.other
 
 module _ (engine : LoopOptions) (thresholds others : List ℤ) where
-  -- Behind the same point two statements with these shapes have the same rows.
+  -- After the same point two statements with these shapes have the same rows.
   abbrev pub same_shapes : Shape → Shape → Bool
   same_shapes (Act s) (Act t) = same stmt_coded s t
   same_shapes (If g t e) (If h u f) = same guard_code g h && points.ghosts.eq t u && points.ghosts.eq e f

@@ -11,7 +11,7 @@ use Rattle.imp_flow_rows.specs.declared.node.Leave.{Leave}
 use Rattle.imp_flow_rows.specs.Shapes.{Node, Shape}
 use Rattle.imp_flow_rows.specs.Shapes as shape
 
--- The breaks that leave the loop around a block, in the order of the text, each with the point in front of it.
+-- The breaks that leave the loop around a block, in the order of the text, each with the point before it.
 abbrev pub leaving : Code → Point → List Leave
 leaving Stop p = []
 leaving (Simple n e r) p = leaving r (Post n)
@@ -25,7 +25,7 @@ abbrev pub body_end : List Routine → Option Point
 body_end [] = None
 body_end (r ∷ rs) = Some (last_point r.code Entry)
 
--- Of a callee: `earlier` are the procedures in front, the last one first.
+-- Of a callee: `earlier` are the procedures before, the last one first.
 abbrev pub callee_end : (earlier : List Routine) → ℕ → Option Point
 callee_end earlier q = body_end (from earlier q)
 
@@ -43,7 +43,7 @@ shape_of earlier (Call n i q r) = shape.Call i q (callee_end earlier q)
 shape_of earlier (Break n r) = shape.Act act.Break
 
 module _ (earlier : List Routine) where
-  -- a statement behind the point p, in these loops
+  -- a statement after the point p, in these loops
   abbrev pub node_in : List ℕ → Point → ℕ → Shape → Node
   node_in loops p n s = record { stmt = n; place = length earlier; loops = loops; front = p; shape = s }
 

@@ -33,7 +33,7 @@ loops_at plan place = settings.loops_at (setting_of plan.engine plan.program) pl
 abbrev pub plan_nodes : Plan → List Node
 plan_nodes plan = nodes_of (reverse plan.program)
 
--- the row of a point of a statement, but for its iterates
+-- the row of a point of a statement, except its iterates
 abbrev pub point_at : List NameFrame → Point → Node → Option Row
 point_at w Entry x = None
 point_at w Body x = None

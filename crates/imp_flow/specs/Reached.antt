@@ -44,7 +44,7 @@ into_loops ns = map Take ns
 abbrev pub if_in : (place : ℕ) → Node → Option Node
 if_in place x = if x.place == place then Some x else None
 
--- the callee of a call, where such a procedure stands in front
+-- the callee of a call, where such a procedure stands before
 abbrev pub callee_at : Shape → Option ℕ
 callee_at (Act s) = None
 callee_at (If g t e) = None

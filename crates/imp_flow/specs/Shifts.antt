@@ -1,4 +1,4 @@
--- A procedure that is put into a program, or dropped from it: places behind it shift, and rows of the others stay.
+-- A procedure that is put into a program, or dropped from it: places after it shift, and rows of the others stay.
 use Rattle.std.specs.Prelude.{◌≡◌, ◌<◌, ℕ, suc, List, ◌∷◌, ◌++◌, length, map, reverse, take, drop, Some, if◌then◌else◌, nat_lt}
 use Rattle.imp_syntax.specs.Plain.{Procedure}
 use Rattle.imp_slots.specs.Plain.{Code, Stop, Simple, If, While, Call, Break, Routine, code_numbers}
@@ -11,7 +11,7 @@ use Rattle.cell_rows.specs.Rows.{Row}
 use Rattle.cell_rows.specs.Flat.{flat_row}
 use Rattle.imp_flow.specs.Owners.{owner}
 
--- A place, where one more procedure stands behind the first k.
+-- A place, where one more procedure stands after the first k.
 abbrev pub shift : (k q : ℕ) → ℕ
 shift k q = if nat_lt q k then q else suc q
 
@@ -27,7 +27,7 @@ shift_code k (Break n r) = Break n (shift_code k r)
 abbrev pub shift_routine : (k : ℕ) → Routine → Routine
 shift_routine k r = record { name = r.name; layout = r.layout; code = shift_code k r.code }
 
--- A program with one more procedure behind the first k. These call none behind them, so their places stay.
+-- A program with one more procedure after the first k. These call none after them, so their places stay.
 abbrev pub put_in : (k : ℕ) → Routine → List Routine → List Routine
 put_in k r program = take k program ++ r ∷ map (shift_routine k) (drop k program)
 
@@ -42,7 +42,7 @@ pub record KeepRows (engine : LoopOptions) (old new : List Routine) (more : Rout
 abbrev pub RowsStay : Type 0
 RowsStay = (engine : LoopOptions) (program : List Routine) (k : ℕ) (r : Routine) → k < length program → IsChecked (put_in k r program) → KeepRows engine program (put_in k r program) r
 
--- In slots, the program with one more procedure behind ps is the one without, with that procedure put in.
+-- In slots, the program with one more procedure after ps is the one without, with that procedure put in.
 abbrev pub PlacesShift : Type 0
 PlacesShift =
     (ps qs : List Procedure) (p : Procedure) → IsChecked (routines_of (ps ++ qs)) → IsChecked (routines_of (ps ++ p ∷ qs)) →

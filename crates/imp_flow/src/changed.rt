@@ -20,7 +20,7 @@ pub(crate) struct ProcPair {
     is_same: bool,
 }
 
-/// Whether the breaks of two loops at a place give the same rows. Of the last break only the point in front of it counts.
+/// Whether the breaks of two loops at a place give the same rows. Of the last break only the point before it counts.
 #[tactic(auto, using(crate::proofs::SameLeaves::last_same, crate::proofs::SameLeaves::more_same))]
 fn same_at(leaves: &Leaves<'_>, others: &Leaves<'_>, place: usize) -> bool
     requires there { place < length (leaves_now leaves.now) }
@@ -36,7 +36,7 @@ fn same_at(leaves: &Leaves<'_>, others: &Leaves<'_>, place: usize) -> bool
     }
 }
 
-/// Whether two loops' breaks give the same rows behind the loops.
+/// Whether two loops' breaks give the same rows after the loops.
 #[tactic(auto, using(crate::proofs::SameLeaves::leaves_apart, crate::proofs::SameLeaves::leaves_end))]
 fn same_leaves(leaves: &Leaves<'_>, others: &Leaves<'_>) -> bool
     ensures is { result ≡ same_leaves (leaves_now leaves.now) (leaves_now others.now) }
@@ -110,7 +110,7 @@ fn same_rounds(flow: &Flow<'_>, same_thresholds: bool, end: Point, other: Point)
     budget == 0 || (end == other && (budget <= flow.widening().delay || same_thresholds))
 }
 
-/// Whether two statements have the same rows, where the points in front of them are the same.
+/// Whether two statements have the same rows, where the points before them are the same.
 fn same_shapes(
     old: &Flow<'_>,
     new: &Flow<'_>,

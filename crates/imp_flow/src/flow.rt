@@ -189,7 +189,7 @@ impl<'a> Flow<'a> {
         }
     }
 
-    /// The row of a statement's point, but for an iterate.
+    /// The row of a statement's point, except an iterate.
     #[inline]
     fn stmt_row(&self, point: Point, stmt: StmtId) -> Option<Row<'_>>
         ensures is { (w : List PathFrame) → option_map (row_in w) result ≡ by_node self.now stmt (point_at w point) }
@@ -227,7 +227,7 @@ impl<'a> Flow<'a> {
 
     /// The row of a name, by the last frame of its path and its point: for a name that the program has, exactly its
     /// row. Only the statement of the point is looked up, so a name whose path the program lacks may have a row too;
-    /// there is `None` where the program has no such point. It takes constant time, but for a [`Point::Leap`], which
+    /// there is `None` where the program has no such point. It takes constant time, except a [`Point::Leap`], which
     /// takes time linear in the breaks of its loop.
     #[tactic(auto, using(crate::proofs::Ties::rows_tie))]
     #[inline]

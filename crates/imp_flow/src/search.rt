@@ -236,7 +236,7 @@ fn look_at_loops(
 }
 
 /// The statements that a change of a program touches, where these are the settings of the program and of that which the
-/// change makes: the numbers of those that have a changed point, each once and rising, with 0 in front where the start of
+/// change makes: the numbers of those that have a changed point, each once and rising, with 0 before where the start of
 /// main is changed. A point is changed where it has a row in the old program, and the new one has none for it or another. A
 /// statement is told by its number, so one that is gone is touched, and one that is new is not.
 ///

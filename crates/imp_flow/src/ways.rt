@@ -101,7 +101,7 @@ fn enter_chain(alloc: Global, flow: &Flow<'_>, chain: &[StmtId]) -> Result<Optio
     Ok(Some(now))
 }
 
-/// In front of a statement, if it stands in the procedure at a place.
+/// Before a statement, if it stands in the procedure at a place.
 fn before<'a>(flow: &'a Flow<'_>, place: ProcId, stmt: StmtId) -> Option<Ending<'a>>
     ensures is { option_map ending_of result ≡ ending_at flow.now (Location.Before stmt) place }
 {
@@ -115,7 +115,7 @@ fn before<'a>(flow: &'a Flow<'_>, place: ProcId, stmt: StmtId) -> Option<Ending<
     }
 }
 
-/// Behind a statement.
+/// After a statement.
 fn after<'a>(flow: &'a Flow<'_>, place: ProcId, stmt: StmtId) -> Option<Ending<'a>>
     ensures is { option_map ending_of result ≡ ending_at flow.now (Location.After stmt) place }
 {
@@ -148,7 +148,7 @@ fn head<'a>(flow: &'a Flow<'_>, place: ProcId, stmt: StmtId) -> Option<Ending<'a
     }
 }
 
-/// Behind the body of the procedure at a place, if this is its name.
+/// After the body of the procedure at a place, if this is its name.
 fn end<'a>(flow: &'a Flow<'_>, place: ProcId, name: &Text) -> Option<Ending<'a>>
     ensures is { option_map ending_of result ≡ ending_at flow.now (Location.End name.now) place }
 {
@@ -197,7 +197,7 @@ fn arrive(flow: &Flow<'_>, from: Reached, at: &Location) -> Result<Option<Target
 ///
 /// # Errors
 ///
-/// [`Memory`] for want of memory.
+/// [`Memory`] when memory runs out.
 pub fn target(
     alloc: Global,
     flow: &Flow<'_>,
@@ -236,7 +236,7 @@ fn all_targets(
 ///
 /// # Errors
 ///
-/// [`Memory`] for want of memory.
+/// [`Memory`] when memory runs out.
 pub fn targets(
     alloc: Global,
     flow: &Flow<'_>,

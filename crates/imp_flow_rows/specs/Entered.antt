@@ -36,12 +36,12 @@ abbrev pub start_of : Option Around → Point
 start_of None = Entry
 start_of (Some a) = start_in a.stmt a.which
 
--- behind a statement, or else this point
+-- after a statement, or else this point
 abbrev pub behind_or : Point → Option ℕ → Point
 behind_or p None = p
 behind_or p (Some n) = Post n
 
--- the point in front of a statement
+-- the point before a statement
 abbrev pub front_point : known.Entry → Point
 front_point x = behind_or (start_of x.context.around) x.front
 
@@ -49,11 +49,11 @@ abbrev pub front_in : Option known.Entry → Point
 front_in None = Entry
 front_in (Some x) = front_point x
 
--- a break, with the point in front of it
+-- a break, with the point before it
 abbrev pub leave_at : Table → ℕ → Leave
 leave_at at n = record { stmt = n; front = front_in (at n) }
 
--- the last point of the body of a procedure, if there is one, and of one in front of a place
+-- the last point of the body of a procedure, if there is one, and of one before a place
 abbrev pub end_by : Option BlockEnds → Option Point
 end_by None = None
 end_by (Some ends) = Some (behind_or Entry ends.last)

@@ -10,7 +10,7 @@ use Rattle.cell_rows.specs.Rows.{Row, Init, One, Two, Fixed, Joins}
 use Rattle.cell_rows.specs.Cells.{Cell, asks_row, wants_first}
 use Rattle.imp_flow_rows.specs.NodeRows.{iterate_at}
 
--- The first: of a fixed point the iterate 0, of a join behind a loop with breaks the left one.
+-- The first: of a fixed point the iterate 0, of a join after a loop with breaks the left one.
 abbrev pub first_of : Row → Option CellName
 first_of (Init layout) = None
 first_of (One op a) = Some a
@@ -34,7 +34,7 @@ iterate_of k (Two op a b) = None
 iterate_of k (Fixed n z w p) = Some (name w (iterate_at n p k))
 iterate_of k (Joins stays l n w p) = None
 
--- of a join behind a loop with breaks, whose index is k, the right one
+-- of a join after a loop with breaks, whose index is k, the right one
 abbrev pub break_of : (k : ℕ) → Row → Option CellName
 break_of k (Init layout) = None
 break_of k (One op a) = None
@@ -43,7 +43,7 @@ break_of k (Fixed n z w p) = None
 break_of k (Joins stays l n w p) = Some (name (InLoop n k ∷ w) p)
 
 -- What a row asks for is among these: the first input, by no values; the second, by one; of a fixed point the next
--- iterate, while another is wanted; of a join behind a loop with breaks the right input, by the left one's index.
+-- iterate, while another is wanted; of a join after a loop with breaks the right input, by the left one's index.
 pub record AreAsked {S : Type 0} (dom : Operations S) : Type 0 where
   pub first : (engine : LoopOptions) (r : Row) → asks_row dom engine r [] ≡ first_of r
   pub second : (engine : LoopOptions) (r : Row) (a b : CellName) (v : Cell S) → first_of r ≡ Some a → second_of r ≡ Some b → asks_row dom engine r (v ∷ []) ≡ Some b

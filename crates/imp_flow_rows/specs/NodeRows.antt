@@ -19,12 +19,12 @@ breaks_of ls = map (λ (l : Leave). l.stmt) ls
 abbrev pub fronts_of : List Leave → List Point
 fronts_of ls = map (λ (l : Leave). l.front) ls
 
--- the iterate k of the loop n behind the point p
+-- the iterate k of the loop n after the point p
 abbrev pub iterate_at : (n : ℕ) → (p : Point) → (k : ℕ) → Point
 iterate_at n p zero = p
 iterate_at n p (suc k) = Iterate n (suc k)
 
--- the value behind the loop n with its first i breaks
+-- the value after the loop n with its first i breaks
 abbrev pub joined_at : (n : ℕ) → List ℕ → (i : ℕ) → Point
 joined_at n breaks zero = Exit n
 joined_at n breaks (suc i) = Leap n (item breaks i)
@@ -46,11 +46,11 @@ looping (While g end ls) = Some (record { guard = g; end = end; leaves = ls })
 looping (Call i q end) = None
 
 module _ (w : List NameFrame) where
-  -- behind the loop n with its first breaks, and the break i
+  -- after the loop n with its first breaks, and the break i
   abbrev pub joins_at : (stays : Bool) → (n : ℕ) → List Leave → (i : ℕ) → Option Row
   joins_at stays n ls i = if_some (slice_get (fronts_of ls) i) (λ p. Some (Joins stays (name w (joined_at n (breaks_of ls) i)) n w p))
 
-  -- behind a loop, by how many breaks it has
+  -- after a loop, by how many breaks it has
   abbrev pub behind_loop : (n : ℕ) → Guard → List Leave → ℕ → Option Row
   behind_loop n g ls zero = Some (One (Assumes g false) (name w (Fix n)))
   behind_loop n g ls (suc i) = joins_at false n ls i
@@ -73,7 +73,7 @@ module _ (w : List NameFrame) where
   branch_by h p (While g end ls) = None
   branch_by h p (Call i q end) = None
 
-  -- behind it, into a call, into a branch
+  -- after it, into a call, into a branch
   abbrev pub post_at : Node → Option Row
   post_at x = post_by x.stmt x.front x.shape
 
@@ -83,7 +83,7 @@ module _ (w : List NameFrame) where
   abbrev pub branch_at : Bool → Node → Option Row
   branch_at h x = branch_by h x.front x.shape
 
-  -- of a loop: into a round, the iterate behind the k-th, where they stop, behind it by its condition, and with a break
+  -- of a loop: into a round, the iterate after the k-th, where they stop, after it by its condition, and with a break
   abbrev pub turn_at : LoopOptions → (k : ℕ) → Node → Option Row
   turn_at engine k x = if_some (looping x.shape) (λ l. where_so (nat_lt k engine.budget) (One (Assumes l.guard true) (name w (iterate_at x.stmt x.front k))))
 

@@ -7,15 +7,15 @@ use Rattle.imp_flow_rows.specs.declared.node.Leave.{Leave}
 
 -- What a statement does to the flow: a simple one acts; an if has the last points of its blocks; a while has that of its
 -- body, and the breaks that leave it, in the order of the text; a call has its callee's place, and the last point of the
--- callee's body, where such a procedure stands in front.
+-- callee's body, where such a procedure stands before.
 pub data Shape : Type 0 where
   Act : SlotStmt → Shape
   If : Guard → (then els : Point) → Shape
   While : Guard → (end : Point) → List Leave → Shape
   Call : Invoke → (callee : ℕ) → (end : Option Point) → Shape
 
--- A statement, how many procedures stand in front of its own, the loops of its procedure around it, outermost first, and
--- the point in front of it.
+-- A statement, how many procedures stand before its own, the loops of its procedure around it, outermost first, and
+-- the point before it.
 pub record Node : Type 0 where
   pub stmt : ℕ
   pub place : ℕ

@@ -8,7 +8,7 @@
 //!
 //! A row's inputs are relative to the path of its name ([`Input`]), and [`Input::name`] gives them their numbers. Inputs that
 //! are known only by values found before are asked of the row one by one: [`Row::iterate`] for a fixed point,
-//! [`Row::before_break`] for a join behind a loop with breaks, in the loop's last round.
+//! [`Row::before_break`] for a join after a loop with breaks, in the loop's last round.
 #![tactic(auto)]
 
 mod input;

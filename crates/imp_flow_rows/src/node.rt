@@ -8,7 +8,7 @@ use imp_slots::{SlotCall, SlotCond, SlotStmt};
 use imp_syntax::{ProcId, StmtId, StmtNode};
 use imp_table::View;
 
-/// A break that leaves a loop, and the point in front of it.
+/// A break that leaves a loop, and the point before it.
 #[derive(Clone, Copy, Debug, PartialEq, Eq, Drop)]
 pub struct Leave {
     pub stmt: StmtId,
@@ -31,7 +31,7 @@ pub enum Shape<'a> {
     If(&'a SlotCond, Point, Point),
     /// A while: its condition, the last point of its body, and the breaks that leave it.
     While(&'a SlotCond, Point, Leaves<'a>),
-    /// A call, its callee, and the last point of the callee's body, `None` where no such procedure stands in front.
+    /// A call, its callee, and the last point of the callee's body, `None` where no such procedure stands before.
     Call(&'a SlotCall, ProcId, Option<Point>),
 }
 
@@ -46,7 +46,7 @@ pub struct Node<'a> {
     pub stmt: StmtId,
     /// Its procedure.
     pub place: ProcId,
-    /// The point in front of it.
+    /// The point before it.
     pub front: Point,
     pub shape: Shape<'a>,
 }
@@ -66,7 +66,7 @@ fn start_of(around: Option<Around>) -> Point
     }
 }
 
-/// Behind a statement, or else this point.
+/// After a statement, or else this point.
 #[inline]
 pub fn behind_or(first: Point, stmt: Option<StmtId>) -> Point
     ensures is { result ≡ behind_or first stmt }
@@ -77,7 +77,7 @@ pub fn behind_or(first: Point, stmt: Option<StmtId>) -> Point
     }
 }
 
-/// The point in front of a statement.
+/// The point before a statement.
 #[inline]
 fn front_of(entry: &Entry) -> Point
     ensures is { result ≡ front_point entry.now }
@@ -85,7 +85,7 @@ fn front_of(entry: &Entry) -> Point
     behind_or(start_of(entry.context.around), entry.front)
 }
 
-/// The point in front of the statement of a number.
+/// The point before the statement of a number.
 #[inline]
 fn front_in(prog: &View<'_>, stmt: StmtId) -> Point
     ensures is { result ≡ front_in (known_in prog.now stmt) }
@@ -119,7 +119,7 @@ impl<'a> Leaves<'a> {
     }
 }
 
-/// The last point of the body of a procedure that stands in front of another one.
+/// The last point of the body of a procedure that stands before another one.
 #[inline]
 fn end_in(prog: &View<'_>, place: ProcId, callee: ProcId) -> Option<Point>
     ensures is { result ≡ end_in prog.now place callee }

@@ -19,7 +19,7 @@ pub enum Unary<'a> {
     Assume(&'a SlotCond, bool),
     /// Into the procedure that is called.
     Enter(&'a SlotCall),
-    /// The condition does not hold, behind a loop with breaks of its own. The loop's index stays.
+    /// The condition does not hold, after a loop with breaks of its own. The loop's index stays.
     Exit(&'a SlotCond),
 }
 
@@ -27,7 +27,7 @@ pub enum Unary<'a> {
 #[derive(Clone, Copy, Drop)]
 pub enum Binary<'a> {
     Join,
-    /// Back from a call: of the value in front of it, and the one behind the callee's body.
+    /// Back from a call: of the value before it, and the one after the callee's body.
     Leave(&'a SlotCall),
     /// Widening at these thresholds: of an iterate, and what the body makes of it.
     Widen(&'a [i64]),
@@ -40,15 +40,15 @@ pub enum Row<'a> {
     Init(&'a Layout),
     One(Unary<'a>, Input),
     Two(Binary<'a>, Input, Input),
-    /// Where the iterates of the loop stop, and the point in front of the loop, the first of them.
+    /// Where the iterates of the loop stop, and the point before the loop, the first of them.
     Fixed(StmtId, Point),
-    /// Behind a loop with breaks: whether the loop's index stays, the point of the left input, the loop, and the
-    /// point in front of a break in the loop's last round, the right input.
+    /// After a loop with breaks: whether the loop's index stays, the point of the left input, the loop, and the
+    /// point before a break in the loop's last round, the right input.
     Joins(bool, Point, StmtId, Point),
 }
 
 impl<'a> Row<'a> {
-    /// The first input: of a fixed point the iterate 0, of a join behind a loop with breaks the left one; none of `Init`.
+    /// The first input: of a fixed point the iterate 0, of a join after a loop with breaks the left one; none of `Init`.
     #[inline]
     pub fn first(&self) -> Option<Input>
         ensures is { (w : List PathFrame) → option_map (input_name w) result ≡ first_of (row_in w self.now) }
@@ -84,7 +84,7 @@ impl<'a> Row<'a> {
         }
     }
 
-    /// The right input of a join behind a loop with breaks, where the loop's index is this.
+    /// The right input of a join after a loop with breaks, where the loop's index is this.
     #[inline]
     pub fn before_break(&self, index: u32) -> Option<Input>
         ensures is { (w : List PathFrame) → option_map (input_name w) result ≡ break_of index (row_in w self.now) }
@@ -98,7 +98,7 @@ impl<'a> Row<'a> {
     }
 }
 
-/// The iterate of an index, of a loop behind a point.
+/// The iterate of an index, of a loop after a point.
 #[inline]
 pub(crate) fn iterate_at(head: StmtId, front: Point, index: u32) -> Point
     ensures is { result ≡ iterate_at head front index }

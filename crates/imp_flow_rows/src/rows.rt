@@ -14,7 +14,7 @@ use imp_chains::Widening;
 use imp_slots::SlotCond;
 use imp_syntax::StmtId;
 
-/// The point behind a loop with its first breaks.
+/// The point after a loop with its first breaks.
 #[tactic(auto, using(crate::proofs::LeaveLemmas::joined_last))]
 fn joined_at(head: StmtId, leaves: &Leaves<'_>, count: usize) -> Point
     requires there { count ≤ length (leaves_now leaves.now) }
@@ -52,7 +52,7 @@ fn behind_loop<'a>(head: StmtId, cond: &'a SlotCond, leaves: &Leaves<'_>) -> Opt
     }
 }
 
-/// Behind a statement.
+/// After a statement.
 #[inline]
 pub fn post_row<'a>(node: &Node<'a>) -> Option<Row<'a>>
     ensures is { (w : List PathFrame) → option_map (row_in w) result ≡ post_at w (node_now node.now) }
@@ -117,7 +117,7 @@ pub fn turn_row<'a>(node: &Node<'a>, budget: u32, widening: Widening, index: u32
     }
 }
 
-/// The iterate of a loop behind that of this index.
+/// The iterate of a loop after that of this index.
 #[inline]
 pub fn next_row<'a>(
     node: &Node<'a>,
@@ -154,7 +154,7 @@ pub fn fix_row<'a>(node: &Node<'a>) -> Option<Row<'a>>
     }
 }
 
-/// Behind a loop with breaks, by its condition alone.
+/// After a loop with breaks, by its condition alone.
 #[inline]
 pub fn exit_row<'a>(node: &Node<'a>) -> Option<Row<'a>>
     ensures is { (w : List PathFrame) → option_map (row_in w) result ≡ exit_at w (node_now node.now) }
@@ -182,7 +182,7 @@ fn place_of(leaves: &Leaves<'_>, stmt: StmtId) -> Option<usize>
     None
 }
 
-/// Behind a loop with its breaks up to this one, which is not its last.
+/// After a loop with its breaks up to this one, which is not its last.
 pub fn leap_row<'a>(node: &Node<'a>, stmt: StmtId) -> Option<Row<'a>>
     ensures is { (w : List PathFrame) → option_map (row_in w) result ≡ leap_at w stmt (node_now node.now) }
 {

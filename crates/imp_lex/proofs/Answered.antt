@@ -11,12 +11,12 @@ use Rattle.imp_lex.specs.Front.{front_of, IsBounded}
 use Rattle.imp_lex.specs.Lexing.{Answer, token_at, error_at, IsLexed, done, skip, word, IsFaulty, here, pass, past}
 use Rattle.imp_lex.proofs.Fronts.{front_bounded}
 
--- an answer behind these tokens
+-- an answer after these tokens
 abbrev pub behind : List Token → Answer → Answer
 behind found (Ok tokens) = Ok (found ++ tokens)
 behind found (Err error) = Err error
 
--- the answer of a text with this at its front, where read gives that of a text behind it
+-- the answer of a text with this at its front, where read gives that of a text after it
 abbrev pub step : Front → ℕ → List ℕ → (ℕ → List ℕ → Answer) → Answer
 step p.End at text read = Ok []
 step (p.Skip n) at text read = read (at + n) (drop n text)
@@ -93,7 +93,7 @@ has_answer at text = has_within (suc (length text)) at text (omega arith)
 
 -- ---- the loop
 
--- the loop has found these tokens in front of the place
+-- the loop has found these tokens before the place
 abbrev pub HasFound : List ℕ → List Token → ℕ → Type 0
 HasFound text found at = answer_of 0 text ≡ behind found (answer_of at (drop at text))
 

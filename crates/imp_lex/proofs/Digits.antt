@@ -7,7 +7,7 @@ use Rattle.base_values.specs.Numbers.{greatest}
 use Rattle.imp_lex.specs.Numbers.{value_on}
 use Rattle.imp_lex.specs.Kinds.{number_kind}
 
--- what digits write is no less than what stands in front of them
+-- what digits write is no less than what stands before them
 pub value_grows : (so_far : ℕ) (ds : List ℕ) → so_far ≤ value_on so_far ds
 value_grows so_far [] = omega arith
 value_grows so_far (d ∷ ds) = omega (arith, value_grows (so_far * 10 + (d - 48)) ds)

@@ -43,7 +43,7 @@ run_all : (is : ℕ → Bool) (bs : List ℕ) → list_all is (take (run is bs) 
 run_all is [] = refl
 run_all is (b ∷ bs) = run_all_by is b bs (run_all is bs) (is b) refl
 
--- a byte, and the bytes of a run behind it
+-- a byte, and the bytes of a run after it
 run_behind : (is : ℕ → Bool) (b : ℕ) (bs : List ℕ) → b ∷ take (run is bs) bs ≡ take (1 + run is bs) (b ∷ bs)
 run_behind is b bs =
     let e : suc (run is bs) ≡ 1 + run is bs = omega arith in

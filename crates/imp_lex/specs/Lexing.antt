@@ -35,7 +35,7 @@ error_at f.BadByte place = e.BadByte place
 error_at f.NumberTooBig place = e.NumberTooBig place
 error_at f.NameTooLong place = e.NameTooLong place
 
--- the error is the first fault of the text, unless it is want of memory
+-- the error is the first fault of the text, unless it is out of memory
 abbrev pub IsFault : List ℕ → LexError → Type 0
 IsFault text (e.BadByte place) = IsFaulty 0 text f.BadByte place
 IsFault text (e.NumberTooBig place) = IsFaulty 0 text f.NumberTooBig place
@@ -65,7 +65,7 @@ abbrev pub AreInOrder : ℕ → ℕ → List Token → Type 0
 AreInOrder from most [] = Unit {0}
 AreInOrder from most (token ∷ tokens) = (from ≤ token.span.start) × (token.span.start < token.span.end) × (token.span.end ≤ most) × AreInOrder token.span.end most tokens
 
--- a letter and bytes of a word behind it, no reserved word, and not too long
+-- a letter and bytes of a word after it, no reserved word, and not too long
 abbrev pub IsName : List ℕ → Type 0
 IsName [] = ⊥
 IsName (b ∷ rest) = (is_letter b ≡ true) × (list_all is_word rest ≡ true) × (reserved_word (b ∷ rest) ≡ None) × (length (b ∷ rest) ≤ most_name_bytes)

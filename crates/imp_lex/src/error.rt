@@ -18,7 +18,7 @@ pub enum LexError {
     /// The name that begins at this place has more than 32 bytes.
     #[error("the name at byte {0} is too long")]
     NameTooLong(usize),
-    /// Want of memory.
+    /// Out of memory.
     #[error("out of memory")]
     Memory,
 }

@@ -13,7 +13,7 @@ use std::alloc::Global;
 /// # Errors
 ///
 /// [`LexError::BadByte`], [`LexError::NumberTooBig`] and [`LexError::NameTooLong`] at the fault's
-/// first byte, and [`LexError::Memory`] for want of memory.
+/// first byte, and [`LexError::Memory`] when memory runs out.
 pub fn tokens(alloc: Global, text: &[u8]) -> Result<Items<Token>, LexError>
     ensures lexed { IfOk result (IsLexed 0 text.now) }
     ensures faulty { IfErr result (IsFault text.now) }

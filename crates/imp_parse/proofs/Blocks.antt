@@ -128,7 +128,7 @@ abbrev pub while_pack : ℕ → Strict statements (Statement × ℕ) is_else
 while_pack n = packs.next (a_mark m.OpenParenthesis) (λ a. loose (then a_condition (λ c. loose (packs.next (a_mark m.CloseParenthesis) (λ z.
     until is_else (λ t h. refl) (loose (give (block_pack (n + 1)) (λ b. (While n c b.0, b.1))))))) (λ c. mark_follows m.CloseParenthesis _ junction_on is_else refl)))
 
--- a simple statement, and the number behind it
+-- a simple statement, and the number after it
 abbrev pub numbered : ℕ → Arm statements Statement never → Arm statements (Statement × ℕ) is_else
 numbered n Dead = Dead
 numbered n (Live p) = Live (until is_else (λ t h. refl) (give p (λ s. (s, n + 1))))

@@ -61,7 +61,7 @@ sides = record {
   all_from = all_from;
 }
 
--- ---- a call behind its first word
+-- ---- a call after its first word
 
 abbrev pub invoke_pack : Strict alone (List ℕ × List Operand) never
 invoke_pack = next a_name (λ f. loose (next (a_mark m.OpenParenthesis) (λ z. loose (give (listed sides) (λ es. (f, es))))))

@@ -11,7 +11,7 @@ use Rattle.imp_parse.proofs.Layers.{Turn, layer_eq}
 use std.Path.{fun_ext}
 use Rattle.base_values.proofs.Cases.{or_second}
 
--- behind what spells a: no more, or an operator, one more part, and the rest
+-- after what spells a: no more, or an operator, one more part, and the rest
 pub data Tail {A Op : Type 0} (ops : TokenKind → Option Op) (made : Op → A → A → A) (G : Language A) (Rest : A → Language A) (a : A) : List TokenKind → A → Type 0 where
   ends : Tail ops made G Rest a [] a
   more : {op : Op} {t : TokenKind} {v w : List TokenKind} {b e : A} → ops t ≡ Some op → G v b → Rest (made op a b) w e → Tail ops made G Rest a (t ∷ (v ++ w)) e
@@ -47,7 +47,7 @@ pub free_less : (on on' : TokenKind → Bool) → ((t : TokenKind) → on t ≡ 
 free_less on on' le [] free = tt
 free_less on on' le (t ∷ rest) free = le t free
 
--- behind a tail, up to its end, comes nothing that a part goes on with
+-- after a tail, up to its end, comes nothing that a part goes on with
 tail_follows : {A Op : Type 0} (ops : TokenKind → Option Op) (made : Op → A → A → A) (G : Language A) (Rest : A → Language A) (a : A) (on on' : TokenKind → Bool) → ((t : TokenKind) (op : Op) → ops t ≡ Some op → on t ≡ false) → ((t : TokenKind) → on' t ≡ false → on t ≡ false)
     → (w : List TokenKind) (e : A) (rest : List TokenKind) → Tail ops made G Rest a w e → Free on' rest → Free on (w ++ rest)
 tail_follows ops made G Rest a on on' apart le w e rest ends free = free_less on' on le rest free

@@ -19,12 +19,12 @@ use Rattle.imp_parse.proofs.ListLayers.{IsList, ends, more, Listing, layer, is_l
 use Rattle.imp_parse.proofs.Singles.{mark, mark_follows, ended}
 use Rattle.base_values.proofs.Cases.{or_first, or_second}
 
--- items, each behind a comma
+-- items, each after a comma
 pub data IsCommas {X : Type 0} (G : Language X) (Many : Language (List X)) : List TokenKind → List X → Type 0 where
   no_more : IsCommas G Many [] []
   one_more : {v w : List TokenKind} {x : X} {xs : List X} → G v x → Many w xs → IsCommas G Many (k.Mark m.Comma ∷ (v ++ w)) (x ∷ xs)
 
--- the parenthesis alone, or an item, those behind commas, and the parenthesis
+-- the parenthesis alone, or an item, those after commas, and the parenthesis
 pub data IsListed {X : Type 0} (G : Language X) (Many : Language (List X)) : List TokenKind → List X → Type 0 where
   none : IsListed G Many (k.Mark m.CloseParenthesis ∷ []) []
   some : {v w : List TokenKind} {x : X} {xs : List X} → G v x → Many w xs → IsListed G Many (v ++ (w ++ k.Mark m.CloseParenthesis ∷ [])) (x ∷ xs)
@@ -38,12 +38,12 @@ abbrev pub is_close : TokenKind → Bool
 is_close (k.Mark m.CloseParenthesis) = true
 is_close t = false
 
--- items of G, Many of them behind commas, and All up to the parenthesis; an item goes on with item_on
+-- items of G, Many of them after commas, and All up to the parenthesis; an item goes on with item_on
 pub record Commas {X : Type 0} (G : Language X) (Many All : Language (List X)) (item_on : TokenKind → Bool) (item : Reader X) : Type 0 where
   pub exact : (n : ℕ) → Exact n G item_on item
   pub opens : Opens G []
   pub nonempty : (w : List TokenKind) (x : X) → G w x → 0 < length w
-  -- an item goes on with neither mark behind it, and does not begin with the parenthesis
+  -- an item goes on with neither mark after it, and does not begin with the parenthesis
   pub comma_apart : item_on (k.Mark m.Comma) ≡ false
   pub close_apart : item_on (k.Mark m.CloseParenthesis) ≡ false
   pub front : (v : List TokenKind) (x : X) → G v x → (rest : List TokenKind) → begun is_close (v ++ rest) ≡ false
@@ -137,7 +137,7 @@ module _ {X : Type 0} {G : Language X} {Many All : Language (List X)} {item_on :
   abbrev pub some_commas : {L : Layer} → Loose L (List X × Unit {0}) many_on
   some_commas = read_some (ManyIn tt) many_on (commas_at item) commas_exact ([], ([], tt), c.many_to [] [] no_more)
 
-  -- one more in front
+  -- one more before
   abbrev pub behind : X → List X × Unit {0} → List X × Unit {0}
   behind x xs = (x ∷ xs.0, xs.1)
 

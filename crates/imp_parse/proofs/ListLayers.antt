@@ -22,7 +22,7 @@ pub record Listing (X S : Type 0) (begins item_on many_on : TokenKind → Bool) 
   pub Many : S → Language (List X × S)
   pub to : (s : S) (w : List TokenKind) (xs : List X × S) → IsList Item Many s w xs → Many s w xs
   pub from : (s : S) (w : List TokenKind) (xs : List X × S) → Many s w xs → IsList Item Many s w xs
-  -- behind an item and the list after it comes nothing that the item goes on with
+  -- after an item and the list after it comes nothing that the item goes on with
   pub follow : (s : S) → Follows item_on (Many s) many_on
   pub stops : (t : TokenKind) → many_on t ≡ false → begins t ≡ false
 
@@ -49,7 +49,7 @@ module _ {X S : Type 0} (begins item_on many_on : TokenKind → Bool) (c : Listi
   is_live (Live p) = true
   is_live Other = false
 
-  -- how an item reads on behind each first token
+  -- how an item reads on after each first token
   module _ (arm : S → TokenKind → Arm layer (X × S) item_on)
       (item_to : (s : S) (t : TokenKind) (w : List TokenKind) (x : X × S) → arm_lang (arm s t) w x → c.Item s (t ∷ w) x)
       (item_from : (s : S) (w : List TokenKind) (x : X × S) → c.Item s w x → (t : TokenKind) × (v : List TokenKind) × (w ≡ t ∷ v) × arm_lang (arm s t) v x)

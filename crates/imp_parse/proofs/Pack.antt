@@ -255,7 +255,7 @@ call {L = L} i = record {
 
 -- ---- one after the other
 
--- behind G, up to on', comes no token that G goes on with
+-- after G, up to on', comes no token that G goes on with
 abbrev pub Follows : {A : Type 0} → (TokenKind → Bool) → Language A → (TokenKind → Bool) → Type 0
 Follows {A = A} on G on' = (w : List TokenKind) (a : A) (rest : List TokenKind) → G w a → Free on' rest → Free on (w ++ rest)
 
@@ -281,7 +281,7 @@ then {on = on} {on' = on'} first second follow = record {
   near = first.near;
 }
 
--- where any token may come behind the first
+-- where any token may come after the first
 abbrev pub next : {L : Layer} {A B : Type 0} {up : ℕ → ℕ} {on' : TokenKind → Bool} (first : Pack L B up up never) (second : B → Loose L A on') → Pack L A up up on'
 next first second = then first second (λ b w a rest g free. free_never (w ++ rest))
 
@@ -304,7 +304,7 @@ module _ {L : Layer} {A : Type 0} {on : TokenKind → Bool} where
   is_other (Live p) = false
   is_other Other = true
 
-  -- t is the first token, rest stands behind it
+  -- t is the first token, rest stands after it
   abbrev pub arm_reader : Arm L A on → Calls L → Reader A → TokenKind → List TokenKind → Read A
   arm_reader Dead f other t rest = Err (Unexpected (suc (length rest)))
   arm_reader (Live p) f other t rest = p.reader f rest

@@ -25,7 +25,7 @@ use Rattle.imp_parse.proofs.Conditions.{an_expression, a_condition, junction_on}
 use Rattle.imp_parse.proofs.Calls.{a_call}
 use Rattle.base_values.proofs.Cases.{or_second}
 
--- ---- what is assigned: behind a name
+-- ---- what is assigned: after a name
 
 abbrev pub selects : TokenKind → Bool
 selects (k.Mark m.Dot) = true

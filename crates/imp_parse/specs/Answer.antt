@@ -37,7 +37,7 @@ IsAnswer G start text (Err e.Memory) = ⊥
 abbrev pub HasTree : {A : Type 0} → Language A → Nesting → List ℕ → A → Type 0
 HasTree G start text tree = IsAnswer G start text (Ok tree)
 
--- the error is the fault of the text, unless it is want of memory
+-- the error is the fault of the text, unless it is out of memory
 abbrev pub IsFault : {A : Type 0} → Language A → Nesting → List ℕ → ParseError → Type 0
 IsFault {A = A} G start text e.Memory = Unit {0}
 IsFault {A = A} G start text (e.Lex fault) = IsAnswer {A = A} G start text (Err (e.Lex fault))

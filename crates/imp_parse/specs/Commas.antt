@@ -15,14 +15,14 @@ is_comma t = false
 abbrev pub next_by : {X : Type 0} → (List TokenKind → Read X) → Lists X (Unit {0}) → Unit {0} → List TokenKind → Read (X × Unit {0})
 next_by item lists s ts = mark_at m.Comma ts >>= λ z. item z.1 >>= λ x. Ok ((x.0, tt), x.1)
 
--- items, each behind a comma
+-- items, each after a comma
 unfoldable pub commas_step : {X : Type 0} → (List TokenKind → Read X) → Steps (Unit {0}) (List X × Unit {0})
 commas_step item = list_step is_comma (next_by item)
 
 abbrev pub commas_at : {X : Type 0} → (List TokenKind → Read X) → List TokenKind → Read (List X × Unit {0})
 commas_at item ts = fix (commas_step item) tt ts
 
--- an item, those behind commas, and the parenthesis
+-- an item, those after commas, and the parenthesis
 abbrev pub some_listed_at : {X : Type 0} → (List TokenKind → Read X) → List TokenKind → Read (List X)
 some_listed_at item ts = do
   x ← item ts

@@ -14,7 +14,7 @@ mutual
   pub data IsExpression : List TokenKind → Expression → Type 0 where
     sum : {v w : List TokenKind} {a e : Expression} → IsTerm v a → IsSum a w e → IsExpression (v ++ w) e
 
-  -- behind what spells a: no more, or an operator and one more term
+  -- after what spells a: no more, or an operator and one more term
   pub data IsSum : Expression → List TokenKind → Expression → Type 0 where
     sum_ends : {a : Expression} → IsSum a [] a
     sum_more : {a b e : Expression} {o : Operator} {t : TokenKind} {v w : List TokenKind} → additive t ≡ Some o → IsTerm v b → IsSum (Binary o a b) w e → IsSum a (t ∷ (v ++ w)) e
@@ -51,7 +51,7 @@ mutual
   pub data IsCondition : List TokenKind → Condition → Type 0 where
     disjunction : {v w : List TokenKind} {a c : Condition} → IsConjunction v a → IsOr a w c → IsCondition (v ++ w) c
 
-  -- behind what spells a: no more, or || and one more conjunction
+  -- after what spells a: no more, or || and one more conjunction
   pub data IsOr : Condition → List TokenKind → Condition → Type 0 where
     or_ends : {a : Condition} → IsOr a [] a
     or_more : {a b c : Condition} {v w : List TokenKind} → IsConjunction v b → IsOr (Or a b) w c → IsOr a (k.Mark m.Or ∷ (v ++ w)) c

@@ -9,7 +9,7 @@ use Rattle.imp_parse.specs.declared.error.ParseError.{ParseError}
 use Rattle.imp_parse.specs.declared.error.ParseError.TheVariants as e
 use Rattle.imp_parse.specs.Reader.{Stop, Unexpected, Read}
 
--- the error is where reading stops, or want of memory
+-- the error is where reading stops, or out of memory
 abbrev pub Fails : {A : Type 0} → Stopped → Result A Stop → Type 0
 Fails s.Memory read = Unit {0}
 Fails (s.Unexpected left) read = read ≡ Err (Unexpected left)

@@ -7,7 +7,7 @@ use Rattle.imp_lex.specs.declared.token.TokenKind.{TokenKind}
 abbrev pub kinds : List Token → List TokenKind
 kinds tokens = map (λ t. t.kind) tokens
 
--- the first kind and those behind it, as one list
+-- the first kind and those after it, as one list
 abbrev pub joined : Option (Bor TokenKind × Bor (List Token)) → List TokenKind
 joined None = []
 joined (Some x) = x.0.now ∷ kinds x.1.now

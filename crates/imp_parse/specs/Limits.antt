@@ -46,7 +46,7 @@ role_of t = r.Plain
 abbrev pub place : ℕ → ℕ → Bool → Nesting
 place depth used heads = record { depth = depth; used = used; heads = heads }
 
--- where one stands behind a token
+-- where one stands after a token
 abbrev pub next : Nesting → Role → Nesting
 next p r.Parenthesis = place p.depth (if p.heads then 0 else p.used + 1) false
 next p r.Opening = place (p.depth + 1) 0 false

@@ -1,4 +1,4 @@
--- Reading lists: items that are told by their first token, each with the state behind it.
+-- Reading lists: items that are told by their first token, each with the state after it.
 use Rattle.std.specs.Prelude.{Bool, false, List, [], ◌∷◌, ◌++◌, Ok, if◌then◌else◌}
 use Rattle.imp_lex.specs.declared.token.TokenKind.{TokenKind}
 use Rattle.imp_parse.specs.Reader.{Read, ◌>>=◌, Steps}
@@ -6,7 +6,7 @@ use Rattle.imp_parse.specs.Reader.{Read, ◌>>=◌, Steps}
 abbrev pub Lists : Type 0 → Type 0 → Type 0
 Lists X S = S → List TokenKind → Read (List X × S)
 
--- an item, and the list behind it
+-- an item, and the list after it
 abbrev pub more_by : {X S : Type 0} → (Lists X S → S → List TokenKind → Read (X × S)) → Lists X S → S → List TokenKind → Read (List X × S)
 more_by item lists s ts = item lists s ts >>= λ x. lists x.0.1 x.1 >>= λ ys. Ok ((x.0.0 ∷ ys.0.0, ys.0.1), ys.1)
 

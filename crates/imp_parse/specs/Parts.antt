@@ -1,4 +1,4 @@
--- Parts of what is read, behind what is read of it already.
+-- Parts of what is read, after what is read of it already.
 use Rattle.std.specs.Prelude.{ℕ, List, Ok, Option, Some, None}
 use Rattle.imp_lex.specs.declared.token.Mark.{Mark}
 use Rattle.imp_lex.specs.declared.token.Mark.TheVariants as m
@@ -44,7 +44,7 @@ write_next_at n p ts = mark_at m.Equals ts >>= λ a. name_at a.1 >>= λ q. mark_
 abbrev pub write_item_at : ℕ → List ℕ → List TokenKind → Read Statement
 write_item_at n p ts = mark_at m.Equals ts >>= λ a. expression_at a.1 >>= λ e. mark_at m.Semicolon e.1 >>= λ z. Ok (Simple n (plain.WriteItem p e.0), z.1)
 
--- behind a[e]
+-- after a[e]
 abbrev pub write_element_at : ℕ → List ℕ → Expression → List TokenKind → Read Statement
 write_element_at n a e ts = mark_at m.Equals ts >>= λ q. expression_at q.1 >>= λ f. mark_at m.Semicolon f.1 >>= λ z. Ok (Simple n (plain.WriteElement a e f.0), z.1)
 
@@ -57,32 +57,32 @@ assertion_at n ts = condition_at ts >>= λ c. mark_at m.Semicolon c.1 >>= λ z. 
 abbrev pub plain_call_at : ℕ → List TokenKind → Read Statement
 plain_call_at n ts = invoke_at ts >>= λ i. mark_at m.Semicolon i.1 >>= λ z. Ok (Call n None i.0.0 i.0.1, z.1)
 
--- ---- statements whose blocks are read, and the number behind them
+-- ---- statements whose blocks are read, and the number after them
 
 abbrev pub composed_at : Statement → ℕ → List TokenKind → Read (Statement × ℕ)
 composed_at s next ts = Ok ((s, next), ts)
 
--- the brace behind the statements of a block
+-- the brace after the statements of a block
 abbrev pub closed_block_at : List Statement → ℕ → List TokenKind → Read (Statements × ℕ)
 closed_block_at ss next ts = mark_at m.CloseBrace ts >>= λ z. Ok ((block_of ss, next), z.1)
 
 -- ---- procedures, whose statements are numbered from n
 
--- behind the locals
+-- after the locals
 abbrev pub behind_locals_at : ℕ → List ℕ → List Declaration → Option Declaration → List Declaration → List TokenKind → Read (Procedure × ℕ)
 behind_locals_at n x ps o ls ts = do
   ss ← statements_at n ts
   z ← mark_at m.CloseBrace ss.1
   Ok ((record { name = x; parameters = ps; outcome = o; locals = ls; body = block_of ss.0.0 }, ss.0.1), z.1)
 
--- behind the outcome
+-- after the outcome
 abbrev pub behind_head_at : ℕ → List ℕ → List Declaration → Option Declaration → List TokenKind → Read (Procedure × ℕ)
 behind_head_at n x ps o ts = do
   b ← mark_at m.OpenBrace ts
   ls ← locals_at b.1
   behind_locals_at n x ps o ls.0.0 ls.1
 
--- behind the name and a parenthesis
+-- after the name and a parenthesis
 abbrev pub behind_parenthesis_at : ℕ → List ℕ → List TokenKind → Read (Procedure × ℕ)
 behind_parenthesis_at n x ts = do
   ps ← parameters_at ts

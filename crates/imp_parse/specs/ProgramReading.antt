@@ -47,7 +47,7 @@ locals_step = list_step begins_local local_by
 abbrev pub locals_at : List TokenKind → Read (List Declaration × Unit {0})
 locals_at ts = fix locals_step tt ts
 
--- a procedure behind its first word
+-- a procedure after its first word
 abbrev pub procedure_behind : ℕ → List TokenKind → Read (Procedure × ℕ)
 procedure_behind n ts = do
   x ← name_at ts

@@ -1,4 +1,4 @@
--- Readers of tokens: an answer is a value and the tokens behind it, or how many tokens are left at the first that cannot go on.
+-- Readers of tokens: an answer is a value and the tokens after it, or how many tokens are left at the first that cannot go on.
 use Rattle.std.specs.Prelude.{ℕ, zero, suc, List, [], ◌∷◌, length, Option, Some, None, Result, Ok, Err, nat_lt, if◌then◌else◌}
 use Rattle.imp_lex.specs.declared.token.TokenKind.{TokenKind}
 

@@ -21,7 +21,7 @@ relation_at ts = pick_at relation_of ts
 
 -- ---- chains of two ranks over units: what is read with calls of the same
 
--- a whole chain; a unit; what stands behind a in a chain of the high rank, or of the low one
+-- a whole chain; a unit; what stands after a in a chain of the high rank, or of the low one
 pub data Part (A : Type 0) : Type 0 where
   Whole : Part A
   Inner : Part A
@@ -35,7 +35,7 @@ abbrev pub tail_by : {A Op : Type 0} → Option Op → (Op → Read A) → A →
 tail_by None more a ts = Ok (a, ts)
 tail_by (Some op) more a ts = more op
 
--- no more, or an operator and what stands behind it
+-- no more, or an operator and what stands after it
 abbrev pub chain_by : {A Op : Type 0} → (TokenKind → Option Op) → (Op → List TokenKind → Read A) → A → List TokenKind → Read A
 chain_by ops more a [] = Ok (a, [])
 chain_by ops more a (t ∷ rest) = tail_by (ops t) (λ op. more op rest) a (t ∷ rest)
@@ -85,7 +85,7 @@ sum_at a ts = fix expression_step (Low a) ts
 abbrev pub term_at : List TokenKind → Read Expression
 term_at ts = factor_at ts >>= λ x. product_at x.0 x.1
 
--- what stands behind a left side, by its first token
+-- what stands after a left side, by its first token
 abbrev pub product_by : Expression → List TokenKind → Read Expression
 product_by a ts = chain_by multiplicative (λ op rest. factor_at rest >>= λ x. product_at (Binary op a x.0) x.1) a ts
 
@@ -109,7 +109,7 @@ compare_at ts = do
   b ← side_at r.1
   Ok (Compare r.0 a.0 b.0, b.1)
 
--- a condition and the parenthesis behind it
+-- a condition and the parenthesis after it
 abbrev pub grouped_by : Parts Condition → (Condition → Condition) → List TokenKind → Read Condition
 grouped_by parts made ts = do
   c ← parts Whole ts
@@ -140,7 +140,7 @@ or_at a ts = fix condition_step (Low a) ts
 abbrev pub conjunction_at : List TokenKind → Read Condition
 conjunction_at ts = unit_at ts >>= λ x. and_at x.0 x.1
 
--- what stands behind a left side, by its first token
+-- what stands after a left side, by its first token
 abbrev pub and_by : Condition → List TokenKind → Read Condition
 and_by a ts = chain_by and_of (λ op rest. unit_at rest >>= λ x. and_at (And a x.0) x.1) a ts
 

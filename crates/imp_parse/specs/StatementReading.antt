@@ -16,7 +16,7 @@ use Rattle.imp_parse.specs.Commas.{listed_at}
 abbrev pub arguments_at : List TokenKind → Read (List Operand)
 arguments_at ts = listed_at side_at ts
 
--- a call behind its first word
+-- a call after its first word
 unfoldable pub invoke_at : List TokenKind → Read (List ℕ × List Operand)
 invoke_at ts = do
   f ← name_at ts
@@ -29,21 +29,21 @@ invoke_at ts = do
 abbrev pub value_rhs_at : ℕ → List ℕ → List TokenKind → Read Statement
 value_rhs_at n x ts = expression_at ts >>= λ e. Ok (Simple n (plain.Assign x e.0), e.1)
 
--- behind a variable that begins an expression
+-- after a variable that begins an expression
 abbrev pub variable_rhs_at : ℕ → List ℕ → List ℕ → List TokenKind → Read Statement
 variable_rhs_at n x y ts = do
   a ← product_at (plain.Variable y) ts
   e ← sum_at a.0 a.1
   Ok (Simple n (plain.Assign x e.0), e.1)
 
--- behind a name and a dot
+-- after a name and a dot
 abbrev pub field_rhs_at : ℕ → List ℕ → List ℕ → List TokenKind → Read Statement
 field_rhs_at n x y [] = Err (Unexpected 0)
 field_rhs_at n x y (k.Word word.Next ∷ rest) = Ok (Simple n (plain.ReadNext x y), rest)
 field_rhs_at n x y (k.Word word.Item ∷ rest) = Ok (Simple n (plain.ReadItem x y), rest)
 field_rhs_at n x y (t ∷ rest) = Err (Unexpected (suc (length rest)))
 
--- behind a name
+-- after a name
 unfoldable pub named_rhs_at : ℕ → List ℕ → List ℕ → List TokenKind → Read Statement
 named_rhs_at n x y [] = variable_rhs_at n x y []
 named_rhs_at n x y (k.Mark m.Dot ∷ rest) = field_rhs_at n x y rest
@@ -62,14 +62,14 @@ rhs_at n x (t ∷ rest) = value_rhs_at n x (t ∷ rest)
 
 -- ---- simple statements, with number n
 
--- behind a name and a dot
+-- after a name and a dot
 abbrev pub field_at : ℕ → List ℕ → List TokenKind → Read Statement
 field_at n p [] = Err (Unexpected 0)
 field_at n p (k.Word word.Next ∷ rest) = mark_at m.Equals rest >>= λ a. name_at a.1 >>= λ q. mark_at m.Semicolon q.1 >>= λ z. Ok (Simple n (plain.WriteNext p q.0), z.1)
 field_at n p (k.Word word.Item ∷ rest) = mark_at m.Equals rest >>= λ a. expression_at a.1 >>= λ e. mark_at m.Semicolon e.1 >>= λ z. Ok (Simple n (plain.WriteItem p e.0), z.1)
 field_at n p (t ∷ rest) = Err (Unexpected (suc (length rest)))
 
--- behind a[
+-- after a[
 abbrev pub element_at : ℕ → List ℕ → List TokenKind → Read Statement
 element_at n a ts = do
   e ← expression_at ts
@@ -79,7 +79,7 @@ element_at n a ts = do
   z ← mark_at m.Semicolon f.1
   Ok (Simple n (plain.WriteElement a e.0 f.0), z.1)
 
--- behind a name
+-- after a name
 unfoldable pub named_at : ℕ → List ℕ → List TokenKind → Read Statement
 named_at n x [] = Err (Unexpected 0)
 named_at n x (k.Mark m.Equals ∷ rest) = rhs_at n x rest >>= λ s. mark_at m.Semicolon s.1 >>= λ z. Ok (s.0, z.1)

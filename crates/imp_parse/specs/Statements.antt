@@ -18,7 +18,7 @@ pub data IsArguments : List TokenKind → List Operand → Type 0 where
   no_arguments : IsArguments (k.Mark m.CloseParenthesis ∷ []) []
   arguments : {v w : List TokenKind} {e : Operand} {es : List Operand} → IsSide v e → IsSides w es → IsArguments (v ++ (w ++ k.Mark m.CloseParenthesis ∷ [])) (e ∷ es)
 
--- invoke = "call" name "(" [ side { "," side } ] ")", behind its first word
+-- invoke = "call" name "(" [ side { "," side } ] ")", after its first word
 pub data IsInvoke : List TokenKind → List ℕ × List Operand → Type 0 where
   invoke : {f : List ℕ} {w : List TokenKind} {es : List Operand} → IsArguments w es → IsInvoke (k.Name f ∷ k.Mark m.OpenParenthesis ∷ w) (f, es)
 

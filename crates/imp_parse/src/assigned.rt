@@ -17,7 +17,7 @@ use imp_lex::{Mark, Token, TokenKind, Word};
 use imp_syntax::{Action, Call, Expr, ExprNode, Stmt, StmtId, StmtNode};
 use std::alloc::Global;
 
-/// The statement of this number and outermost part, and the tokens behind it.
+/// The statement of this number and outermost part, and the tokens after it.
 pub(crate) fn made(
     alloc: Global,
     number: u32,
@@ -31,7 +31,7 @@ pub(crate) fn made(
     Ok((stmt, rest))
 }
 
-/// The action as a statement of this number, and the tokens behind it.
+/// The action as a statement of this number, and the tokens after it.
 pub(crate) fn of_action(
     alloc: Global,
     number: u32,
@@ -57,7 +57,7 @@ fn value_rhs(
     of_action(alloc, number, Action::Assign(target, value), rest)
 }
 
-/// An expression that begins with this variable, behind it.
+/// An expression that begins with this variable, after it.
 fn variable_rhs(
     alloc: Global,
     number: u32,
@@ -74,7 +74,7 @@ fn variable_rhs(
     of_action(alloc, number, Action::Assign(target, value), rest)
 }
 
-/// `next` or `item`, behind a name and a dot.
+/// `next` or `item`, after a name and a dot.
 fn field_rhs(
     alloc: Global,
     number: u32,
@@ -96,7 +96,7 @@ fn field_rhs(
     }
 }
 
-/// The index of an element that is read, behind its bracket.
+/// The index of an element that is read, after its bracket.
 fn element_rhs(
     alloc: Global,
     number: u32,
@@ -117,7 +117,7 @@ fn element_rhs(
     )
 }
 
-/// What goes on behind a name.
+/// What goes on after a name.
 #[tactic(auto, unfolding(crate::specs::StatementReading::named_rhs_at))]
 fn named_rhs(
     alloc: Global,
@@ -152,7 +152,7 @@ fn array_rhs(
     of_action(alloc, number, Action::MakeArray(target, length), rest)
 }
 
-/// A call whose result is assigned, behind its first word.
+/// A call whose result is assigned, after its first word.
 fn call_rhs(
     alloc: Global,
     number: u32,
@@ -171,7 +171,7 @@ fn call_rhs(
     made(alloc, number, StmtNode::Call(call), rest)
 }
 
-/// What is assigned to the target, as a statement of this number, and the tokens behind it.
+/// What is assigned to the target, as a statement of this number, and the tokens after it.
 #[tactic(auto, unfolding(crate::specs::StatementReading::rhs_at))]
 pub(crate) fn rhs(
     alloc: Global,

@@ -25,7 +25,7 @@ pub(crate) fn begins_with_comma(tokens: &[Token]) -> bool
     matches!(front(tokens), Some((TokenKind::Mark(Mark::Comma), _)))
 }
 
-/// A comma and a side, and the tokens behind them.
+/// A comma and a side, and the tokens after them.
 #[tactic(auto, unfolding(crate::specs::Tables::same_mark))]
 fn next_side(alloc: Global, tokens: &[Token]) -> Result<(Side, &[Token]), Stopped>
     ensures read { Gives (λ x. ((operand_of x.0, tt), kinds x.1.now)) result (next_by side_at (fix (commas_step side_at)) tt (kinds tokens.now)) }
@@ -35,7 +35,7 @@ fn next_side(alloc: Global, tokens: &[Token]) -> Result<(Side, &[Token]), Stoppe
     side(alloc, rest)
 }
 
-/// The first side and those behind commas, and the tokens behind them.
+/// The first side and those after commas, and the tokens after them.
 fn sides(alloc: Global, first: Side, tokens: &[Token]) -> Result<(Items<Side>, &[Token]), Stopped>
     ensures read { Gives (λ x. ((operands_of x.0, tt), kinds x.1.now)) result (with_front (operand_of first ∷ []) (commas_at side_at (kinds tokens.now))) }
     ensures shorter { IfOk result (λ x. length x.1.now ≤ length tokens.now) }
@@ -61,7 +61,7 @@ fn some_arguments(alloc: Global, tokens: &[Token]) -> Result<(Items<Side>, &[Tok
     Ok((all, rest))
 }
 
-/// The arguments up to `)`, and the tokens behind it.
+/// The arguments up to `)`, and the tokens after it.
 fn arguments(alloc: Global, tokens: &[Token]) -> Result<(Items<Side>, &[Token]), Stopped>
     ensures read { Gives (λ x. (operands_of x.0, kinds x.1.now)) result (arguments_at (kinds tokens.now)) }
     ensures shorter { IfOk result (λ x. length x.1.now < length tokens.now) }
@@ -72,7 +72,7 @@ fn arguments(alloc: Global, tokens: &[Token]) -> Result<(Items<Side>, &[Token]),
     }
 }
 
-/// The callee and the arguments of a call behind its first word, and the tokens behind them.
+/// The callee and the arguments of a call after its first word, and the tokens after them.
 #[tactic(auto, unfolding(crate::specs::StatementReading::invoke_at))]
 pub(crate) fn invoke(
     alloc: Global,

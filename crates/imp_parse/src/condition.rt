@@ -15,7 +15,7 @@ use imp_lex::{Mark, Token, TokenKind, Word};
 use imp_syntax::{Cond, CondNode, Side};
 use std::alloc::Global;
 
-/// A side of a comparison or an argument, and the tokens behind it.
+/// A side of a comparison or an argument, and the tokens after it.
 pub(crate) fn side(alloc: Global, tokens: &[Token]) -> Result<(Side, &[Token]), Stopped>
     ensures read { Gives (λ x. (operand_of x.0, kinds x.1.now)) result (side_at (kinds tokens.now)) }
     ensures shorter { IfOk result (λ x. length x.1.now < length tokens.now) }
@@ -29,7 +29,7 @@ pub(crate) fn side(alloc: Global, tokens: &[Token]) -> Result<(Side, &[Token]), 
     }
 }
 
-/// The condition with this outermost part, and the tokens behind it.
+/// The condition with this outermost part, and the tokens after it.
 fn made(alloc: Global, node: CondNode, rest: &[Token]) -> Result<(Cond, &[Token]), Stopped>
     ensures read { Gives (λ x. (x.0, kinds x.1.now)) result (made_at (condition_of node) (kinds rest.now)) }
     ensures shorter { IfOk result (λ x. length x.1.now ≤ length rest.now) }
@@ -66,7 +66,7 @@ fn compare(alloc: Global, tokens: &[Token]) -> Result<(Cond, &[Token]), Stopped>
     made(alloc, CondNode::Compare(relation, left, right), rest)
 }
 
-/// A condition, and the tokens behind it.
+/// A condition, and the tokens after it.
 #[cycle(condition)]
 #[tactic(auto, using(crate::proofs::Conditions::condition_eq))]
 pub(crate) fn condition(alloc: Global, tokens: &[Token]) -> Result<(Cond, &[Token]), Stopped>
@@ -77,7 +77,7 @@ pub(crate) fn condition(alloc: Global, tokens: &[Token]) -> Result<(Cond, &[Toke
     or_tail(alloc, left, rest)
 }
 
-/// What stands behind conjunctions that make `left`.
+/// What stands after conjunctions that make `left`.
 #[cycle(condition)]
 #[tactic(auto, using(crate::proofs::Conditions::or_eq))]
 fn or_tail(alloc: Global, left: Cond, tokens: &[Token]) -> Result<(Cond, &[Token]), Stopped>
@@ -101,7 +101,7 @@ fn conjunction(alloc: Global, tokens: &[Token]) -> Result<(Cond, &[Token]), Stop
     and_tail(alloc, left, rest)
 }
 
-/// What stands behind units that make `left`.
+/// What stands after units that make `left`.
 #[cycle(condition)]
 #[tactic(auto, using(crate::proofs::Conditions::and_eq))]
 fn and_tail(alloc: Global, left: Cond, tokens: &[Token]) -> Result<(Cond, &[Token]), Stopped>

@@ -22,7 +22,7 @@ pub enum ParseError {
     /// condition.
     #[error("token {0} is nested too deep")]
     TooDeep(usize),
-    /// Want of memory.
+    /// Out of memory.
     #[error("out of memory")]
     Memory,
 }
@@ -40,7 +40,7 @@ impl From<LexError> for ParseError {
     }
 }
 
-/// Why reading stops: want of memory, or a token, with how many are left from it on.
+/// Why reading stops: lack of memory, or a token, with how many are left from it on.
 #[derive(Clone, Copy, Debug, PartialEq, Eq, Drop)]
 pub(crate) enum Stopped {
     Memory,

@@ -14,7 +14,7 @@ use imp_lex::{Mark, Token, TokenKind, Word};
 use imp_syntax::{Expr, ExprNode, Operator};
 use std::alloc::Global;
 
-/// The expression with this outermost part, and the tokens behind it.
+/// The expression with this outermost part, and the tokens after it.
 fn made(alloc: Global, node: ExprNode, rest: &[Token]) -> Result<(Expr, &[Token]), Stopped>
     ensures read { Gives (λ x. (x.0, kinds x.1.now)) result (made_at (expression_of node) (kinds rest.now)) }
     ensures shorter { IfOk result (λ x. length x.1.now ≤ length rest.now) }
@@ -50,7 +50,7 @@ fn measured(alloc: Global, tokens: &[Token]) -> Result<(Expr, &[Token]), Stopped
     made(alloc, ExprNode::Length(array), rest)
 }
 
-/// An expression, and the tokens behind it.
+/// An expression, and the tokens after it.
 #[cycle(expression)]
 #[tactic(auto, using(crate::proofs::Expressions::expression_eq))]
 pub(crate) fn expression(alloc: Global, tokens: &[Token]) -> Result<(Expr, &[Token]), Stopped>
@@ -61,7 +61,7 @@ pub(crate) fn expression(alloc: Global, tokens: &[Token]) -> Result<(Expr, &[Tok
     sum_tail(alloc, left, rest)
 }
 
-/// What stands behind terms that make `left`.
+/// What stands after terms that make `left`.
 #[cycle(expression)]
 #[tactic(auto, using(crate::proofs::Expressions::sum_eq))]
 pub(crate) fn sum_tail(
@@ -92,7 +92,7 @@ fn term(alloc: Global, tokens: &[Token]) -> Result<(Expr, &[Token]), Stopped>
     product_tail(alloc, left, rest)
 }
 
-/// What stands behind factors that make `left`.
+/// What stands after factors that make `left`.
 #[cycle(expression)]
 #[tactic(auto, using(crate::proofs::Expressions::product_eq))]
 pub(crate) fn product_tail(

@@ -59,7 +59,7 @@ impl Nesting {
         }
     }
 
-    /// Where one stands behind a token of this role.
+    /// Where one stands after a token of this role.
     fn next(self, role: Role) -> Nesting
         requires room { IsRoom self }
         ensures is { result ≡ next self role }

@@ -11,7 +11,7 @@ use base_values::Text;
 use imp_lex::{Mark, Token, TokenKind, Word};
 use imp_syntax::{Relation, VariableKind as VariableKind};
 
-/// The kind of the first token, and the tokens behind it.
+/// The kind of the first token, and the tokens after it.
 pub(crate) fn front(tokens: &[Token]) -> Option<(&TokenKind, &[Token])>
     ensures is { kinds tokens.now ≡ joined result }
     ensures shorter { IfSome result (λ x. length x.1.now < length tokens.now) }
@@ -22,7 +22,7 @@ pub(crate) fn front(tokens: &[Token]) -> Option<(&TokenKind, &[Token])>
     }
 }
 
-/// The tokens behind the wanted mark.
+/// The tokens after the wanted mark.
 #[tactic(auto, unfolding(crate::specs::Tables::same_mark))]
 pub(crate) fn mark(wanted: Mark, tokens: &[Token]) -> Result<&[Token], Stopped>
     ensures read { Gives (λ r. (tt, kinds r.now)) result (mark_at wanted (kinds tokens.now)) }
@@ -40,7 +40,7 @@ pub(crate) fn mark(wanted: Mark, tokens: &[Token]) -> Result<&[Token], Stopped>
     }
 }
 
-/// A name, and the tokens behind it.
+/// A name, and the tokens after it.
 pub(crate) fn name(tokens: &[Token]) -> Result<(Text, &[Token]), Stopped>
     ensures read { Gives (λ x. (x.0, kinds x.1.now)) result (name_at (kinds tokens.now)) }
     ensures shorter { IfOk result (λ x. length x.1.now < length tokens.now) }
@@ -54,7 +54,7 @@ pub(crate) fn name(tokens: &[Token]) -> Result<(Text, &[Token]), Stopped>
     }
 }
 
-/// A relation, and the tokens behind it.
+/// A relation, and the tokens after it.
 pub(crate) fn relation(tokens: &[Token]) -> Result<(Relation, &[Token]), Stopped>
     ensures read { Gives (λ x. (x.0, kinds x.1.now)) result (relation_at (kinds tokens.now)) }
     ensures shorter { IfOk result (λ x. length x.1.now < length tokens.now) }
@@ -82,7 +82,7 @@ fn relation_of(kind: &TokenKind) -> Option<Relation>
     }
 }
 
-/// The kind of a variable, and the tokens behind it.
+/// The kind of a variable, and the tokens after it.
 pub(crate) fn variable_kind(tokens: &[Token]) -> Result<(VariableKind, &[Token]), Stopped>
     ensures read { Gives (λ x. (x.0, kinds x.1.now)) result (kind_at (kinds tokens.now)) }
     ensures shorter { IfOk result (λ x. length x.1.now < length tokens.now) }

@@ -115,7 +115,7 @@ fn whole_condition(alloc: Global, tokens: &[Token]) -> Result<Cond, Stopped>
 ///
 /// [`ParseError::Lex`] with the text's first lexical fault; else [`ParseError::Unexpected`] or
 /// [`ParseError::TooDeep`], whichever token comes first, at one token `Unexpected`; and
-/// [`ParseError::Memory`] for want of memory.
+/// [`ParseError::Memory`] when memory runs out.
 pub fn parse_program(alloc: Global, text: &[u8]) -> Result<Program, ParseError>
     requires short { length text.now < 2 ^ 31 }
     ensures parsed { IfOk result (HasTree ProgramText outside text.now) }

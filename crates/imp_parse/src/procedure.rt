@@ -18,7 +18,7 @@ use imp_lex::{Mark, Token, TokenKind, Word};
 use imp_syntax::{Block, Declaration, Proc, Program, Stmt};
 use std::alloc::Global;
 
-/// A name and its kind, and the tokens behind them.
+/// A name and its kind, and the tokens after them.
 #[tactic(auto, unfolding(crate::specs::ProgramReading::declaration_at))]
 fn declaration(tokens: &[Token]) -> Result<(Declaration, &[Token]), Stopped>
     ensures read { Gives (λ x. (x.0, kinds x.1.now)) result (declaration_at (kinds tokens.now)) }
@@ -38,7 +38,7 @@ fn next_declaration(tokens: &[Token]) -> Result<(Declaration, &[Token]), Stopped
     declaration(rest)
 }
 
-/// The first declaration and those behind commas, and the tokens behind them.
+/// The first declaration and those after commas, and the tokens after them.
 fn declarations(
     alloc: Global,
     first: Declaration,
@@ -71,7 +71,7 @@ fn some_parameters(
     Ok((all, rest))
 }
 
-/// The parameters up to `)`, and the tokens behind it.
+/// The parameters up to `)`, and the tokens after it.
 fn parameters(alloc: Global, tokens: &[Token]) -> Result<(Items<Declaration>, &[Token]), Stopped>
     ensures read { Gives (λ x. (x.0, kinds x.1.now)) result (parameters_at (kinds tokens.now)) }
     ensures shorter { IfOk result (λ x. length x.1.now < length tokens.now) }
@@ -82,7 +82,7 @@ fn parameters(alloc: Global, tokens: &[Token]) -> Result<(Items<Declaration>, &[
     }
 }
 
-/// The result behind `->`, if there is one, and the tokens behind it.
+/// The result after `->`, if there is one, and the tokens after it.
 #[tactic(auto, unfolding(crate::specs::ProgramReading::outcome_at))]
 fn outcome(tokens: &[Token]) -> Result<(Option<Declaration>, &[Token]), Stopped>
     ensures read { Gives (λ x. (x.0, kinds x.1.now)) result (outcome_at (kinds tokens.now)) }
@@ -104,7 +104,7 @@ fn begins_local(tokens: &[Token]) -> bool
     matches!(front(tokens), Some((TokenKind::Word(Word::Var), _)))
 }
 
-/// A local variable from `var` on, and the tokens behind it.
+/// A local variable from `var` on, and the tokens after it.
 fn local(tokens: &[Token]) -> Result<(Declaration, &[Token]), Stopped>
     ensures read { Gives (λ x. ((x.0, tt), kinds x.1.now)) result (local_by (fix locals_step) tt (kinds tokens.now)) }
     ensures shorter { IfOk result (λ x. length x.1.now < length tokens.now) }
@@ -119,7 +119,7 @@ fn local(tokens: &[Token]) -> Result<(Declaration, &[Token]), Stopped>
     }
 }
 
-/// Local variables, and the tokens behind them.
+/// Local variables, and the tokens after them.
 fn locals(alloc: Global, tokens: &[Token]) -> Result<(Items<Declaration>, &[Token]), Stopped>
     ensures read { Gives (λ x. ((x.0, tt), kinds x.1.now)) result (locals_at (kinds tokens.now)) }
     ensures shorter { IfOk result (λ x. length x.1.now ≤ length tokens.now) }
@@ -162,7 +162,7 @@ fn assembled(
     )
 }
 
-/// A procedure behind its locals.
+/// A procedure after its locals.
 fn behind_locals(
     alloc: Global,
     number: u32,
@@ -181,7 +181,7 @@ fn behind_locals(
     Ok((procedure, next, rest))
 }
 
-/// A procedure behind its outcome.
+/// A procedure after its outcome.
 fn behind_head(
     alloc: Global,
     number: u32,
@@ -198,7 +198,7 @@ fn behind_head(
     behind_locals(alloc, number, head, locals, rest)
 }
 
-/// A procedure behind its name and the parenthesis there.
+/// A procedure after its name and the parenthesis there.
 fn behind_parenthesis(
     alloc: Global,
     number: u32,
@@ -220,7 +220,7 @@ fn behind_parenthesis(
     behind_head(alloc, number, head, rest)
 }
 
-/// A procedure behind its first word.
+/// A procedure after its first word.
 fn procedure_behind_word(
     alloc: Global,
     number: u32,
@@ -236,7 +236,7 @@ fn procedure_behind_word(
     behind_parenthesis(alloc, number, name, rest)
 }
 
-/// A procedure whose statements are numbered from here, the next number, and the tokens behind it.
+/// A procedure whose statements are numbered from here, the next number, and the tokens after it.
 #[tactic(auto, unfolding(crate::specs::ProgramReading::procedure_at))]
 pub(crate) fn procedure(
     alloc: Global,
@@ -261,7 +261,7 @@ fn begins_procedure(tokens: &[Token]) -> bool
     matches!(front(tokens), Some((TokenKind::Word(Word::Proc), _)))
 }
 
-/// The first procedure and those behind it, the next number, and the tokens behind them.
+/// The first procedure and those after it, the next number, and the tokens after them.
 fn procedures(
     alloc: Global,
     first: Proc,
@@ -284,7 +284,7 @@ fn procedures(
     Ok((found, next, rest))
 }
 
-/// A program, numbered from 1, and the tokens behind it.
+/// A program, numbered from 1, and the tokens after it.
 #[tactic(auto, unfolding(crate::specs::ProgramReading::program_at))]
 pub(crate) fn program(alloc: Global, tokens: &[Token]) -> Result<(Program, &[Token]), Stopped>
     requires room { length tokens.now + 1 < 2 ^ 32 }

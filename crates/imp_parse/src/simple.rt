@@ -48,7 +48,7 @@ fn write_item(
     of_action(alloc, number, Action::WriteItem(link, value), rest)
 }
 
-/// `next` or `item` and what is assigned to it, behind a name and a dot.
+/// `next` or `item` and what is assigned to it, after a name and a dot.
 fn field(
     alloc: Global,
     number: u32,
@@ -65,7 +65,7 @@ fn field(
     }
 }
 
-/// What is assigned to an element of this array, behind its index.
+/// What is assigned to an element of this array, after its index.
 fn write_element(
     alloc: Global,
     number: u32,
@@ -87,7 +87,7 @@ fn write_element(
     )
 }
 
-/// An index and what is assigned to the element, behind a name and a bracket.
+/// An index and what is assigned to the element, after a name and a bracket.
 fn element(
     alloc: Global,
     number: u32,
@@ -102,7 +102,7 @@ fn element(
     write_element(alloc, number, array, index, rest)
 }
 
-/// What is assigned to this variable, behind `=`.
+/// What is assigned to this variable, after `=`.
 fn assignment(
     alloc: Global,
     number: u32,
@@ -117,7 +117,7 @@ fn assignment(
     Ok((stmt, rest))
 }
 
-/// What goes on behind a name that begins a statement.
+/// What goes on after a name that begins a statement.
 #[tactic(auto, unfolding(crate::specs::StatementReading::named_at))]
 fn named(
     alloc: Global,
@@ -136,7 +136,7 @@ fn named(
     }
 }
 
-/// What is asserted, behind the word.
+/// What is asserted, after the word.
 fn assertion(alloc: Global, number: u32, tokens: &[Token]) -> Result<(Stmt, &[Token]), Stopped>
     ensures read { Gives (λ x. (x.0, kinds x.1.now)) result (assertion_at number (kinds tokens.now)) }
     ensures shorter { IfOk result (λ x. length x.1.now < length tokens.now) }
@@ -146,7 +146,7 @@ fn assertion(alloc: Global, number: u32, tokens: &[Token]) -> Result<(Stmt, &[To
     of_action(alloc, number, Action::Assert(claim), rest)
 }
 
-/// A call whose result is not assigned, behind its first word.
+/// A call whose result is not assigned, after its first word.
 fn plain_call(alloc: Global, number: u32, tokens: &[Token]) -> Result<(Stmt, &[Token]), Stopped>
     ensures read { Gives (λ x. (x.0, kinds x.1.now)) result (plain_call_at number (kinds tokens.now)) }
     ensures shorter { IfOk result (λ x. length x.1.now < length tokens.now) }
@@ -161,7 +161,7 @@ fn plain_call(alloc: Global, number: u32, tokens: &[Token]) -> Result<(Stmt, &[T
     made(alloc, number, StmtNode::Call(call), rest)
 }
 
-/// A simple statement of this number, and the tokens behind it.
+/// A simple statement of this number, and the tokens after it.
 #[tactic(auto, unfolding(crate::specs::StatementReading::simple_at))]
 pub(crate) fn simple(
     alloc: Global,

@@ -42,7 +42,7 @@ fn begins(kind: &TokenKind) -> bool
     }
 }
 
-/// A simple statement of this number, the next number, and the tokens behind it.
+/// A simple statement of this number, the next number, and the tokens after it.
 pub(crate) fn numbered(
     alloc: Global,
     number: u32,
@@ -57,7 +57,7 @@ pub(crate) fn numbered(
     Ok((stmt, number + 1, rest))
 }
 
-/// The statement of this number and outermost part, the next number, and the tokens behind it.
+/// The statement of this number and outermost part, the next number, and the tokens after it.
 fn composed(
     alloc: Global,
     number: u32,
@@ -73,7 +73,7 @@ fn composed(
     Ok((stmt, next, rest))
 }
 
-/// The block of these statements, which a brace closes, the next number, and the tokens behind it.
+/// The block of these statements, which a brace closes, the next number, and the tokens after it.
 fn closed_block(
     alloc: Global,
     stmts: Items<Stmt>,
@@ -89,7 +89,7 @@ fn closed_block(
     Ok((block, next, rest))
 }
 
-/// A statement from this number, the next number, and the tokens behind it.
+/// A statement from this number, the next number, and the tokens after it.
 #[cycle(statement)]
 #[tactic(auto, unfolding(crate::specs::StatementReading::statement_by))]
 fn statement(alloc: Global, number: u32, tokens: &[Token]) -> Result<(Stmt, u32, &[Token]), Stopped>
@@ -105,7 +105,7 @@ fn statement(alloc: Global, number: u32, tokens: &[Token]) -> Result<(Stmt, u32,
     }
 }
 
-/// An if, behind its word.
+/// An if, after its word.
 #[cycle(statement)]
 fn if_stmt(alloc: Global, number: u32, tokens: &[Token]) -> Result<(Stmt, u32, &[Token]), Stopped>
     requires room { number + length tokens.now + 1 < 2 ^ 32 }
@@ -122,7 +122,7 @@ fn if_stmt(alloc: Global, number: u32, tokens: &[Token]) -> Result<(Stmt, u32, &
     composed(alloc, number, node, next, rest)
 }
 
-/// A while, behind its word.
+/// A while, after its word.
 #[cycle(statement)]
 fn while_stmt(
     alloc: Global,
@@ -142,7 +142,7 @@ fn while_stmt(
     composed(alloc, number, node, next, rest)
 }
 
-/// A block whose statements are numbered from here, the next number, and the tokens behind it.
+/// A block whose statements are numbered from here, the next number, and the tokens after it.
 #[cycle(statement)]
 fn block(alloc: Global, number: u32, tokens: &[Token]) -> Result<(Block, u32, &[Token]), Stopped>
     requires room { number + length tokens.now < 2 ^ 32 }
@@ -173,7 +173,7 @@ fn else_block(
     }
 }
 
-/// Statements from this number, the next number, and the tokens behind them.
+/// Statements from this number, the next number, and the tokens after them.
 #[cycle(statement)]
 pub(crate) fn statements(
     alloc: Global,

@@ -10,7 +10,7 @@ empty_is Ends false h = let e : IsTrue false = h.1 refl in absurd cc
 empty_is (Starts s ss) true h = let e = h.0 refl in absurd cc
 empty_is (Starts s ss) false h = refl
 
--- what stands in front of a line, what stands on it, and its end
+-- what stands before a line, what stands on it, and its end
 pub line_added : {A E : Type 0} (text begun filled all m r x : List ℕ) (ended : Result A E)
     → begun ≡ text ++ (m ++ r) → filled ≡ begun ++ x → OnOk ended (all ≡ filled ++ codes ";\n")
     → OnOk ended (all ≡ text ++ (m ++ r ++ (x ++ codes ";") ++ codes "\n"))

@@ -14,7 +14,7 @@ kind_text v.List = codes "list"
 abbrev pub declaration_text : Declaration → List ℕ
 declaration_text d = d.name ++ codes ": " ++ kind_text d.kind
 
--- declarations behind the first
+-- declarations after the first
 abbrev pub more_declarations_text : List Declaration → List ℕ
 more_declarations_text [] = []
 more_declarations_text (d ∷ ds) = codes ", " ++ declaration_text d ++ more_declarations_text ds

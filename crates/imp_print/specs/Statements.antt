@@ -22,7 +22,7 @@ action_text (plain.WriteElement a e f) = a ++ codes "[" ++ expression_text e ++ 
 action_text (plain.WriteNext p q) = p ++ codes ".next = " ++ q
 action_text (plain.WriteItem p e) = p ++ codes ".item = " ++ expression_text e
 
--- sides behind the first
+-- sides after the first
 abbrev pub more_sides_text : List Operand → List ℕ
 more_sides_text [] = []
 more_sides_text (e ∷ es) = codes ", " ++ side_text e ++ more_sides_text es
@@ -44,7 +44,7 @@ call_text x f es = target_text x ++ codes "call " ++ f ++ codes "(" ++ sides_tex
 abbrev pub spaces : ℕ → List ℕ
 spaces n = replicate n 32
 
--- in front of each line of a listing: the number of the statement that begins there, right in seven places, and a space
+-- before each line of a listing: the number of the statement that begins there, right in seven places, and a space
 abbrev pub margin : Bool → Option ℕ → List ℕ
 margin false n = []
 margin true None = codes "        "

@@ -38,7 +38,7 @@ pub(crate) fn put_declarations(text: &mut Text, declarations: &[Declaration]) ->
     }
 }
 
-/// Adds each declaration with a comma in front.
+/// Adds each declaration with a comma before.
 fn put_more_declarations(text: &mut Text, declarations: &[Declaration]) -> Result<(), Memory>
     ensures added { OnOk result (text.new ≡ text.old ++ more_declarations_text declarations.now) }
 {

@@ -3,7 +3,7 @@
 //! [`program_text`] and [`stmt_text`] write two spaces per nesting, one statement or declaration per
 //! line, and parentheses only where the tree needs them: around an operand that binds less than its
 //! operator, on the right also one that binds as much; those of `!` always. An empty else is not
-//! written. [`numbered_text`] puts seven columns and a space in front of each line: the number of the
+//! written. [`numbered_text`] puts seven columns and a space before each line: the number of the
 //! statement that begins there, right in seven places, or blanks.
 //!
 //! The definitions are `specs/Expressions.antt`, `specs/Statements.antt` and `specs/Programs.antt`.

@@ -9,7 +9,7 @@ use base_values::{Memory, Text};
 use imp_syntax::{Action, Call, Expr, Side};
 use itoa::Buffer;
 
-/// Adds a name and what stands behind it.
+/// Adds a name and what stands after it.
 fn put_name(text: &mut Text, name: &Text, more: &[u8]) -> Result<(), Memory>
     ensures added { OnOk result (text.new ≡ text.old ++ (name.now ++ more.now)) }
 {
@@ -88,7 +88,7 @@ fn put_sides(text: &mut Text, sides: &[Side]) -> Result<(), Memory>
     }
 }
 
-/// Adds each side with a comma in front.
+/// Adds each side with a comma before.
 fn put_more_sides(text: &mut Text, sides: &[Side]) -> Result<(), Memory>
     ensures added { OnOk result (text.new ≡ text.old ++ more_sides_text (operands_of sides.now)) }
 {
@@ -131,7 +131,7 @@ pub(crate) fn put_spaces(text: &mut Text, count: usize) -> Result<(), Memory>
     Ok(())
 }
 
-/// Adds what stands in front of a line.
+/// Adds what stands before a line.
 pub(crate) fn put_margin(text: &mut Text, listing: bool, number: Option<u32>) -> Result<(), Memory>
     ensures added { OnOk result (text.new ≡ text.old ++ margin listing number) }
 {

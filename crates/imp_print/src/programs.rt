@@ -86,19 +86,19 @@ fn text_of(alloc: Global, listing: bool, program: &Program) -> Result<Text, Memo
 ///
 /// # Errors
 ///
-/// Want of memory alone.
+/// Out of memory alone.
 pub fn program_text(alloc: Global, program: &Program) -> Result<Text, Memory>
     ensures text { IfOk result (λ text. text ≡ of_programs.program_text false program.now) }
 {
     text_of(alloc, false, program)
 }
 
-/// The listing of a program: its text, each line behind the number of the statement that begins
+/// The listing of a program: its text, each line after the number of the statement that begins
 /// there, right in seven places, or blanks, and a space.
 ///
 /// # Errors
 ///
-/// Want of memory alone.
+/// Out of memory alone.
 pub fn numbered_text(alloc: Global, program: &Program) -> Result<Text, Memory>
     ensures text { IfOk result (λ text. text ≡ of_programs.program_text true program.now) }
 {
@@ -109,7 +109,7 @@ pub fn numbered_text(alloc: Global, program: &Program) -> Result<Text, Memory>
 ///
 /// # Errors
 ///
-/// Want of memory alone.
+/// Out of memory alone.
 pub fn stmt_text(alloc: Global, stmt: &Stmt, indent: u32) -> Result<Text, Memory>
     requires within { indent ≤ 66 }
     ensures text { IfOk result (λ text. text ≡ statement_text false (spaces indent) stmt.now) }

@@ -10,7 +10,7 @@ use crate::lines::{put_action, put_call, put_margin};
 use base_values::{Memory, Text};
 use imp_syntax::{Action, Block, Call, Cond, Stmt, StmtNode};
 
-/// Adds what stands in front of a line, and how far it stands to the right.
+/// Adds what stands before a line, and how far it stands to the right.
 pub(crate) fn begin_line(
     text: &mut Text,
     listing: bool,

@@ -131,7 +131,7 @@ regroup depth used x y z h = subst (Safe depth used) (sym (append_assoc x y z)) 
 
 -- ---- expressions and conditions
 
--- whatever operators are used, what stands behind is safe
+-- whatever operators are used, what stands after is safe
 abbrev Always : ℕ → List TokenKind → Type 0
 Always depth ts = (used : ℕ) → Safe depth used ts
 
@@ -221,7 +221,7 @@ call_on (Some x) f es depth more h on = set_on x depth _ (invoke_on f es depth m
 braced_on : (depth used : ℕ) (ts more : List TokenKind) → depth ≤ most → Safe (depth + 1) 0 (ts ++ k.Mark m.CloseBrace ∷ more) → Safe depth used (braced ts ++ more)
 braced_on depth used ts more le h = opening_on depth used _ le (regroup (depth + 1) 0 ts (k.Mark m.CloseBrace ∷ []) more h)
 
--- a condition in its parentheses, behind its word
+-- a condition in its parentheses, after its word
 test_on : (x : Word) (c : Condition) (depth : ℕ) (rest more : List TokenKind) → heads x ≡ true → IsConditionOfText c → Always depth (rest ++ more) → Safe depth 0 ((k.Word x ∷ k.Mark m.OpenParenthesis ∷ (condition_tokens c ++ (k.Mark m.CloseParenthesis ∷ rest))) ++ more)
 test_on x c depth rest more e h on =
     head_on x depth 0 _ e (regroup depth 0 (condition_tokens c) (k.Mark m.CloseParenthesis ∷ rest) more

@@ -177,7 +177,7 @@ record Holds (ts : List TokenKind) (least : ℕ) (opening : Bool) : Type 0 where
   pub enough : least ≤ number
   pub begins : begins_group ts ≡ false → opening ≡ false
 
--- so do tokens behind others
+-- so do tokens after others
 record HoldsBehind (ts : List TokenKind) (before least : ℕ) (begun opening : Bool) : Type 0 where
   pub number : ℕ
   pub weighs : Weighs ts number

@@ -19,7 +19,7 @@ pub lexes_nothing : Lexes [] []
 unfolding front_of
 lexes_nothing at = ([], done refl, refl)
 
--- a blank in front, or a token of n bytes
+-- a blank before, or a token of n bytes
 pub passes : (text rest : List ℕ) (ks : List TokenKind) → ((at : ℕ) (tokens : List Token) → IsLexed (at + 1) rest tokens → IsLexed at text tokens) → Lexes rest ks → Lexes text ks
 passes text rest ks on h at = let r = h (at + 1) in (r.0, on at r.0 r.1, r.2)
 
@@ -28,7 +28,7 @@ takes n kind text rest ks on h at = let r = h (at + n) in (token_at at n kind �
 
 -- ---- pieces
 
--- the text has these tokens, before whatever stands behind it
+-- the text has these tokens, before whatever stands after it
 pub record Closed (text : List ℕ) (ks : List TokenKind) : Type 0 where
   pub on : (rest : List ℕ) (more : List TokenKind) → Lexes rest more → Lexes (text ++ rest) (ks ++ more)
 
@@ -41,7 +41,7 @@ is_apart (b ∷ bs) = not (is_word b)
 pub record Open (text : List ℕ) (ks : List TokenKind) : Type 0 where
   pub on : (rest : List ℕ) (more : List TokenKind) → is_apart rest ≡ true → Lexes rest more → Lexes (text ++ rest) (ks ++ more)
 
--- the text begins with no byte of a word; or it does where what stands behind it does
+-- the text begins with no byte of a word; or it does where what stands after it does
 abbrev pub Apart : List ℕ → Type 0
 Apart text = (rest : List ℕ) → is_apart (text ++ rest) ≡ true
 
@@ -96,7 +96,7 @@ Single b mark = (rest : List ℕ) → front_of (b ∷ rest) ≡ longest None (So
 pub single : (b : ℕ) (mark : Mark) → Single b mark → Closed (b ∷ []) (k.Mark mark ∷ [])
 single b mark is = record { on = λ rest more h. takes 1 (k.Mark mark) (b ∷ rest) rest more (λ at tokens l. word {n = 1} {kind = k.Mark mark} (is rest) l) h }
 
--- a mark with a space behind it
+-- a mark with a space after it
 abbrev pub Spaced : ℕ → Mark → Type 0
 Spaced b mark = (rest : List ℕ) → front_of (b ∷ 32 ∷ rest) ≡ longest None (Some mark)
 

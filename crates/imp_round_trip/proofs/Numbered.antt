@@ -8,7 +8,7 @@ use Rattle.imp_parse.specs.Programs as q
 use Rattle.imp_parse.specs.Programs.{IsProcedure, IsProcedures, IsProgram}
 use Rattle.imp_round_trip.specs.Renumbered.{count_in, count, statement_from, block_from, procedures_from, renumbered}
 
--- numbered from n already, and the next number stands behind
+-- numbered from n already, and the next number stands after
 record IsNumbered (n j : ℕ) (s : Statement) : Type 0 where
   pub same : statement_from n s ≡ s
   pub next : j ≡ n + count_in s

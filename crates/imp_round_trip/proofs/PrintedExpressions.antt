@@ -52,7 +52,7 @@ relation_apart r.AtMost rest = refl
 relation_apart r.Greater rest = refl
 relation_apart r.AtLeast rest = refl
 
--- ---- what stands behind a sign
+-- ---- what stands after a sign
 
 digit_not_greater : (b : ℕ) → is_digit b ≡ true → nat_eq b 62 ≡ false
 digit_not_greater b e = grind (arith, nat_tests)

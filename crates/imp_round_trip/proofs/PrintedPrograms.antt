@@ -90,15 +90,15 @@ lines x y z ks h = subst (λ (q : List ℕ). Closed q ks) (sym (append_assoc x y
 further : (right : List ℕ) → Closed right [] → Closed (deeper right) []
 further right blank = closed_closed blank (closed_closed space space)
 
--- a condition behind its word, up to the brace
+-- a condition after its word, up to the brace
 head_closed : (text : List ℕ) (word : TokenKind) (c : plain.Condition) → Closed text (word ∷ k.Mark m.OpenParenthesis ∷ []) → IsConditionOfText c → Closed (text ++ (condition_text c ++ codes ") {")) (word ∷ k.Mark m.OpenParenthesis ∷ (condition_tokens c ++ k.Mark m.CloseParenthesis ∷ k.Mark m.OpenBrace ∷ []))
 head_closed text word c h g = closed_closed h (open_closed (condition_open c g.words) (λ rest. refl) (closed_closed close_parenthesis (closed_closed space open_brace)))
 
--- the tokens of a head and of what stands behind it
+-- the tokens of a head and of what stands after it
 head_and : (word : TokenKind) (c more : List TokenKind) → (word ∷ k.Mark m.OpenParenthesis ∷ (c ++ k.Mark m.CloseParenthesis ∷ k.Mark m.OpenBrace ∷ [])) ++ more ≡ word ∷ k.Mark m.OpenParenthesis ∷ (c ++ (k.Mark m.CloseParenthesis ∷ k.Mark m.OpenBrace ∷ more))
 head_and word c more = ap (λ (q : List TokenKind). word ∷ k.Mark m.OpenParenthesis ∷ q) (append_assoc c (k.Mark m.CloseParenthesis ∷ k.Mark m.OpenBrace ∷ []) more)
 
--- what stands behind the head of an if
+-- what stands after the head of an if
 if_tail : Bool → List TokenKind → List TokenKind → List TokenKind
 if_tail true t e = t ++ k.Mark m.CloseBrace ∷ []
 if_tail false t e = t ++ (k.Mark m.CloseBrace ∷ k.Word w.Else ∷ k.Mark m.OpenBrace ∷ (e ++ k.Mark m.CloseBrace ∷ []))

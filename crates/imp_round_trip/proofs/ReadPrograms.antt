@@ -68,7 +68,7 @@ end_back depth used more h = apart_back (k.Mark m.Semicolon) depth used more sem
 
 -- ---- expressions and conditions
 
--- what stands behind is safe, with some operators used
+-- what stands after is safe, with some operators used
 record Behind (depth : ℕ) (more : List TokenKind) : Type 0 where
   pub used : ℕ
   pub safe : Safe depth used more
@@ -167,7 +167,7 @@ simple_back n ts s depth level more (g.write_item {p = p} {w = u} {e = a} h) goo
     let all = expression_back u a depth (k.Mark m.Semicolon ∷ more) h (good_front u semi good.1.1.1.1) (ungroup depth 0 u semi more inner) in
     ((good.0, all.0), done_back depth more all.1)
 
--- a condition behind its word, up to the block
+-- a condition after its word, up to the block
 test_back : (x : Word) (u rest : List TokenKind) (c : Condition) (depth : ℕ) (more : List TokenKind) → heads x ≡ true → IsCondition u c → AreGood (k.Word x ∷ k.Mark m.OpenParenthesis ∷ (u ++ (k.Mark m.CloseParenthesis ∷ rest)))
     → Safe depth 0 ((k.Word x ∷ k.Mark m.OpenParenthesis ∷ (u ++ (k.Mark m.CloseParenthesis ∷ rest))) ++ more) → IsConditionOfText c × AreGood rest × Behind depth (rest ++ more)
 test_back x u rest c depth more is h good safe =

@@ -15,7 +15,7 @@ use Rattle.imp_parse.specs.Grammar.{IsExpression, sum, IsSum, sum_ends, sum_more
 use Rattle.imp_print.specs.Expressions.{operator_rank, expression_rank}
 use Rattle.imp_round_trip.proofs.Tokens.{operator_mark, relation_mark, grouped, expression_tokens, operand_tokens, side_tokens, condition_tokens, part_tokens}
 
--- ---- one more operand behind
+-- ---- one more operand after
 
 sum_behind : (a b e : Expression) (w v : List TokenKind) (t : TokenKind) (op : Operator) → IsSum a w e → additive t ≡ Some op → IsTerm v b → IsSum a (w ++ t ∷ v) (Binary op e b)
 sum_behind a b e w v t op sum_ends is h = subst (λ (q : List TokenKind). IsSum a (t ∷ q) (Binary op a b)) (append-nil v) (sum_more is h sum_ends)

@@ -15,7 +15,7 @@ abbrev mutual
   count Ends = 0
   count (Starts s ss) = count_in s + count ss
 
--- numbered from n on: a statement before those inside it, and these before those behind it
+-- numbered from n on: a statement before those inside it, and these before those after it
 abbrev mutual
   pub statement_from : ℕ → Statement → Statement
   statement_from n (Simple m a) = Simple n a

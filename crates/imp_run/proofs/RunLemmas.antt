@@ -16,7 +16,7 @@ use Rattle.std.proofs.lemmas.Option.{same_Some}
 pub count-zero : (n : ℕ) → n ≡ n + 0
 count-zero n = omega arith
 
--- what is counted in front is counted with what was counted before
+-- what is counted before is counted with what was counted before
 pub after-counted : (n : ℕ) (b : Bool) (r : Run) → after_more n (counted b r) ≡ after_more (n + bit b) r
 after-counted n true r = ap (λ m. let q : Run = record { end = r.end; reached = m } in q) (omega arith)
 after-counted n false r = ap (λ m. let q : Run = record { end = r.end; reached = m } in q) (omega arith)

@@ -12,7 +12,7 @@ abbrev pub attempt_of : {A : Type 0} → Result A FaultKind → Attempt A
 attempt_of (Ok a) = Gives a
 attempt_of (Err k) = Faults k
 
--- What an action in code comes to: the heap and variables after it, a fault, an input that is wanted, or want of memory,
+-- What an action in code comes to: the heap and variables after it, a fault, an input that is wanted, or out of memory,
 -- of which nothing is said.
 abbrev pub Stops : {A : Type 0} → Halt → Attempt A → Type 0
 Stops (h.Fault k) x = x ≡ Faults k

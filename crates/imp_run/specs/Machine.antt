@@ -17,7 +17,7 @@ work_of p items = work_on (Ret p) items
 abbrev pub frame_of : Activation → Frame
 frame_of a = In a.place a.slots (work_of a.place a.work.items)
 
--- frames one upon another, the last one in front
+-- frames one upon another, the last one before
 abbrev pub frames_on : List Frame → List Activation → List Frame
 frames_on below [] = below
 frames_on below (a ∷ more) = frames_on (frame_of a ∷ below) more

@@ -35,7 +35,7 @@ stands_at program (Some l) c = same_location (standing program c.frames) l
 abbrev pub run_of : RunResult → Run
 run_of o = record { end = o.end; reached = o.reached }
 
--- the run, with so many configurations more in front
+-- the run, with so many configurations more before
 abbrev pub after_more : ℕ → Run → Run
 after_more n r = record r { reached = n + r.reached }
 

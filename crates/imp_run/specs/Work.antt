@@ -23,7 +23,7 @@ abbrev pub work_on : Work → List Item → Work
 work_on w [] = w
 work_on w (item ∷ items) = work_on (put item w) items
 
--- what is behind the innermost loop, whose number this is, over any return at the bottom; none where there is no loop
+-- what is after the innermost loop, whose number this is, over any return at the bottom; none where there is no loop
 abbrev pub Leaves : Option ℕ → (before after : List Item) → Type 0
 Leaves None before after = (p : ℕ) → leave_loop (work_on (Ret p) before) ≡ None
 Leaves (Some n) before after = (p : ℕ) → leave_loop (work_on (Ret p) before) ≡ Some (plain.Done n None (work_on (Ret p) after))

@@ -22,7 +22,7 @@ pub(crate) fn first_slots(alloc: Global, layout: &Layout) -> Result<Slots, Memor
     Ok(slots)
 }
 
-/// Adds the value of an argument behind the others.
+/// Adds the value of an argument after the others.
 fn add_argument(slots: &mut Slots, caller: &Slots, argument: &Argument) -> Result<(), Halt>
     ensures is { Passes result caller.now (argument_of argument.now) slots.old slots.new }
 {

@@ -48,7 +48,7 @@ impl Slots {
         }
     }
 
-    /// Adds a numeric slot behind the others.
+    /// Adds a numeric slot after the others.
     pub(crate) fn add_number(&mut self, held: SlotValue) -> Result<(), Memory>
         ensures numbers { OnOk result (self.new.numbers ≡ self.old.numbers ++ number_of held ∷ []) }
         ensures links { self.new.links ≡ self.old.links }
@@ -57,7 +57,7 @@ impl Slots {
         Ok(())
     }
 
-    /// Adds a link slot behind the others.
+    /// Adds a link slot after the others.
     pub(crate) fn add_link(&mut self, link: Option<usize>) -> Result<(), Memory>
         ensures numbers { self.new.numbers ≡ self.old.numbers }
         ensures links { OnOk result (self.new.links ≡ self.old.links ++ link ∷ []) }

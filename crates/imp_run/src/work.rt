@@ -11,7 +11,7 @@ use imp_slots::{SlotBlock, SlotCall, SlotCond, SlotNode};
 /// An item of work. Under the last one of a frame stands the return from its procedure.
 #[derive(Clone, Copy)]
 pub(crate) enum Item<'a> {
-    /// Statements to be done: the first, and those behind it.
+    /// Statements to be done: the first, and those after it.
     Do(&'a SlotNode, &'a [SlotNode]),
     /// A statement that has just been done, and its call where it is one.
     Done(u32, Option<&'a SlotCall>),

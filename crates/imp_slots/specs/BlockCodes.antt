@@ -8,7 +8,7 @@ use Rattle.imp_slots.specs.Codes.{guard_to, guard_from, guard_from_to}
 use Rattle.imp_slots.specs.PartCodes.{effect_to, effect_from, effect_from_to, layout_to, layout_from, layout_from_to, invoke_to, invoke_from, invoke_from_to}
 use Rattle.imp_slots.specs.Plain.{Code, Stop, Simple, If, While, Call, Break, Routine}
 
--- the first statement, then what comes behind it
+-- the first statement, then what comes after it
 abbrev pub code_to : Code → Gv
 code_to Stop = gnil
 code_to (Simple n e r) = gcons (gcons (gnum 0) (gcons (gnum n) (effect_to e))) (code_to r)

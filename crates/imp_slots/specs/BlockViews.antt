@@ -7,7 +7,7 @@ use Rattle.imp_slots.specs.ActionViews.{effect_of}
 use Rattle.imp_slots.specs.declared.blocks.SlotNode.{SlotNode}
 use Rattle.imp_slots.specs.declared.blocks.SlotNode.TheVariants.{Simple, If, While, Call, Break}
 
--- a statement, with what comes behind it
+-- a statement, with what comes after it
 abbrev pub before_code : SlotNode → Code → Code
 before_code (Simple n a) r = plain.Simple n (effect_of a) r
 before_code (If n c t e) r = plain.If n c t e r

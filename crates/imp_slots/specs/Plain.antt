@@ -77,7 +77,7 @@ pub record Invoke : Type 0 where
   pub entering : Entering
   pub returning : Option Returning
 
--- A block: its first statement with its number, and what comes behind it.
+-- A block: its first statement with its number, and what comes after it.
 pub data Code : Type 0 where
   Stop : Code
   Simple : (n : ℕ) → Effect → Code → Code

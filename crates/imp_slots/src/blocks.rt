@@ -54,7 +54,7 @@ impl Model for SlotBlock {
 }
 
 impl SlotBlock {
-    /// The block of these statements. It fails for want of memory alone.
+    /// The block of these statements. It fails only when memory runs out.
     pub fn new(alloc: Global, statements: Vec<SlotNode>) -> Result<SlotBlock, Memory>
         ensures same { IfOk result (λ block. block ≡ code_of statements.items) }
     {
@@ -134,7 +134,7 @@ impl Model for Routine {
 }
 
 impl Routine {
-    /// The procedure of these parts. It fails for want of memory alone.
+    /// The procedure of these parts. It fails only when memory runs out.
     pub fn new(
         alloc: Global,
         name: Text,

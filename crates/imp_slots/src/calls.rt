@@ -59,7 +59,7 @@ impl Model for Entering {
 }
 
 impl Entering {
-    /// Entering a procedure of this layout with these arguments. It fails for want of memory alone.
+    /// Entering a procedure of this layout with these arguments. It fails only when memory runs out.
     pub fn new(
         alloc: Global,
         layout: Layout,

@@ -54,7 +54,7 @@ impl Model for SlotCond {
 }
 
 impl SlotCond {
-    /// The condition of this outermost part. It fails for want of memory alone.
+    /// The condition of this outermost part. It fails only when memory runs out.
     pub fn new(alloc: Global, node: SlotCondNode) -> Result<SlotCond, Memory>
         ensures same { IfOk result (λ c. c ≡ guard_of node) }
     {

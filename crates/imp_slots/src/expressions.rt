@@ -53,7 +53,7 @@ impl Model for SlotExpr {
 }
 
 impl SlotExpr {
-    /// The expression of this outermost part. It fails for want of memory alone.
+    /// The expression of this outermost part. It fails only when memory runs out.
     pub fn new(alloc: Global, node: SlotExprNode) -> Result<SlotExpr, Memory>
         ensures same { IfOk result (λ e. e ≡ term_of node) }
     {

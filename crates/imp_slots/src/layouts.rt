@@ -84,7 +84,7 @@ impl Model for Layout {
 }
 
 impl Layout {
-    /// The layout of these slots. It fails for want of memory alone.
+    /// The layout of these slots. It fails only when memory runs out.
     pub fn new(
         alloc: Global,
         numbers: Items<NumericSlot>,

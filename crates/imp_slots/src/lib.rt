@@ -10,7 +10,7 @@
 //! `specs/Sizes.antt` has their sizes, by which recursion through these readers ends, and
 //! `specs/BlockFalls.antt` that a statement is no larger than its block.
 //!
-//! Copies share: each takes constant time, but for [`NumericSlot`], whose name is copied. Equality of
+//! Copies share: each takes constant time, except [`NumericSlot`], whose name is copied. Equality of
 //! expressions, conditions, simple statements, layouts and calls decides identity, and takes time linear
 //! in the smaller of the two; hashes respect it, and take time linear in what is hashed. Readers take
 //! constant time.

@@ -49,7 +49,7 @@ impl Model for Cond {
 }
 
 impl Cond {
-    /// The condition with this outermost part. It fails for want of memory alone.
+    /// The condition with this outermost part. It fails only when memory runs out.
     pub fn new(alloc: Global, node: CondNode) -> Result<Cond, Memory>
         ensures is { IfOk result (λ c. c ≡ condition_of node) }
     {

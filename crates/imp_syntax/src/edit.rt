@@ -51,15 +51,15 @@ impl Chain {
 /// A place for new statements.
 #[derive(Debug, Drop)]
 pub enum Place {
-    /// Behind a statement, in its block.
+    /// After a statement, in its block.
     After(StmtId),
-    /// In front of the first block of an if.
+    /// Before the first block of an if.
     ThenStart(StmtId),
-    /// In front of the second block of an if.
+    /// Before the second block of an if.
     ElseStart(StmtId),
-    /// In front of the body of a while.
+    /// Before the body of a while.
     BodyStart(StmtId),
-    /// In front of the body of a procedure.
+    /// Before the body of a procedure.
     ProcStart(Text),
 }
 
@@ -78,7 +78,7 @@ pub enum Edit {
     Declare(Text, Declaration),
     /// A procedure is put before the named one.
     AddProc {
-        /// The procedure that then stands behind the new one.
+        /// The procedure that then stands after the new one.
         before: Text,
         /// The new one.
         proc: Proc,

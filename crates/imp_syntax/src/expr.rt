@@ -60,7 +60,7 @@ impl Model for Expr {
 }
 
 impl Expr {
-    /// The expression with this outermost part. It fails for want of memory alone.
+    /// The expression with this outermost part. It fails only when memory runs out.
     pub fn new(alloc: Global, node: ExprNode) -> Result<Expr, Memory>
         ensures is { IfOk result (λ e. e ≡ expression_of node) }
     {

@@ -10,7 +10,7 @@
 //! Trees are shared by reference counts. A copy takes constant time and is equal to its source; a change
 //! (`with_inserted`, `with_condition`, `with_body` and the like, by the definitions of
 //! `specs/Changes.antt`) copies a list of pointers at most and shares all else.
-//! Of all calls only those that answer a `Result` allocate, and they fail for want of memory alone.
+//! Of all calls only those that answer a `Result` allocate, and they fail only when memory runs out.
 //!
 //! # Recursion over trees
 //!

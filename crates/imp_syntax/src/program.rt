@@ -38,7 +38,7 @@ impl Model for Proc {
 }
 
 impl Proc {
-    /// The procedure of these parts. It fails for want of memory alone.
+    /// The procedure of these parts. It fails only when memory runs out.
     pub fn new(
         alloc: Global,
         name: Text,
@@ -94,7 +94,7 @@ impl Proc {
         &self.body
     }
 
-    /// The procedure with another body. It shares all else, and fails for want of memory alone.
+    /// The procedure with another body. It shares all else, and fails only when memory runs out.
     pub fn with_body(&self, body: Block) -> Result<Proc, Memory>
         ensures is { IfOk result (λ p. p ≡ record self.now { body = body }) }
     {
@@ -102,7 +102,7 @@ impl Proc {
         Ok(Proc { head, body })
     }
 
-    /// The procedure with a further local variable, the last one. It fails for want of memory alone.
+    /// The procedure with a further local variable, the last one. It fails only when memory runs out.
     pub fn with_local(&self, alloc: Global, local: Declaration) -> Result<Proc, Memory>
         ensures is { IfOk result (λ p. p ≡ record self.now { locals = self.now.locals ++ local ∷ [] }) }
     {
@@ -159,7 +159,7 @@ impl Model for Program {
 }
 
 impl Program {
-    /// The program of these procedures, in the order of the text. It fails for want of memory alone.
+    /// The program of these procedures, in the order of the text. It fails only when memory runs out.
     pub fn new(alloc: Global, procs: Items<Proc>) -> Result<Program, Memory>
         ensures is { IfOk result (λ p. p ≡ procs) }
     {

@@ -82,7 +82,7 @@ impl Model for Block {
 }
 
 impl Stmt {
-    /// The statement with this number and outermost part. It fails for want of memory alone.
+    /// The statement with this number and outermost part. It fails only when memory runs out.
     pub fn new(alloc: Global, id: StmtId, node: StmtNode) -> Result<Stmt, Memory>
         ensures is { IfOk result (λ s. s ≡ statement_of id node) }
     {
@@ -104,7 +104,7 @@ impl Stmt {
         &self.node
     }
 
-    /// The statement under another number. It shares all else, and fails for want of memory alone.
+    /// The statement under another number. It shares all else, and fails only when memory runs out.
     pub fn with_number(&self, id: StmtId) -> Result<Stmt, Memory>
         ensures is { IfOk result (λ s. s ≡ with_number self.now id) }
     {
@@ -113,7 +113,7 @@ impl Stmt {
     }
 
     /// The if or while with another condition; any other statement stays as it is. It shares all else, and fails for
-    /// want of memory alone.
+    /// out of memory alone.
     pub fn with_condition(&self, alloc: Global, cond: Cond) -> Result<Stmt, Memory>
         ensures is { IfOk result (λ s. s ≡ with_condition self.now cond) }
     {
@@ -185,7 +185,7 @@ impl Block {
         Block { stmts: None }
     }
 
-    /// The block of these statements. It fails for want of memory alone.
+    /// The block of these statements. It fails only when memory runs out.
     pub fn new(alloc: Global, stmts: Items<Stmt>) -> Result<Block, Memory>
         ensures is { IfOk result (λ b. b ≡ block_of stmts) }
     {

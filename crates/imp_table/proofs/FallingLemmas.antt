@@ -13,7 +13,7 @@ use Rattle.imp_table.proofs.OverlayLemmas.{put_numbers, overlay_other}
 pub falling_tail : (p : Put) (ps : List Put) → AreFalling (p ∷ ps) → AreFalling ps
 falling_tail p ps f i j d h l = f (suc i) (suc j) d (omega arith) (omega arith)
 
--- the numbers behind the first are less
+-- the numbers after the first are less
 less_behind : (p : Put) (ps : List Put) → AreFalling (p ∷ ps) → (j : ℕ) (d : Put) → j < length ps → (slice_index_or ps j d).number < p.number
 less_behind p ps f j d l = f 0 (suc j) d (omega arith) (omega arith)
 

@@ -48,7 +48,7 @@ impl Model for Checked {
 ///
 /// # Errors
 ///
-/// [`CheckError::Fault`] with the first fault, and [`CheckError::Memory`] for want of memory. On an
+/// [`CheckError::Fault`] with the first fault, and [`CheckError::Memory`] when memory runs out. On an
 /// error the program is dropped.
 pub fn check(alloc: Global, program: Program) -> Result<Checked, CheckError>
     requires numbered { AreNumbered program }

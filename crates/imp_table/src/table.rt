@@ -135,7 +135,7 @@ impl Table {
         self.view().proc_named(name)
     }
 
-    /// The program as a tree, made anew. It takes time linear in the program, and fails for want of memory alone.
+    /// The program as a tree, made anew. It takes time linear in the program, and fails only when memory runs out.
     #[tactic(auto, using(imp_check::proofs::FewLemmas::few_statements))]
     pub fn tree(&self, alloc: Global) -> Result<Program, Memory>
         ensures is { IfOk result (λ program. program ≡ self.now.program) }
@@ -147,7 +147,7 @@ impl Table {
 
     /// The procedures over slots, made anew, in the order of the text. Slots are of the layouts with their kinds, callees
     /// stand earlier and take their arguments, numbers stand once, and each break has a loop around it. It takes time
-    /// linear in the program, and fails for want of memory alone.
+    /// linear in the program, and fails only when memory runs out.
     #[tactic(auto, using(imp_check::proofs::FewLemmas::few_checked))]
     pub fn routines(&self, alloc: Global) -> Result<Items<Routine>, Memory>
         ensures is { IfOk result (λ routines. routines ≡ routines_of self.now.program) }
@@ -158,7 +158,7 @@ impl Table {
         routines_of(alloc, program.procs())
     }
 
-    /// Makes places below a number. For want of memory the table keeps those that it has.
+    /// Makes places below a number. When memory runs out the table keeps those that it has.
     pub fn make_room(&mut self, below: u32) -> Result<(), Memory>
         ensures room { OnOk result (below ≤ self.new.room) }
         ensures kept { self.new.program ≡ self.old.program }
@@ -185,7 +185,7 @@ impl Table {
     }
 
     /// The change that makes this program of another table's. It has the numbers below this one at which either program
-    /// has a statement. It takes time linear in that number, and fails for want of memory alone.
+    /// has a statement. It takes time linear in that number, and fails only when memory runs out.
     pub fn into_change(self, alloc: Global, from: &Table, below: u32) -> Result<Change, Memory>
         requires old { All (λ (n : ℕ). n < below) (program_numbers from.now.program) }
         requires new { All (λ (n : ℕ). n < below) (program_numbers self.program) }

@@ -156,7 +156,7 @@ impl<'a> View<'a> {
     }
 
     /// The statements of a procedure, in the order of the text; none for a procedure that is not there. It takes time
-    /// linear in the procedure, and fails for want of memory alone.
+    /// linear in the procedure, and fails only when memory runs out.
     #[tactic(auto, using(imp_check::proofs::FewLemmas::few_statements, imp_check::proofs::WalkLemmas::walk_at, imp_check::proofs::WalkLemmas::walk_past))]
     pub fn statements(&self, alloc: Global, proc: ProcId) -> Result<Items<StmtId>, Memory>
         ensures are { IfOk result (λ stmts. stmts ≡ numbers_at self.now proc) }

@@ -272,7 +272,7 @@ impl Sink for MemSink {
         self.plan.faults()
     }
 
-    /// Want of memory is a fault like another.
+    /// Out of memory is a fault like another.
     fn write(&mut self, piece: &[u8]) -> Result<usize, Failed>
         ensures within { IfOk result (λ n. n ≤ length piece.now) }
         ensures never_falls { self.old.plan.faults ≤ self.new.plan.faults }

@@ -75,7 +75,7 @@ impl<S> Memo<S> {
     }
 
     /// Keeps the number of a state for a key, as the most recent entry. Where the memory is full and the key is new, the
-    /// least recent entry goes. Want of memory changes nothing, and never comes for a key that is there.
+    /// least recent entry goes. Out of memory changes nothing, and never comes for a key that is there.
     #[inline]
     pub fn keep(&mut self, key: Key, value: usize) -> Result<(), Memory>
         ensures kept { OnOk result (self.new ≡ lru_cache (put_entries ⟦<Key as PartialEq>⟧.eq self.old key value) self.old.cap) }

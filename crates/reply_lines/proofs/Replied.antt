@@ -35,7 +35,7 @@ one_line bytes line =
     } in
     subst (AreLines 1) (sym line.is) rest
 
--- lines behind lines
+-- lines after lines
 more_lines : (first others : List ℕ) (n : ℕ) → AreLines 1 first → AreLines n others → AreLines (suc n) (first ++ others)
 more_lines first others n one many =
     let split : whole_lines [] (first ++ others) ≡ whole_lines [] first ++ whole_lines [] others =
@@ -66,7 +66,7 @@ module _ {S : Type 0} (dom : Operations S) where
 
 -- ---- lines tell their bytes
 
--- the lines, each with LF behind it
+-- the lines, each with LF after it
 abbrev joined : List (List ℕ) → List ℕ
 joined [] = []
 joined (line ∷ lines) = (line ++ 10 ∷ []) ++ joined lines

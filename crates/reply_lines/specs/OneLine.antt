@@ -8,7 +8,7 @@ abbrev pub has_no_end : List ℕ → Bool
 has_no_end [] = true
 has_no_end (byte ∷ bytes) = not (byte == 10) && has_no_end bytes
 
--- bytes of which none is LF, and LF behind them
+-- bytes of which none is LF, and LF after them
 pub record IsOneLine (bytes : List ℕ) : Type 0 where
   pub text : List ℕ
   pub is : bytes ≡ text ++ 10 ∷ []

@@ -1,6 +1,6 @@
 //! A reply is one line, and each line has one reply.
 //!
-//! The text of a reply is JSON without spaces, in which LF is escaped, and LF behind it (`specs/OneLine.antt`). So the
+//! The text of a reply is JSON without spaces, in which LF is escaped, and LF after it (`specs/OneLine.antt`). So the
 //! replies to some lines are as many lines, each with its end, whatever the lines are (`specs/Replied.antt`): who sends a
 //! line reads one.
 //!

@@ -37,7 +37,7 @@ too_large digits large =
     let bad : nat_lt (value_on 0 digits) (2 ^ 32) ≡ false = grind (arith, nat_tests) in
     rw bad (no_fourth (nat_le 1 (length digits) && nat_le (length digits) 10 && list_all is_digit digits) (value_on 0 digits))
 
--- the digits from a place on: the first, and those behind it
+-- the digits from a place on: the first, and those after it
 value_at : (digits : List ℕ) (i value : ℕ) → i < length digits →
     value_on value (drop i digits) ≡ value_on (value * 10 + (slice_index_or digits i 0 - 48)) (drop (i + 1) digits)
 value_at digits i value within = rw (add-one, drop-cons digits i 0 within) refl

@@ -16,7 +16,7 @@ use Rattle.request_json.specs.declared.reply.ProgramFault.{ProgramFault}
 use Rattle.request_json.specs.Replies.{reply_fields, object_of, count, list_of, item_data, check_fields, check_name, verdict_name, fault_name, end_name, end_fields, reached_fields, fault_fields, place_fields, refusal_number}
 use Rattle.request_json.specs.Pieces.{fields_text}
 
--- pieces, put one behind the other
+-- pieces, put one after the other
 pub two : (old a x b : List ℕ) → ((old ++ a) ++ x) ++ b ≡ old ++ (a ++ (x ++ b))
 two old a x b = append_assoc (old ++ a) x b ∙ append_assoc old a (x ++ b)
 
@@ -79,7 +79,7 @@ pub program_text : (old : List ℕ) (next : ℕ) (text : List ℕ) →
 unfolding serde_json_on_literals reply_fields
 program_text old next text = three old (codes "{\"next\":") (decimal next) (codes ",\"program\":") (quoted text) (codes "}")
 
--- fields with a comma behind each
+-- fields with a comma after each
 pub end_fault_text : (old : List ℕ) (fault : FaultKind) (id : ℕ) →
     ((((old ++ codes "\"fault\":") ++ quoted (fault_name fault)) ++ codes ",\"id\":") ++ decimal id) ++ codes "," ≡ old ++ fields_text (end_fields (end.Fault id fault))
 unfolding serde_json_on_literals

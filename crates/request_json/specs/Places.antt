@@ -17,7 +17,7 @@ number_of digits =
     if nat_le 1 (length digits) && nat_le (length digits) 10 && list_all is_digit digits && nat_lt (value_on 0 digits) (2 ^ 32)
     then Some (value_on 0 digits) else None
 
--- what stands behind these words at the front of a text
+-- what stands after these words at the front of a text
 abbrev pub behind : List ℕ → List ℕ → Option (List ℕ)
 behind words text = if bytes_eq (take (length words) text) words then Some (drop (length words) text) else None
 

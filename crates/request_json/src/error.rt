@@ -4,7 +4,7 @@ ghost use Rattle.std.specs.Prelude.{◌≡◌};
 use base_values::Memory;
 use thiserror::Error;
 
-/// Why a line is no request: the first of these in this order, but for want of memory.
+/// Why a line is no request: the first of these in this order, but when memory runs out.
 #[derive(Clone, Copy, Debug, PartialEq, Eq, Hash, Error)]
 pub enum ReadError {
     /// The line is not UTF-8, or no JSON.

@@ -7,7 +7,7 @@ ghost use Rattle.json.specs.Print.{escape_byte, escape, quoted};
 use base_values::Memory;
 use itoa::Buffer;
 
-/// Adds a number in decimal. It fails for want of memory alone.
+/// Adds a number in decimal. It fails only when memory runs out.
 pub fn put_number(line: &mut Vec<u8>, number: u64) -> Result<(), Memory>
     ensures number { OnOk result (line.new.items ≡ line.old.items ++ decimal number) }
 {
@@ -73,7 +73,7 @@ fn put_escapes(line: &mut Vec<u8>, text: &[u8]) -> Result<(), Memory>
     Ok(())
 }
 
-/// Adds a text in quotes, as JSON has it. It takes time linear in the text, and fails for want of memory alone.
+/// Adds a text in quotes, as JSON has it. It takes time linear in the text, and fails only when memory runs out.
 pub fn put_quoted(line: &mut Vec<u8>, text: &[u8]) -> Result<(), Memory>
     ensures quoted { OnOk result (line.new.items ≡ line.old.items ++ quoted text.now) }
 {

@@ -8,7 +8,7 @@ use base_values::{Memory, Text};
 use imp_syntax::{Location, Place, StmtId, VariableKind};
 use std::alloc::Global;
 
-/// The statement whose number stands behind the words.
+/// The statement whose number stands after the words.
 fn statement_behind(words: &[u8], text: &[u8]) -> Option<StmtId>
     ensures statement { result ≡ statement_behind words.now text.now }
 {
@@ -21,7 +21,7 @@ fn statement_behind(words: &[u8], text: &[u8]) -> Option<StmtId>
     }
 }
 
-/// The name that stands behind the words.
+/// The name that stands after the words.
 fn name_behind<'a>(words: &[u8], text: &'a [u8]) -> Option<&'a [u8]>
     ensures name { option_map (λ name. name.now) result ≡ name_behind words.now text.now }
 {

@@ -226,7 +226,7 @@ fn request_in(alloc: Global, request: &Value) -> Result<Request, ReadError>
 }
 
 /// The value of a line, or None where the line is not UTF-8, or no JSON. It takes time linear in the line, and
-/// fails for want of memory alone.
+/// fails only when memory runs out.
 pub fn json_of(alloc: Global, line: &[u8]) -> Result<Option<Value>, Memory>
     ensures value { IfOk result (λ value. option_map view value ≡ json_of line.now) }
 {
@@ -245,7 +245,7 @@ pub fn json_of(alloc: Global, line: &[u8]) -> Result<Option<Value>, Memory>
     }
 }
 
-/// The request of a line, or the first of its faults, or want of memory.
+/// The request of a line, or the first of its faults, or out of memory.
 #[tactic(auto, unfolding(crate::specs::Requests::request_of))]
 pub fn read_request(alloc: Global, line: &[u8]) -> Result<Request, ReadError>
     ensures request { IfOk result (λ request. request_of line.now ≡ Ok request) }

@@ -112,7 +112,7 @@ fn put_text_behind(line: &mut Vec<u8>, words: &[u8], text: &[u8]) -> Result<(), 
     put_quoted(line, text)
 }
 
-/// Adds numbers, each behind a comma, and the bracket that closes their list.
+/// Adds numbers, each after a comma, and the bracket that closes their list.
 fn put_more_ids(line: &mut Vec<u8>, ids: &[StmtId]) -> Result<(), Memory>
     ensures list { OnOk result (line.new.items ≡ line.old.items ++ items_text true (items_of count ids.now)) }
 {
@@ -139,7 +139,7 @@ pub fn put_ids(line: &mut Vec<u8>, ids: &[StmtId]) -> Result<(), Memory>
     Ok(())
 }
 
-/// Adds the check of a statement, with a comma behind each field.
+/// Adds the check of a statement, with a comma after each field.
 #[tactic(auto, using(crate::proofs::WritingLemmas::check_text))]
 fn put_check(line: &mut Vec<u8>, item: &Finding) -> Result<(), Memory>
     ensures fields { OnOk result (line.new.items ≡ line.old.items ++ fields_text (check_fields item.now)) }
@@ -162,7 +162,7 @@ fn put_item(line: &mut Vec<u8>, item: &Finding) -> Result<(), Memory>
     Ok(())
 }
 
-/// Adds what is found of one more statement, behind a comma.
+/// Adds what is found of one more statement, after a comma.
 fn put_next_item(line: &mut Vec<u8>, item: &Finding) -> Result<(), Memory>
     ensures item { OnOk result (line.new.items ≡ (line.old.items ++ codes ",") ++ compact_text (item_data item.now)) }
 {
@@ -170,7 +170,7 @@ fn put_next_item(line: &mut Vec<u8>, item: &Finding) -> Result<(), Memory>
     put_item(line, item)
 }
 
-/// Adds what is found of statements, each behind a comma, and the bracket that closes their list.
+/// Adds what is found of statements, each after a comma, and the bracket that closes their list.
 fn put_more_items(line: &mut Vec<u8>, items: &[Finding]) -> Result<(), Memory>
     ensures list { OnOk result (line.new.items ≡ line.old.items ++ items_text true (items_of item_data items.now)) }
 {
@@ -197,7 +197,7 @@ fn put_items(line: &mut Vec<u8>, items: &[Finding]) -> Result<(), Memory>
     Ok(())
 }
 
-/// Adds an object with one number, behind its key and colon.
+/// Adds an object with one number, after its key and colon.
 fn put_one(line: &mut Vec<u8>, front: &[u8], number: u64) -> Result<(), Memory>
     ensures text { OnOk result (line.new.items ≡ ((line.old.items ++ front.now) ++ decimal number) ++ codes "}") }
 {
@@ -206,7 +206,7 @@ fn put_one(line: &mut Vec<u8>, front: &[u8], number: u64) -> Result<(), Memory>
     Ok(())
 }
 
-/// Adds which fault ended a run, and where, with a comma behind each.
+/// Adds which fault ended a run, and where, with a comma after each.
 #[tactic(auto, using(crate::proofs::WritingLemmas::end_fault_text))]
 fn put_end_by_fault(line: &mut Vec<u8>, id: StmtId, fault: FaultKind) -> Result<(), Memory>
     ensures fields { OnOk result (line.new.items ≡ line.old.items ++ fields_text (end_fields (RunEnd.Fault id fault))) }
@@ -217,7 +217,7 @@ fn put_end_by_fault(line: &mut Vec<u8>, id: StmtId, fault: FaultKind) -> Result<
     Ok(())
 }
 
-/// Adds where a run found no more inputs, with a comma behind.
+/// Adds where a run found no more inputs, with a comma after.
 #[tactic(auto, using(crate::proofs::WritingLemmas::end_inputs_text))]
 fn put_end_of_inputs(line: &mut Vec<u8>, id: StmtId) -> Result<(), Memory>
     ensures fields { OnOk result (line.new.items ≡ line.old.items ++ fields_text (end_fields (RunEnd.InputsUsedUp id))) }
@@ -227,7 +227,7 @@ fn put_end_of_inputs(line: &mut Vec<u8>, id: StmtId) -> Result<(), Memory>
     Ok(())
 }
 
-/// Adds where a run ended, and by which fault, with a comma behind each.
+/// Adds where a run ended, and by which fault, with a comma after each.
 fn put_end(line: &mut Vec<u8>, end: &RunEnd) -> Result<(), Memory>
     ensures fields { OnOk result (line.new.items ≡ line.old.items ++ fields_text (end_fields end.now)) }
 {
@@ -238,7 +238,7 @@ fn put_end(line: &mut Vec<u8>, end: &RunEnd) -> Result<(), Memory>
     }
 }
 
-/// Adds how often a run stood at the location, with a comma behind, where that was counted.
+/// Adds how often a run stood at the location, with a comma after, where that was counted.
 #[tactic(auto, using(crate::proofs::WritingLemmas::reached_text))]
 fn put_reached(line: &mut Vec<u8>, reached: Option<u64>) -> Result<(), Memory>
     ensures fields { OnOk result (line.new.items ≡ line.old.items ++ fields_text (reached_fields reached)) }
@@ -263,7 +263,7 @@ fn put_run(line: &mut Vec<u8>, end: &RunEnd, reached: Option<u64>) -> Result<(),
     Ok(())
 }
 
-/// Adds where a program's fault is, with a comma behind each field.
+/// Adds where a program's fault is, with a comma after each field.
 #[tactic(auto, using(crate::proofs::WritingLemmas::fault_text))]
 fn put_fault(line: &mut Vec<u8>, fault: &ProgramFault) -> Result<(), Memory>
     ensures fields { OnOk result (line.new.items ≡ line.old.items ++ fields_text (fault_fields fault.now)) }
@@ -275,7 +275,7 @@ fn put_fault(line: &mut Vec<u8>, fault: &ProgramFault) -> Result<(), Memory>
     Ok(())
 }
 
-/// Adds where the cause of a refusal is, with a comma behind each field.
+/// Adds where the cause of a refusal is, with a comma after each field.
 #[tactic(auto, using(crate::proofs::WritingLemmas::unread_text))]
 fn put_place(line: &mut Vec<u8>, refusal: &Refusal) -> Result<(), Memory>
     ensures fields { OnOk result (line.new.items ≡ line.old.items ++ fields_text (place_fields refusal.now)) }
@@ -302,7 +302,7 @@ fn put_refusal(line: &mut Vec<u8>, refusal: &Refusal) -> Result<(), Memory>
     put_one(line, b"\"refused\":", refusal_number(refusal))
 }
 
-/// Adds an object with one text, behind its key and colon.
+/// Adds an object with one text, after its key and colon.
 fn put_only(line: &mut Vec<u8>, front: &[u8], text: &[u8]) -> Result<(), Memory>
     ensures text { OnOk result (line.new.items ≡ ((line.old.items ++ front.now) ++ quoted text.now) ++ codes "}") }
 {
@@ -385,7 +385,7 @@ fn put_reply(line: &mut Vec<u8>, reply: &Reply) -> Result<(), Memory>
 
 /// The line of a reply: compact JSON with its keys in order, and LF.
 ///
-/// It fails for want of memory alone, and takes time linear in the line.
+/// It fails only when memory runs out, and takes time linear in the line.
 #[tactic(auto, unfolding(crate::specs::Replies::reply_text))]
 pub fn reply_line(alloc: Global, reply: &Reply) -> Result<Vec<u8>, Memory>
     ensures line { IfOk result (λ line. line.items ≡ reply_text reply.now) }

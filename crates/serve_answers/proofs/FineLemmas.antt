@@ -86,7 +86,7 @@ committed_fine dom e m is none h =
       future = All-nil (IsFineBelow (next_after e m.next));
     }
 
--- back to a program behind, and on to one ahead
+-- back to a program before, and on to one after it
 pub back_fine : {S : Type 0} (dom : Operations S) (side : List (List Procedure)) (m : Machine) → All (IsFineBelow m.next) side → HasFinePrograms m → HasFinePrograms (back_to dom side m)
 back_fine dom [] m all h = h
 back_fine dom (p ∷ ps) m all h = record {

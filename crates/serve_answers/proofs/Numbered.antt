@@ -20,7 +20,7 @@ counting_on n (suc a) b =
     ap (counting n) (let e : suc a + b ≡ suc (a + b) = omega arith in e)
     ∙ ap (λ ks. n ∷ ks) (counting_on (suc n) a b ∙ ap (λ k. counting (suc n) a ++ counting k b) (let e : suc n + a ≡ n + suc a = omega arith in e))
 
--- none, one more in front, and more behind
+-- none, one more before, and more after
 no_more : (n : ℕ) → Counts n [] 0 n
 no_more n = record { are = refl; ends = omega arith }
 

@@ -41,7 +41,7 @@ declare_of proc name kind = Ok (edit.Declare proc (record { name = name; kind = 
 abbrev pub drop_of : (proc : List ℕ) → Result Edit Refusal
 drop_of proc = Ok (edit.DropProc proc)
 
--- the error is why the text gives no edit, or want of memory
+-- the error is why the text gives no edit, or out of memory
 abbrev pub IsTextError : Result Edit Refusal → TextError → Type 0
 IsTextError edit (t.Refused why) = edit ≡ Err why
 IsTextError edit t.Memory = Unit {0}

@@ -17,7 +17,7 @@ pub record IsFineBelow (next : ℕ) (program : List Procedure) : Type 0 where
   pub small : small_program program ≡ true
   pub below : All (λ (n : ℕ). n < next) (program_numbers program)
 
--- The present program is one, and so are those behind it and ahead of it.
+-- The present program is one, and so are those before it and after it.
 pub record HasFinePrograms (m : Machine) : Type 0 where
   pub some : 0 < m.next
   pub present : IsFineBelow m.next m.program

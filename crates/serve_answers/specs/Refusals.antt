@@ -50,7 +50,7 @@ procedure_edited ps (edit.Declare x d) = x
 procedure_edited ps (edit.AddProc x p) = x
 procedure_edited ps (edit.DropProc x) = x
 
--- The refusal of an edit of a program, by its cause; want of memory is the cause of none.
+-- The refusal of an edit of a program, by its cause; lack of memory is the cause of none.
 abbrev pub refusal_of : List Procedure → Edit → EditError → Refusal
 refusal_of ps e NoProcedure = refusal.Query why.NoProcedure
 refusal_of ps e NoStatement = refusal.Query why.NoStatement

@@ -19,7 +19,7 @@ pub enum TextError {
     /// It is not read.
     #[error("the text is refused")]
     Refused(Refusal),
-    /// Want of memory.
+    /// Out of memory.
     #[error("out of memory")]
     Memory,
 }
@@ -40,7 +40,7 @@ const MOST_TEXT: usize = 1 << 30;
 /// # Errors
 ///
 /// [`TextError::Refused`] exactly where the text is not a simple statement, with its first fault. [`TextError::Memory`]
-/// for want of memory, also where the text has more than 2^30 bytes.
+/// when memory runs out, also where the text has more than 2^30 bytes.
 pub fn replace_of(alloc: Global, id: StmtId, text: &[u8], next: u32) -> Result<Edit, TextError>
     requires low { next ≤ 1000001 }
     ensures made { IfOk result (λ e. (readings : Readings) → replace_of readings next id text.now ≡ Ok e) }

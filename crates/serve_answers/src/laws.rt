@@ -9,13 +9,13 @@ use batch_sound::{answers_are_sound, reports_are_sound};
 use domain_laws::Domain;
 use why_slice::answers_stay;
 
-/// A line that is refused leaves the machine as it is, but for a step of a ticket whose location is gone: that closes the
+/// A line that is refused leaves the machine as it is, except a step of a ticket whose location is gone: that closes the
 /// ticket.
 pub fn refusals_change_nothing<D: Domain>()
     ensures same { (d : D) → RefusalsAreSafe (D.operations d) }
 {}
 
-/// The present program of a machine, those behind it and those ahead of it never have a fault: the program of a source that is
+/// The present program of a machine, those before it and those after it never have a fault: the program of a source that is
 /// accepted has none, and each line leaves it so.
 pub fn machines_stay_fine<D: Domain>()
     ensures source { SourcesAreFine }

@@ -87,7 +87,7 @@ fn numbers_refusal(alloc: Global, table: &Table, edit: &Edit) -> Result<Refusal,
     }))
 }
 
-/// The refusal of an edit of a program, by its cause. It fails for want of memory alone, also where that is the cause.
+/// The refusal of an edit of a program, by its cause. It fails only when memory runs out, also where that is the cause.
 pub fn refusal_of(
     alloc: Global,
     table: &Table,

@@ -15,7 +15,7 @@
 //!
 //! `clap` takes the words apart: `specs/Line.antt` has the command, as `clap` defines commands, and
 //! `job_of` of `specs/Jobs.antt` is the job of the words that this command takes. So an option stands
-//! once at most, as `--budget 5` or `--budget=5`, before or behind the file, and behind `--` a file may
+//! once at most, as `--budget 5` or `--budget=5`, before or after the file, and after `--` a file may
 //! begin with a dash. There is no `--help`.
 #![tactic(auto)]
 

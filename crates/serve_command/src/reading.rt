@@ -257,7 +257,7 @@ fn job_met(alloc: Global, matches: &ArgMatches<'_>) -> Result<Option<Job>, Memor
 /// The job of the words, of which the first is the program's own name.
 ///
 /// It is refused where the command line does not take the words, or a value is not in form, and it
-/// fails for want of memory.
+/// fails when memory runs out.
 #[tactic(auto, unfolding(crate::specs::Jobs::job_of))]
 pub fn read_words(alloc: Global, words: &[String]) -> Result<Job, WordsError>
     ensures job { IfOk result (λ job. job_of (map string_bytes words.now) ≡ Some job) }

@@ -23,7 +23,7 @@ checked (Ok ps) = unless_faulty ps (check_fault ps)
 abbrev pub source_of : Readings → List ℕ → Result (List Procedure) Refusal
 source_of readings source = checked (readings.program.answer source)
 
--- the error is why the source is refused, or want of memory
+-- the error is why the source is refused, or out of memory
 abbrev pub IsSourceError : Result (List Procedure) Refusal → SourceError → Type 0
 IsSourceError source (s.Refused why) = source ≡ Err why
 IsSourceError source s.Memory = Unit {0}

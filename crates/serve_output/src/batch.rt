@@ -50,7 +50,7 @@ fn report_line<D: Named, L: Ledger>(
     line_by(alloc, domain, &setting, program, steps)
 }
 
-/// One text behind another.
+/// One text after another.
 fn behind(alloc: Global, first: &[u8], second: &[u8]) -> Result<Vec<u8>, Memory>
     ensures bytes { IfOk result (λ v. v.items ≡ first.now ++ second.now) }
 {
@@ -59,7 +59,7 @@ fn behind(alloc: Global, first: &[u8], second: &[u8]) -> Result<Vec<u8>, Memory>
     Ok(bytes)
 }
 
-/// The listing and the line of the report. It fails for want of memory alone.
+/// The listing and the line of the report. It fails only when memory runs out.
 #[tactic(auto, unfolding(crate::specs::Output::batch_bytes))]
 pub fn listed<D: Named, L: Ledger>(
     alloc: Global,

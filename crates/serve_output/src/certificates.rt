@@ -65,7 +65,7 @@ pub fn written_certificates_are_accepted()
     segment_certificates_are_accepted();
 }
 
-/// The lines of the certificate of a program, by the domain of this name. It fails for want of memory alone.
+/// The lines of the certificate of a program, by the domain of this name. It fails only when memory runs out.
 #[tactic(auto, unfolding(crate::specs::Output::cert_bytes))]
 fn cert_lines<L: Ledger>(
     alloc: Global,
@@ -84,7 +84,7 @@ fn cert_lines<L: Ledger>(
     }
 }
 
-/// The line that says whether a certificate of a program holds, by the domain of this name. It fails for want of memory
+/// The line that says whether a certificate of a program holds, by the domain of this name. It fails when memory runs out
 /// alone.
 #[tactic(auto, unfolding(crate::specs::Output::verify_bytes))]
 fn verify_line<L: Ledger>(

@@ -29,7 +29,7 @@ pub enum SourceError {
     /// It is not read, or its program has a fault.
     #[error("the source is refused")]
     Refused(Refusal),
-    /// Want of memory.
+    /// Out of memory.
     #[error("out of memory")]
     Memory,
 }
@@ -113,7 +113,7 @@ fn work_for(alloc: Global, task: Task, program: Program) -> Result<Work, SourceE
 /// # Errors
 ///
 /// [`SourceError::Refused`] with the first fault of the text, else of its program, and
-/// [`SourceError::Memory`] for want of memory.
+/// [`SourceError::Memory`] when memory runs out.
 pub fn read_source(alloc: Global, task: Task, source: &[u8]) -> Result<Work, SourceError>
     requires short { length source.now < 2 ^ 31 }
     ensures accepted { IfOk result (λ w. (readings : Readings) → source_of readings source.now ≡ Ok (program_in w)) }

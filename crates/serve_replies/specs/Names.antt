@@ -5,7 +5,7 @@ use Rattle.imp_lex.specs.declared.error.LexError.TheVariants as lex
 use Rattle.imp_check.specs.declared.fault.Fault.{Fault}
 use Rattle.imp_check.specs.declared.fault.Fault.TheVariants as f
 
--- the name of a lexical fault, and its byte; want of memory is the fault of no text
+-- the name of a lexical fault, and its byte; lack of memory is the fault of no text
 abbrev pub lexical_name : LexError → List ℕ
 lexical_name (lex.BadByte at) = codes "BadByte"
 lexical_name (lex.NumberTooBig at) = codes "NumberTooBig"

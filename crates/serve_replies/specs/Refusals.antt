@@ -11,7 +11,7 @@ use Rattle.request_json.specs.declared.reply.Refusal.TheVariants as refusal
 use Rattle.request_json.specs.declared.reply.ProgramFault.{ProgramFault}
 use Rattle.serve_replies.specs.Names.{lexical_name, lexical_place, name_of_fault, is_limit}
 
--- why a line is no request; want of memory is the fault of no line
+-- why a line is no request; lack of memory is the fault of no line
 abbrev pub line_refusal : ReadError → Refusal
 line_refusal e.NoJson = refusal.NoJson
 line_refusal e.BadMember = refusal.BadMember
@@ -19,7 +19,7 @@ line_refusal e.NoRequest = refusal.NoRequest
 line_refusal e.LongString = refusal.Query why.LongString
 line_refusal e.Memory = refusal.NoRequest
 
--- the refusal of a text that is not read; want of memory is the fault of no text
+-- the refusal of a text that is not read; lack of memory is the fault of no text
 abbrev pub text_refusal : ParseError → Refusal
 text_refusal (parse.Lex fault) = refusal.Unread (lexical_place fault) (lexical_name fault)
 text_refusal (parse.Unexpected token) = refusal.Unread token (codes "Unexpected")

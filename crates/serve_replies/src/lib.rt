@@ -6,7 +6,7 @@
 //! in `specs/`: `Names` and `Refusals` of faults, `Runs`, `States` and `Texts`. `Readings` says what the reading of a text
 //! is, of which there is one.
 //!
-//! Each part takes time linear in what it tells, and fails for want of memory alone.
+//! Each part takes time linear in what it tells, and fails only when memory runs out.
 #![tactic(auto)]
 
 mod refusals;

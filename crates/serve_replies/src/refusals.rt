@@ -12,7 +12,7 @@ use imp_syntax::StmtId;
 use request_json::{ProgramFault, ReadError, Refusal, Reply};
 use std::alloc::Global;
 
-/// Why a line is no request, or want of memory.
+/// Why a line is no request, or out of memory.
 pub fn line_refusal(error: ReadError) -> Result<Reply, Memory>
     ensures refusal { IfOk result (λ reply. reply ≡ Reply.Refused (line_refusal error)) }
     ensures no_memory { IfOk result (λ _. error ≡ ReadError.Memory → ⊥) }
@@ -106,7 +106,7 @@ fn unread(alloc: Global, at: usize, name: &[u8]) -> Result<Refusal, Memory>
     })
 }
 
-/// The refusal of a text that is not read. It fails for want of memory alone, also where that is the fault.
+/// The refusal of a text that is not read. It fails only when memory runs out, also where that is the fault.
 pub fn text_refusal(alloc: Global, error: ParseError) -> Result<Refusal, Memory>
     ensures refusal { IfOk result (λ r. r ≡ text_refusal error) }
 {
@@ -129,7 +129,7 @@ fn place_of(alloc: Global, found: LocatedFault) -> Result<ProgramFault, Memory>
     })
 }
 
-/// The refusal of a program with a fault: a limit that is passed, or another fault. It fails for want of memory alone.
+/// The refusal of a program with a fault: a limit that is passed, or another fault. It fails only when memory runs out.
 pub fn fault_refusal(alloc: Global, found: LocatedFault) -> Result<Refusal, Memory>
     ensures refusal { IfOk result (λ r. r ≡ fault_refusal found) }
 {

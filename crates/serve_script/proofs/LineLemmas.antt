@@ -34,7 +34,7 @@ replies-append machine m (x ∷ xs) ys =
 pub one_more : (block : List ℕ) (i b : ℕ) → i < length block → b ≡ slice_index_or block i 0 → take (i + 1) block ≡ take i block ++ b ∷ []
 one_more block i b within is = rw (add-one, take-suc block i 0 within, ← is) refl
 
--- the part behind one byte more
+-- the part after one byte more
 pub part_more : (part pending block : List ℕ) (i b : ℕ) → i < length block → b ≡ slice_index_or block i 0 → pending ≡ last_part part (take i block) →
     last_part pending (b ∷ []) ≡ last_part part (take (i + 1) block)
 part_more part pending block i b within is from =
@@ -50,7 +50,7 @@ lines_more part pending block i b within is from =
 pub around : (block : List ℕ) (i b : ℕ) → i < length block → b ≡ slice_index_or block i 0 → block ≡ (take i block ++ b ∷ []) ++ drop (i + 1) block
 around block i b within is = sym (take-append-drop (i + 1) block) ∙ ap (λ xs. xs ++ drop (i + 1) block) (one_more block i b within is)
 
--- the lines of a block, where the lines of its front and of the byte behind it are known
+-- the lines of a block, where the lines of its front and of the byte after it are known
 pub lines_around : (part pending block : List ℕ) (i b : ℕ) → i < length block → b ≡ slice_index_or block i 0 →
     pending ≡ last_part part (take i block) →
     whole_lines part block ≡ (whole_lines part (take i block) ++ whole_lines pending (b ∷ [])) ++ whole_lines (last_part pending (b ∷ [])) (drop (i + 1) block)
@@ -64,7 +64,7 @@ lines_around part pending block i b within is from =
 regroup : {X : Type 0} (a b c d : List X) → (a ++ (b ++ c)) ++ d ≡ (a ++ b) ++ (c ++ d)
 regroup a b c d = simp append_assoc
 
--- a prefix of the replies to some lines, behind the replies to those before
+-- a prefix of the replies to some lines, after the replies to those before
 pub prefix_behind : {M : Type 0} (machine : LineMachine M) (m : M) (before lines rest all : List (List ℕ)) (taken : List ℕ) (output : Option (List ℕ)) →
     all ≡ (before ++ lines) ++ rest →
     WrotePrefix (replies machine (machine_after machine m before) lines) (taken ++ replies machine m before) output →
@@ -81,14 +81,14 @@ prefix_behind machine m before lines rest all taken output split wrote = record 
   written = wrote.written ∙ ap Some (append_assoc taken (replies machine m before) wrote.sent);
 }
 
--- all replies to some lines, behind the replies to those before
+-- all replies to some lines, after the replies to those before
 pub replies_behind : {M : Type 0} (machine : LineMachine M) (m : M) (before lines : List (List ℕ)) (taken : List ℕ) →
     (taken ++ replies machine m before) ++ replies machine (machine_after machine m before) lines ≡ taken ++ replies machine m (before ++ lines)
 replies_behind machine m before lines taken =
     append_assoc taken (replies machine m before) (replies machine (machine_after machine m before) lines)
     ∙ ap (λ xs. taken ++ xs) (sym (replies-append machine m before lines))
 
--- whole replies to some lines, behind the replies to those before
+-- whole replies to some lines, after the replies to those before
 pub lines_behind : {M : Type 0} (machine : LineMachine M) (m : M) (before lines rest all : List (List ℕ)) (taken : List ℕ) (output : Option (List ℕ)) →
     all ≡ (before ++ lines) ++ rest →
     WroteLines machine (machine_after machine m before) lines (taken ++ replies machine m before) output →
@@ -100,7 +100,7 @@ lines_behind machine m before lines rest all taken output split wrote = record {
   written = wrote.written ∙ ap Some (replies_behind machine m before wrote.answered taken);
 }
 
--- what holds of the machine after some lines, and then those behind them
+-- what holds of the machine after some lines, and then those after them
 pub holds_behind : {M : Type 0} (machine : LineMachine M) (holds : M → Type 0) (m : M) (before lines all : List (List ℕ)) → before ++ lines ≡ all →
     holds (machine_after machine (machine_after machine m before) lines) → holds (machine_after machine m all)
 holds_behind machine holds m before lines all is here = subst holds (sym (after-append machine m before lines) ∙ ap (machine_after machine m) is) here

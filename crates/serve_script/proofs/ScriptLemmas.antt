@@ -45,7 +45,7 @@ pub lines_on : (text : List ℕ) (total : ℕ) (rest' : Option (List ℕ)) (n : 
     lines_read text total ++ whole_lines (part_read text total) bytes ≡ lines_read text (total + n)
 lines_on text total rest' n bytes handed = sym (whole_lines-append [] (take total text) bytes) ∙ ap (whole_lines []) (sym handed.more)
 
--- the part of a line behind the last LF, with the bytes of a block
+-- the part of a line after the last LF, with the bytes of a block
 pub part_on : (text : List ℕ) (total : ℕ) (rest' : Option (List ℕ)) (n : ℕ) (bytes : List ℕ) → Handed text total rest' n bytes →
     part_read text (total + n) ≡ last_part (part_read text total) bytes
 part_on text total rest' n bytes handed = ap (last_part []) handed.more ∙ last_part-append [] (take total text) bytes
@@ -67,11 +67,11 @@ written_more machine m text taken total rest' output n bytes handed is =
     is ∙ ap Some (replies_behind machine m (lines_read text total) (whole_lines (part_read text total) bytes) taken
     ∙ ap (λ ls. taken ++ replies machine m ls) (lines_on text total rest' n bytes handed))
 
--- the lines that come behind a block
+-- the lines that come after a block
 pub lines_past : List ℕ → ℕ → List (List ℕ)
 lines_past text count = whole_lines (part_read text count) (drop count text) ++ last_line (last_part [] text)
 
--- all lines: those of the front, and those behind it
+-- all lines: those of the front, and those after it
 pub lines_of_front : (text : List ℕ) (count : ℕ) → all_lines text ≡ lines_read text count ++ lines_past text count
 unfolding lines_past
 lines_of_front text count =
@@ -79,7 +79,7 @@ lines_of_front text count =
     ∙ ap (λ ls. ls ++ last_line (last_part [] text)) (whole_lines-append [] (take count text) (drop count text))
     ∙ append_assoc (lines_read text count) (whole_lines (part_read text count) (drop count text)) (last_line (last_part [] text))
 
--- all lines: those before the block, those of the block, and those behind it
+-- all lines: those before the block, those of the block, and those after it
 pub lines_of_block : (text : List ℕ) (total : ℕ) (rest' : Option (List ℕ)) (n : ℕ) (bytes : List ℕ) → Handed text total rest' n bytes →
     all_lines text ≡ (lines_read text total ++ whole_lines (part_read text total) bytes) ++ lines_past text (total + n)
 lines_of_block text total rest' n bytes handed =

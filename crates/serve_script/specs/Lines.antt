@@ -7,7 +7,7 @@ whole_lines part [] = []
 whole_lines part (byte ∷ text) =
     if byte == 10 then part ∷ whole_lines [] text else whole_lines (part ++ byte ∷ []) text
 
--- What stands behind the last LF.
+-- What stands after the last LF.
 abbrev pub last_part : List ℕ → List ℕ → List ℕ
 last_part part [] = part
 last_part part (byte ∷ text) =

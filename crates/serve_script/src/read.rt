@@ -156,7 +156,7 @@ fn answer_block<A: Answerer, O: Sink, L: Ledger>(
     Ok(())
 }
 
-/// Answers what came behind the last LF, if it has a byte.
+/// Answers what came after the last LF, if it has a byte.
 fn answer_rest<A: Answerer, O: Sink, L: Ledger>(
     alloc: Global,
     answerer: &mut A,

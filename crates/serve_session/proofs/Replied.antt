@@ -34,7 +34,7 @@ pub follows_where : {V E : Type 0} (r : Result V E) (items : V → List ℕ) (tu
 follows_where (Ok v) items turn stands reply A here h is = line_follows turn stands reply (items v) (h here) is
 follows_where (Err e) items turn stands reply A here h is = tt
 
--- what holds in any case holds for want of memory
+-- what holds in any case holds when memory runs out
 pub on_error : {V E : Type 0} (r : Result V E) (A : Type 0) → A → IfErr r (λ _. A)
 on_error (Ok v) A h = tt
 on_error (Err e) A h = h

@@ -37,7 +37,7 @@ pub record Follows (turn : Outcome) (stands : Machine → Type 0) (line : List �
   pub reply : line ≡ reply_text turn.reply
   pub machine : stands turn.machine
 
--- a request that fills names: after want of memory some of them may be filled, and all else is as it was
+-- a request that fills names: after memory ran out some of them may be filled, and all else is as it was
 abbrev pub Fills : Result Request ReadError → Type 0
 Fills (Err error) = ⊥
 Fills (Ok (q.State query)) = Unit {0}
@@ -59,12 +59,12 @@ missing_of dom (Ok q.Report) m = missing_for_report dom m
 missing_of dom (Ok (q.Step ticket n)) m = missing_for_ticket dom (ticket_of ticket m.tickets) m
 missing_of dom (Ok request) m = []
 
--- For want of memory some of these names are kept, the first ones, and nothing else is changed; or what stands is the
+-- When memory runs out some of these names are kept, the first ones, and nothing else is changed; or what stands is the
 -- machine after the turn, and its reply alone is not written.
 abbrev pub IsHalted : List CellName → Outcome → Machine → (stands : Machine → Type 0) → Type 0
 IsHalted xs turn m stands = IsBetween xs m stands ⊎ stands turn.machine
 
--- why a question has no answer, a ticket is not opened or not stepped, the program stays; nothing for want of memory
+-- why a question has no answer, a ticket is not opened or not stepped, the program stays; nothing when memory runs out
 abbrev pub query_refusal : QueryError → Option Refusal
 query_refusal (question.Refused why) = Some (refusal.Query why)
 query_refusal question.Memory = None
@@ -83,7 +83,7 @@ abbrev pub move_refusal : UndoError → (otherwise : Refusal) → Option Refusal
 move_refusal undo.Nothing otherwise = Some otherwise
 move_refusal undo.Memory otherwise = None
 
--- The line tells this refusal; for want of memory there is no line.
+-- The line tells this refusal; when memory runs out there is no line.
 abbrev pub Tells : {V E : Type 0} → Result V E → (items : V → List ℕ) → Option Refusal → Type 0
 Tells line items (Some why) = IfOk line (λ v. items v ≡ reply_text (r.Refused why))
 Tells line items None = IfOk line (λ v. ⊥)

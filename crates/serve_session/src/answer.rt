@@ -60,7 +60,7 @@ fn request_line<D: Domain, L: Ledger>(
     }
 }
 
-/// The line that tells why a line is no request. For want of memory there is none.
+/// The line that tells why a line is no request. When memory runs out there is none.
 fn unread_line(alloc: Global, error: ReadError) -> Result<Vec<u8>, Memory>
     ensures line { IfOk result (λ v. v.items ≡ reply_text (Reply.Refused (line_refusal error))) }
     ensures no_memory { IfOk result (λ _. error ≡ ReadError.Memory → ⊥) }

@@ -25,7 +25,7 @@ fn give_up<D: Domain>(_prepared: Prepared<'_, D>)
     ensures same { _prepared.exit.0.now ≡ _prepared.entry.session.now }
 {}
 
-/// The line of the refusal of an edit. For want of memory there is none.
+/// The line of the refusal of an edit. When memory runs out there is none.
 fn refusal_line<D: Domain>(
     alloc: Global,
     session: &Session<D>,

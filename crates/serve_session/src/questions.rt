@@ -45,7 +45,7 @@ pub(crate) fn value_line<D: Domain>(
     line_of(alloc, reply)
 }
 
-/// Why a question has no answer; nothing for want of memory.
+/// Why a question has no answer; nothing when memory runs out.
 fn query_refusal(error: QueryError) -> Option<Refusal>
     ensures is { result ≡ query_refusal error }
 {

@@ -16,7 +16,7 @@ use serve_replies::numbers_of;
 use std::alloc::Global;
 use std::sync::ledger::Ledger;
 
-/// Why a ticket is not opened; nothing for want of memory.
+/// Why a ticket is not opened; nothing when memory runs out.
 fn ask_refusal(error: AskError) -> Option<Refusal>
     ensures is { result ≡ ask_refusal error }
 {
@@ -27,7 +27,7 @@ fn ask_refusal(error: AskError) -> Option<Refusal>
     }
 }
 
-/// Why a ticket is not stepped; nothing for want of memory.
+/// Why a ticket is not stepped; nothing when memory runs out.
 fn step_refusal(error: StepError) -> Option<Refusal>
     ensures is { result ≡ step_refusal error }
 {
@@ -38,7 +38,7 @@ fn step_refusal(error: StepError) -> Option<Refusal>
     }
 }
 
-/// Why the program stays: this, where there is none to go to; nothing for want of memory.
+/// Why the program stays: this, where there is none to go to; nothing when memory runs out.
 fn move_refusal(error: UndoError, otherwise: Refusal) -> Option<Refusal>
     ensures is { result ≡ move_refusal error otherwise }
 {

@@ -16,12 +16,12 @@ abbrev pub CopyIsCovered : Type 0
 CopyIsCovered = (g : Shape) (variables : List (List (Option ℕ))) (heap : List (Option ℕ)) (p q : ℕ)
     → Covers g variables heap → Covers (forget_of g p (slot_of g.frames q)) (set_last variables p (slot_of variables q)) heap
 
--- `p = new`: the new cell is the heap's next, and null is behind it
+-- `p = new`: the new cell is the heap's next, and null is after it
 abbrev pub NewIsCovered : Type 0
 NewIsCovered = (g : Shape) (variables : List (List (Option ℕ))) (heap : List (Option ℕ)) (p : ℕ)
     → IsGraph g → Covers g variables heap → Covers (new_cell_of g p) (set_last variables p (Some (length heap))) (heap ++ None ∷ [])
 
--- `p = q.next`, where q names the node k and is the cell c, with w behind it
+-- `p = q.next`, where q names the node k and is the cell c, with w after it
 abbrev pub ReadIsCovered : Type 0
 ReadIsCovered = (g : Shape) (variables : List (List (Option ℕ))) (heap : List (Option ℕ)) (k c : ℕ) → IsGraph g → (p q : ℕ) (w : Option ℕ)
     → slot_of g.frames q ≡ Some k → slot_of variables q ≡ Some c → slice_get heap c ≡ Some w

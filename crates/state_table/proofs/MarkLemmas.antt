@@ -137,7 +137,7 @@ module _ {T : Type 0} where
     | inr ne ↦ (m.0, m.1, sym (set-other es n (suc mark) k ne) ∙ m.2)
   ]
 
-  -- A loop that numbers the marked states: from these entries it came to those, behind so many places.
+  -- A loop that numbers the marked states: from these entries it came to those, after so many places.
   pub record Numbers (old new : List (T × ℕ)) (place next : ℕ) : Type 0 where
     pub states : states_in new ≡ states_in old
     pub same : mark_count new ≡ mark_count old

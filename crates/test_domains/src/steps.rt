@@ -21,7 +21,7 @@ const LIST: [Atom; 1] = [Atom {
     target: None,
 }];
 
-// A cell in front of a list.
+// A cell before a list.
 const CELL_AND_LIST: [Atom; 2] = [
     Atom {
         many: false,

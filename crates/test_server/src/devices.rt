@@ -49,7 +49,7 @@ fn replies_within(read: usize) -> &'static [u8] {
     first_lines(REPLIES, lines_in(&LINES[..read.min(LINES.len())]))
 }
 
-/// The source with so many spaces behind it.
+/// The source with so many spaces after it.
 fn padded_source(alloc: Global, spaces: usize) -> Result<Vec<u8>, Fail> {
     let mut source = SOURCE.to_vec(alloc)?;
     for _ in 0..spaces {

@@ -52,7 +52,7 @@ impl Failing {
         }
     }
 
-    /// What an operation made, or want of memory.
+    /// What an operation made, or out of memory.
     fn passed(&self, made: Result<IntervalState, Memory>) -> Result<IntervalState, Memory>
         ensures same { IfOk result (λ t. made ≡ Ok t) }
     {

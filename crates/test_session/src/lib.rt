@@ -1,4 +1,4 @@
-//! Tests of sessions over a domain that fails: what stands after want of memory, and which questions take no operation.
+//! Tests of sessions over a domain that fails: what stands after memory ran out, and which questions take no operation.
 #![tactic(auto)]
 
 #[cfg(test)]

@@ -1,4 +1,4 @@
-//! What stands after want of memory.
+//! What stands after memory ran out.
 use crate::failing::Failing;
 use crate::scripts::{Line, Setup, told};
 use std::test::Fail;

@@ -16,13 +16,13 @@ use std::test::Fail;
 /// A line of a script.
 #[derive(Clone, Copy)]
 pub(crate) enum Line<'a> {
-    /// What is answered behind a statement.
+    /// What is answered after a statement.
     After(u32),
-    /// What is answered in front of a statement.
+    /// What is answered before a statement.
     Before(u32),
-    /// What is answered behind a statement, twice, each with its cost.
+    /// What is answered after a statement, twice, each with its cost.
     Twice(u32),
-    /// A ticket for the place behind a statement is opened.
+    /// A ticket for the place after a statement is opened.
     Ask(u32),
     /// So many cells are filled for a ticket.
     Step(u64, u32),

@@ -41,7 +41,7 @@ pub(crate) fn table_of(alloc: Global, text: &str) -> Result<Table, Fail> {
     Ok(check_table(alloc, &program)?)
 }
 
-/// The number behind those of the statements.
+/// The number after those of the statements.
 pub(crate) fn next_of(table: &Table) -> Result<u32, Fail>
     ensures positive { IfOk result (λ n. 0 < n) }
     ensures low { IfOk result (λ n. n ≤ 1000001) }

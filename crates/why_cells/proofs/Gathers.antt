@@ -86,7 +86,7 @@ adding_next first more now new i n l at h e = go (inserted now n new e)
 pub adding_at : (first more now new : List ℕ) (i d : ℕ) → i < length more → Adding first more i now → new ≡ insert_key nat_eq now (get_or more i d) → Adding first more (i + 1) new
 adding_at first more now new i d l h e = adding_next first more now new i (get_or more i d) l (get_or_default more i d (get_or more i d) l) h e
 
--- What is kept while the inputs of the cells are looked at in turn: those in front of `next` are done.
+-- What is kept while the inputs of the cells are looked at in turn: those before `next` are done.
 pub record Gathers {V : Type 0} (cells : Cells V) (seeds : List ℕ) (next : ℕ) (out : List ℕ) : Type 0 where
   pub once : IsOnce out
   pub there : (n : ℕ) → IsIn out n → IsSome (get cells n)

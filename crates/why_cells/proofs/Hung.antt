@@ -74,7 +74,7 @@ module _ {S : Type 0} (dom : Operations S) where
     unfolding inputs
     inputs_are x a e h = input_alone dom plan.engine plan.program same_name x a e h
 
-    -- what a row behind a simple statement hangs on: what its first input's cell holds
+    -- what a row after a simple statement hangs on: what its first input's cell holds
     pub effect_matters : (cell n : ℕ) (x : CellName) (r : Row) → (c : IsCellAt store cell x) → flat_row plan.engine (reverse plan.program) x.path x.point ≡ Some r → is_effect r ≡ true → slice_get c.cell.inputs 0 ≡ Some n → IsSome (get store.graph.cells n) →
         (v : plain.Value S) × (value_in store n ≡ Some v) × (is_live dom v ≡ matters dom (found dom plan) r)
     effect_matters cell n x r c row effect first there =

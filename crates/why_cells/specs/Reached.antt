@@ -29,7 +29,7 @@ pub record Joins (old more new : List ℕ) : Type 0 where
 abbrev pub AllNamed : List CellName → List CellName → Type 0
 AllNamed names xs = (x : CellName) → IsIn xs x → (n : ℕ) × (slice_get names n ≡ Some x)
 
--- the fixed point of the loop that a frame behind a path goes into
+-- the fixed point of the loop that a frame after a path goes into
 abbrev pub fix_of : NameFrame → List NameFrame → List CellName
 fix_of (InCall n) w = []
 fix_of (InLoop n k) w = name w (Fix n) ∷ []

@@ -8,7 +8,7 @@ use Rattle.daig_graph.specs.Cells.{Filled}
 use Rattle.daig_query.specs.declared.held.Held.{Held}
 use Rattle.daig_query.specs.declared.store.Store.{Store}
 
--- the row behind a simple statement, which is no break
+-- the row after a simple statement, which is no break
 abbrev pub is_effect_act : Act → Bool
 is_effect_act DoBreak = false
 is_effect_act (Does e) = true

@@ -102,7 +102,7 @@ fn row_of<'a>(flow: &'a Flow<'_>, names: &Names, name: &Name) -> Option<Row<'a>>
     flow.row(last_frame(names, name.path), name.point)
 }
 
-/// Whether the row of a name is that of a point behind a simple statement, which is no break.
+/// Whether the row of a name is that of a point after a simple statement, which is no break.
 fn is_effect(row: &Row<'_>) -> bool
     ensures is { (w : List PathFrame) → result ≡ is_effect (row_in w row.now) }
 {
@@ -179,7 +179,7 @@ fn hung_on<D: Domain>(engine: &Engine<D>, flow: &Flow<'_>, cell: usize) -> Optio
     }
 }
 
-/// The statements that the names of these cells hang on. It takes constant time for each cell, but for a leap, which takes
+/// The statements that the names of these cells hang on. It takes constant time for each cell, except a leap, which takes
 /// time linear in the breaks of its loop.
 ///
 /// # Errors

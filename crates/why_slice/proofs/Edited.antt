@@ -99,7 +99,7 @@ module _ (s t : ℕ) (a : Action) where
       block_same tree.Ends = refl
       block_same (tree.Starts x ss) = statement_same x (code_in F ss) (code_in F' ss) (block_same ss)
 
-    -- what is known behind a statement
+    -- what is known after a statement
     rest_only : (x : Statement) (r : Code) → OnlySimple s (statement_in F x r) → OnlySimple s r
     rest_only (tree.Simple n b) r h = h
     rest_only (tree.Break n) r h = h.1

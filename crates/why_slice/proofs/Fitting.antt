@@ -103,7 +103,7 @@ module _ {S : Type 0} (dom : Operations S) (engine : LoopOptions) (covers : S �
       round_fits c b (suc k) a h i g =
           iterate_fits (l ∷ ls) scope.thresholds rising (one_round dom engine scope z c b) (λ v j. (block_fits b (lift (dom.assume c true) v) i (fit_assume dom engine covers laws c true l ls v h j)).value) (suc k) a.value g
 
-      -- What stands in front of a statement of a block fits, and the statement does.
+      -- What stands before a statement of a block fits, and the statement does.
       pub record AtFits (x : ℕ × At (Cell S)) : Type 0 where
         pub front : G x.1.before.value.value (l ∷ ls)
         pub code : FitsCode before l x.1.code
@@ -124,7 +124,7 @@ module _ {S : Type 0} (dom : Operations S) (engine : LoopOptions) (covers : S �
       level_fits (Call n i q r) x h u g = each_more AtFits (E x (Call n i q r)) _ (record { front = g; code = h; suits = u }) (level_fits r (behind_it engine A scope z (Call n i q r) x) h.1 u (after_fits (Call n i q r) x.value.value h g))
       level_fits (Break n r) x h u g = each_more AtFits (E x (Break n r)) _ (record { front = g; code = h; suits = u }) (level_fits r (behind_it engine A scope z (Break n r) x) h u (after_fits (Break n r) x.value.value h g))
 
-    -- A block that a path leads to fits, with what is in front of it.
+    -- A block that a path leads to fits, with what is before it.
     pub record PlaceFits (b : P) : Type 0 where
       pub frame : Layout
       pub below : List Layout

@@ -1,4 +1,4 @@
--- Behind a value that is an Over or dead two simple statements give the same.
+-- After a value that is an Over or dead two simple statements give the same.
 use Rattle.std.proofs.Common.{◌≡◌, ℕ, zero, suc, List, ◌∷◌, reverse, slice_get, Option, Some, None, Bool, true, false, refl, sym, ap, ◌∙◌, subst}
 use Rattle.imp_slots.specs.Plain.{Layout, Guard, Effect, DoBreak, Does, Invoke, Code, Stop, Simple, If, While, Call, Break, Routine}
 use Rattle.imp_slots.specs.Fits.{fits_effect, IsChecked}
@@ -58,7 +58,7 @@ module _ {S : Type 0} (dom : Operations S) (engine : LoopOptions) (covers : S �
     abbrev found : CellName → Cell S
     found = found_by dom engine program same
 
-    -- the effect of a row behind a simple statement
+    -- the effect of a row after a simple statement
     abbrev effect_of : Row → Option Effect
     effect_of (Init layout) = None
     effect_of (One (Posts DoBreak) a) = None
@@ -93,7 +93,7 @@ module _ {S : Type 0} (dom : Operations S) (engine : LoopOptions) (covers : S �
     call_effects w i n None p = refl
     call_effects w i n (Some d) p = refl
 
-    -- the value in front of a statement that a path leads to
+    -- the value before a statement that a path leads to
     found_front : (w : List NameFrame) (b : P) (y : M) (d : Code) → Led dom engine back (all_fine program checked) w b y d → found (name w y.point) ≡ y.value
     found_front w b y d l =
         let i = front_found dom engine back (all_fine program checked) w b y d l in
@@ -119,7 +119,7 @@ module _ {S : Type 0} (dom : Operations S) (engine : LoopOptions) (covers : S �
     idle_at w b y (Call n i j q) e p l k r h = let c = sym (ap effects r) ∙ call_effects w i n (in_call engine A b n y (Call n i j q)) y.point in absurd cc
     idle_at w b y (Break n q) e p l k r h = absurd cc
 
-    -- Behind the statement s of a program, where it is a simple one, another one gives the same, if the value in front of
+    -- After the statement s of a program, where it is a simple one, another one gives the same, if the value before
     -- it is not live.
     pub idle : (w : List NameFrame) (e : Effect) (p : Point) → HasName engine program (name w (Post s)) → flat_row engine back w (Post s) ≡ Some (One (Posts (Does e)) (name w p)) →
         is_live dom (found (name w p)).value ≡ false → unary dom engine (Posts (Does e)) (found (name w p)) ≡ unary dom engine (Posts (Does f)) (found (name w p))

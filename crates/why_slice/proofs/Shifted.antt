@@ -109,7 +109,7 @@ module _ (s t : ℕ) where
     break_numbers_swapped (Call n i q r) = break_numbers_swapped r
     break_numbers_swapped (Break n r) = ap (λ k. n ∷ k) (break_numbers_swapped r)
 
-    -- behind a statement that is not exchanged
+    -- after a statement that is not exchanged
     behind : {A : Type 0} (g : Point → A) (n : ℕ) → n ≢ s → g (Post n) ≡ g (shift_point (Post n))
     behind g n h = ap (λ k. g (Post k)) (sym (shift_other n h))
 

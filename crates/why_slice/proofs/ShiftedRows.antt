@@ -101,7 +101,7 @@ module _ (s t : ℕ) (f : Effect) where
     abbrev U : Type 0
     U = Mark (Unit {0})
 
-    -- A place of the text and the point in front of a statement, and the same in the other program.
+    -- A place of the text and the point before a statement, and the same in the other program.
     abbrev place : Routine → List Routine → List ℕ → Code → Q
     place r e z c = record { scope = scope_of engine bare r e; sites = z; code = c; first = mark Entry 0 tt }
 
@@ -220,7 +220,7 @@ module _ (s t : ℕ) (f : Effect) where
             ∙ shifted_callee (from e k) (n ∷ z) (mark Entry 1 tt) (λ c. One (Enters i.entering) (name w p)) (λ c. One (Enters i.entering) (name w (shift_point s t p))) (simple_from e k simple) (λ c h. refl)
         enter_shifts n (Break m q) = refl
 
-        -- behind a statement that is not the exchanged one
+        -- after a statement that is not the exchanged one
         pub post_shifts : (d : Code) → OnlySimple s d → number d ≢ s → Shifts (post_row engine bare w) d
         post_shifts Stop h o = refl
         post_shifts (Simple n x q) h o = ap (λ a. Some (One (Posts (Does a)) (name w (shift_point s t p)))) (pick_other s t f n x o)

@@ -123,7 +123,7 @@ module _ (s t : ℕ) (f : Effect) (engine : LoopOptions) (ps : List Routine) (si
       subst (λ j. by_text engine others w j g ≡ Some (shift_row s t r)) (shift_other s t n (λ j. i.0 (sym k.numbered ∙ j)))
       (text_at w n g (shift_row s t r) u p.1 (i.1 ∙ ap (option_map (shift_row s t)) p.2))
 
-  -- The row behind the exchanged statement.
+  -- The row after the exchanged statement.
   pub record Exchanges (w : List NameFrame) (r : Row) : Type 0 where
     pub effect : Effect
     pub front : Point

@@ -44,7 +44,7 @@ use Rattle.why_slice.proofs.ShiftedTargets.{simple_reversed, absent_reversed, sw
 use Rattle.why_slice.proofs.Fitting.{AllSuit, all_suit}
 use Rattle.why_slice.proofs.Idle.{idle}
 
--- whether a point is the one behind statement s
+-- whether a point is the one after statement s
 by_point : {X : Type 0} (s : ℕ) (p : Point) → (p ≡ Post s → X) → ((p ≡ Post s → ⊥) → X) → X
 by_point s Entry f g = g (λ e. absurd cc)
 by_point s Body f g = g (λ e. absurd cc)
@@ -201,7 +201,7 @@ module _ {S : Type 0} (dom : Operations S) (covers : S → Heap → List Variabl
         ∙ ap (λ o. by_row dom engine o (nothing dom engine) (λ r. operation_row dom engine r (map (value_of old) (inputs_of old x)))) (sym e);
   }
 
-  -- What is behind the exchanged statement has no live value in front of it.
+  -- What is after the exchanged statement has no live value before it.
   idle_row : (w : List NameFrame) → Need (name w (Post s)) → (r : Row) → flat_row engine back w (Post s) ≡ Some r → TurnedRow old new (shift s t) (name w (Post s))
   idle_row w n r e =
       let x = exchanged s t f engine back (simple_reversed s program simple) marked numbers_fresh w r e in

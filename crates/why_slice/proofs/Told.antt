@@ -43,7 +43,7 @@ listed_only (Some k) n (there m) = elim m [ ]
 listed_there : (o : Option ℕ) (n : ℕ) → o ≡ Some n → Member n (listed o)
 listed_there o n e = subst (λ o. Member n (listed o)) (sym e) here
 
--- items of lists that are put one behind another
+-- items of lists that are put one after another
 pub all_only : (nss : List (List ℕ)) (n : ℕ) → Member n (all_of nss) → (ns : List ℕ) × Member ns nss × Member n ns
 all_only [] n m = elim m [ ]
 all_only (ns ∷ nss) n m = elim (either n ns (all_of nss) m) [ inl a ↦ (ns, here, a) | inr b ↦ (let x = all_only nss n b in (x.0, there x.1, x.2)) ]

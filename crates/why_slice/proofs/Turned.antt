@@ -1,4 +1,4 @@
--- Two tables with the same rows but for the names, and for operations that give the same on the values that are there.
+-- Two tables with the same rows except the names, and for operations that give the same on the values that are there.
 use Rattle.std.proofs.Common.{◌≡◌, ℕ, zero, suc, ◌<◌, Bool, true, List, [], ◌∷◌, ◌++◌, map, Option, Some, option_map, refl, sym, ap, ◌∙◌, arith}
 use Rattle.daig_order.specs.Order.{member}
 use Rattle.daig_order.specs.Asking.{Rows, AreRows, gather, value_of, inputs_of}

@@ -28,7 +28,7 @@ statement_at (After n) = Some n
 statement_at (Head n) = Some n
 statement_at (End x) = None
 
--- The statement that a name names: the one of its point, of a break's point behind a loop the break; of a body's start the
+-- The statement that a name names: the one of its point, of a break's point after a loop the break; of a body's start the
 -- call or the loop of the last frame. The start of main names none.
 abbrev pub statement_of_name : List NameFrame → Point → Option ℕ
 statement_of_name [] Entry = None
@@ -63,7 +63,7 @@ module _ {S : Type 0} (dom : Operations S) where
   is_live (State s) = not (dom.dead s)
   is_live (Over n z) = false
 
-  -- What is behind a simple statement hangs on the statement only where the value in front of it is live; all else hangs
+  -- What is after a simple statement hangs on the statement only where the value before it is live; all else hangs
   -- on the statement that is named. A break is no simple statement here.
   abbrev pub matters_behind : Act → Value S → Bool
   matters_behind DoBreak v = true

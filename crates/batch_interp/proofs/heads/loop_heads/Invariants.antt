@@ -3,7 +3,7 @@ use Rattle.batch_interp.specs.Handing.{in_one, AreHanded}
 use Rattle.batch_interp.specs.Heads.{under_told, all_loops_told}
 use Rattle.batch_interp.proofs.heads.loop_heads.Given as goal
 
--- the loops of the procedures so far, and what they hand down to those in front
+-- the loops of the procedures so far, and what they hand down to those before
 abbrev pub invariant-loop-place : goal.invariant-loop-place
 invariant-loop-place g l =
     let dom = g.D.Domain.operations l.dom in

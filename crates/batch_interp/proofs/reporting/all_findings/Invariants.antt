@@ -3,7 +3,7 @@ use Rattle.batch_meaning.specs.Report.{finding, checked_statements}
 use Rattle.batch_interp.specs.Handing.{in_one, AreHanded}
 use Rattle.batch_interp.proofs.reporting.all_findings.Given as goal
 
--- the findings of the procedures so far, and what they hand down to those in front
+-- the findings of the procedures so far, and what they hand down to those before
 abbrev pub invariant-loop-place : goal.invariant-loop-place
 invariant-loop-place g l =
     let dom = g.D.Domain.operations l.dom in

@@ -6,7 +6,7 @@ use Rattle.cert_lines.specs.Certificate.{Certificate}
 use Rattle.cert_write.specs.Writing.{behind, lines_under}
 use Rattle.cert_write.proofs.lines.add_lines.Given as goal
 
--- what is written, with the loops to come behind it, is all
+-- what is written, with the loops to come after it, is all
 abbrev pub invariant-loop-head : goal.invariant-loop-head
 invariant-loop-head g l =
     let lines = lines_under (g.D.Domain.operations l.dom) (g.D.Portable.port l.dom) in

@@ -6,7 +6,7 @@ use Rattle.cert_lines.specs.Certificate.{Lines}
 use Rattle.cert_write.specs.Writing.{behind, all_lines}
 use Rattle.cert_write.proofs.writing.all_lines.Given as goal
 
--- what is written, with the chains to come behind it, is all
+-- what is written, with the chains to come after it, is all
 abbrev pub invariant-loop-under : goal.invariant-loop-under
 invariant-loop-under g l =
     let lines = all_lines (g.D.Domain.operations l.dom) (g.D.Portable.port l.dom) in

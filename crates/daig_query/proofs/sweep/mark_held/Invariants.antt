@@ -4,7 +4,7 @@ use Rattle.daig_query.specs.Swept.{AreMarked}
 use Rattle.daig_query.proofs.Sweeping.{Leaves}
 use Rattle.daig_query.proofs.sweep.mark_held.Given as goal
 
--- the states of the cells behind are marked, and there are as many marks more as cells at most
+-- the states of the cells after are marked, and there are as many marks more as cells at most
 abbrev pub invariant-loop-cell : goal.invariant-loop-cell
 invariant-loop-cell g l = record {
   states : states_in l.states ≡ states_in l.initial.states;

@@ -2,7 +2,7 @@ use Rattle.std.proofs.Common.{◌≡◌, ◌≤◌, ◌+◌, ◌-◌, ◌++◌, 
 use Rattle.dom_listseg_meaning.specs.Sets as sets
 use Rattle.dom_listseg_sets.proofs.merging.merge.Given as goal
 
--- the union of what is left of both goes behind the graphs that are there
+-- the union of what is left of both goes after the graphs that are there
 abbrev pub invariant-loop-left_place : goal.invariant-loop-left_place
 invariant-loop-left_place l = record {
   left_in : l.left_place ≤ length l.left;

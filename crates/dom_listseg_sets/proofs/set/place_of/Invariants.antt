@@ -2,7 +2,7 @@ use Rattle.std.proofs.Common.{◌≡◌, ◌≤◌, ◌++◌, ◌∷◌, ◌-◌
 use Rattle.dom_listseg_meaning.specs.Sets as sets
 use Rattle.dom_listseg_sets.proofs.set.place_of.Given as goal
 
--- the graph goes at the lower place or behind it, and at the upper place or before it
+-- the graph goes at the lower place or after it, and at the upper place or before it
 abbrev pub invariant-loop-low : goal.invariant-loop-low
 invariant-loop-low l = record {
   in_order : l.low ≤ l.high;

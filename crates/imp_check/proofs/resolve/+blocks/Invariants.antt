@@ -10,7 +10,7 @@ decreases-code_in l = goal.size-code_in l
 abbrev pub decreases-statement_in : goal.decreases-statement_in
 decreases-statement_in l = goal.size-statement_in l
 
--- the statements so far, with those to come behind them
+-- the statements so far, with those to come after them
 abbrev pub invariant-code_in-loop-stmt : goal.invariant-code_in-loop-stmt
 invariant-code_in-loop-stmt l = record {
   is : block_of l.stmt-items ≡ l.block;

@@ -6,7 +6,7 @@ use Rattle.imp_check.specs.Faults.{first}
 use Rattle.imp_check.specs.declared.entry.Entry.{Entry}
 use Rattle.imp_edit.proofs.neighbour_entries.put_come.Given as goal
 
--- the entries that are left come in front of those that are put
+-- the entries that are left come before those that are put
 abbrev pub invariant-loop-entry : goal.invariant-loop-entry
 invariant-loop-entry l = record {
   falling : AreFalling l.puts.items;

@@ -5,7 +5,7 @@ use Rattle.daig_session.specs.Holds.{Holds, IsReady}
 use Rattle.daig_session.specs.Reports.{checked_among, findings, work_on, HoldsAll}
 use Rattle.daig_session.proofs.session.Session.add_findings.Given as goal
 
--- the session stands for the machine behind the statements so far
+-- the session stands for the machine after the statements so far
 abbrev pub invariant-loop-stmt : goal.invariant-loop-stmt
 invariant-loop-stmt g l =
     let old = l.initial.self in
