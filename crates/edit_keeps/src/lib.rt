@@ -1,15 +1,11 @@
-//! Each accepted edit keeps the places of statements, and so does taking it back.
+//! What an accepted edit leaves of a program's places and cells, and what taking it back leaves.
 //!
-//! This is what the plan of an edit's removal asks of the two programs (`KeepPlaces` of crate `cell_kept_set`). The function
-//! does nothing when it runs; it carries the theorem as its clause.
+//! Each accepted edit keeps the places of statements. This is what the plan of an edit's removal asks of the two programs
+//! (`KeepPlaces` of crate `cell_kept_set`). Where they do, a plan of removal leaves exactly the kept cells (crate
+//! `edit_invalidate`). So a session that plans, exchanges the program and commits has the kept cells of the edit, which are
+//! cells of the new program, whether the edit is made, taken back or made again.
 //!
-//! What one accepted edit leaves of the cells of a program, and what taking it back leaves.
-//!
-//! Edits keep the places of statements (crate `edit_keeps`), and where they do, a plan of removal leaves exactly the
-//! kept cells (crate `edit_invalidate`). So a session that plans, exchanges the program and commits has the kept cells of
-//! the edit, which are cells of the new program, whether the edit is made, taken back or made again.
-//!
-//! The function does nothing when it runs; it carries its theorem as its clause.
+//! The functions do nothing when they run; each carries its theorem as its clause.
 #![tactic(auto)]
 
 ghost use Rattle.edit_keeps.specs.Claims.{EditsKeepPlaces};
