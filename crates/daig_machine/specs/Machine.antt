@@ -24,8 +24,8 @@ without_ticket n [] = []
 without_ticket n (t ∷ ts) = if t.number == n then without_ticket n ts else t ∷ without_ticket n ts
 
 -- The present program; how its loops are interpreted; the next number of a statement; the open tickets and the number of
--- the next one; the names that are kept, in the order in which they were filled; how many the last question filled; the programs before and after it, the nearest
--- first.
+-- the next one; the names that are kept, in the order in which they were filled; how many the last answered query, report,
+-- step or `why` filled; the programs before and after it, the nearest first.
 pub record Machine : Type 0 where
   pub program : List Procedure
   pub engine : LoopOptions

@@ -24,7 +24,7 @@ pub(crate) struct Going {
 }
 
 /// The program with those before it and after it, how its loops are interpreted, the next number of a statement, the
-/// open tickets, and how many cells the last question filled.
+/// open tickets, and how many cells the last answered query, report, step or `why` filled.
 #[derive(Drop)]
 pub(crate) struct Book {
     pub(crate) history: History,

@@ -79,7 +79,7 @@ impl<D: Domain> Session<D> {
         self.book.next
     }
 
-    /// How many cells the last question filled that was answered: a query or a step.
+    /// How many cells the last answered query, report, step or `why` filled.
     pub fn cost(&self) -> u64
         ensures is { (m : Machine) → Holds (D.operations self.now.engine.domain) self.now.engine.store self.now.book m → result ≡ m.cost }
     {
