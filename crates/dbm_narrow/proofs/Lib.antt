@@ -7,5 +7,7 @@ pub mod MiddleLemmas
 pub mod PartLemmas
 pub mod RoundLemmas
 pub mod RowLemmas
+pub mod SameLemmas
 pub mod StandingLemmas
 pub mod StepLemmas
+pub mod WideningLemmas

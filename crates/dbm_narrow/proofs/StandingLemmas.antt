@@ -139,14 +139,14 @@ module _ (kinds : List Bool) (xs ys : List ℤ) (q y : ℕ) (c : ℤ) (t : IsNar
         ∙ ap (λ z. stood_entry (entry (held kinds xs)) q y c z z) (flip-first k) ∙ sym (st.stood (2 * k + 1) (2 * k + 1) (omega arith) (omega arith));
   }
 
-  entries : HasEntries kinds (stood_entry (entry (held kinds xs)) q y c) (held kinds ys)
-  entries = HasEntries-from_kept kinds (stood_entry (entry (held kinds xs)) q y c) (held kinds ys) matrix refl coherent st.stood
+  pub stands-entries : HasEntries kinds (stood_entry (entry (held kinds xs)) q y c) (held kinds ys)
+  stands-entries = HasEntries-from_kept kinds (stood_entry (entry (held kinds xs)) q y c) (held kinds ys) matrix refl coherent st.stood
 
   pub stands-narrow : IsNarrow kinds ys
   stands-narrow = record { matrix = matrix; entries = st.entries }
 
   weights : q < length kinds → (y / 2 ≡ q → ⊥) → AreSoundWeights (equated (entry (held kinds xs)) q y c) (2 * length kinds) (entry (held kinds ys))
-  weights hq n = equated-weights (held kinds xs) (held kinds ys) q y c hq hy n (closed-strong kinds xs t h) entries
+  weights hq n = equated-weights (held kinds xs) (held kinds ys) q y c hq hy n (closed-strong kinds xs t h) stands-entries
 
   pub stands-closes : (a : Closed) → q < length kinds → (y / 2 ≡ q → ⊥) → IsFinishOf kinds (entry (held kinds ys)) a → ClosesEquated (held kinds xs) q y c a
   stands-closes a hq n f u g = close-from_entries kinds (equated (entry (held kinds xs)) q y c) (held kinds ys) u a refl g (weights hq n) f

@@ -2,9 +2,11 @@ pub mod Addings
 pub mod Closed
 pub mod Closings
 pub mod Entries
+pub mod Feeding
 pub mod Held
 pub mod Lowerings
 pub mod Middles
 pub mod Rounds
 pub mod Rows
 pub mod Standing
+pub mod Widenings

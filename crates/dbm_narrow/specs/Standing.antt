@@ -1,7 +1,7 @@
 -- A slot that stands for a node of another slot plus a number, in narrow entries.
-use Rattle.std.specs.Prelude.{◌≡◌, ℕ, ◌<◌, ◌+◌, ◌*◌, ◌^◌, ℤ, ◌+ℤ◌, Bool, cond, eqb, List, length}
+use Rattle.std.specs.Prelude.{◌≡◌, ℕ, ◌<◌, ◌+◌, ◌*◌, ◌^◌, ℤ, ◌+ℤ◌, Option, Some, None, Bool, cond, eqb, List, length}
 use Rattle.dbm_close.specs.declared.closed.Closed.TheVariants as wide
-use Rattle.dbm_core.specs.Half.{entry, row_width}
+use Rattle.dbm_core.specs.Half.{HalfMatrix, HasEntries, entry, row_width}
 use Rattle.dbm_core.specs.Nodes.{flip}
 use Rattle.dbm_incremental.specs.ClosedMatrices.{IsClosed}
 use Rattle.dbm_incremental.specs.Equations.{ClosesEquated, stood_entry}
@@ -35,3 +35,8 @@ abbrev pub IsEquatedOutcome : List Bool → List ℤ → List ℤ → ℕ → �
 IsEquatedOutcome kinds xs ys q y c Closed = EquatesClosed kinds xs ys q y c
 IsEquatedOutcome kinds xs ys q y c Empty = ClosesEquated (held kinds xs) q y c wide.Empty
 IsEquatedOutcome kinds xs ys q y c TooWide = Unit {0}
+
+-- m with slot q standing for node y plus c, where it fits
+abbrev pub StandsIf : HalfMatrix → ℕ → ℕ → ℤ → Option HalfMatrix → Type 0
+StandsIf m q y c None = Unit {0}
+StandsIf m q y c (Some n) = HasEntries m.kinds (stood_entry (entry m) q y c) n

@@ -1,14 +1,14 @@
 //! Closing a narrow matrix.
 ghost use Rattle.std.specs.Prelude.{◌≢◌, ◌<◌, ◌/◌, IfOk, length};
 ghost use Rattle.dbm_core.specs.Half.{entry, nodes};
-ghost use Rattle.dbm_core.specs.Limits.{IsZeroAtMost};
-ghost use Rattle.dbm_incremental.specs.ClosedMatrices.{IsClosed};
+ghost use Rattle.dbm_core.specs.Limits.{HasZeroDiagonal, IsZeroAtMost};
+ghost use Rattle.dbm_incremental.specs.ClosedMatrices.{IsClosed, IsWhole};
 ghost use Rattle.dbm_incremental.specs.Steps.{AreBounds};
 ghost use Rattle.dbm_narrow.specs.Closed.{IsClosing, IsClosingEquated, IsClosingLowered};
 
 use crate::Narrow;
 use crate::adding::close_lowered;
-use crate::closing::{ClosingResult, close_entries};
+use crate::closing::{ClosingResult, close_entries, close_own};
 use crate::standing::close_stood;
 use base_values::Memory;
 use dbm_incremental::Bound;
@@ -34,6 +34,22 @@ pub fn close(alloc: Global, m: &Narrow) -> Result<Closing, Memory>
     let kinds = Vec::from_slice(alloc, m.kinds.as_slice())?;
     let mut entries = Vec::from_slice(alloc, m.entries.as_slice())?;
     match close_entries(kinds.as_slice(), entries.as_mut_slice()) {
+        ClosingResult::Closed => Ok(Closing::Matrix(Narrow { kinds, entries })),
+        ClosingResult::Empty => Ok(Closing::Empty),
+        ClosingResult::TooWide => Ok(Closing::TooWide),
+    }
+}
+
+/// Closes a matrix that obeys the triangle law: its entries are the least weights of its walks, so this
+/// is one pass of tightening and strengthening.
+pub fn close_whole(alloc: Global, m: &Narrow) -> Result<Closing, Memory>
+    requires diagonal { HasZeroDiagonal (nodes m.now) (entry m.now) }
+    requires whole { IsWhole m.now }
+    ensures closing { IfOk result (IsClosing m.now) }
+{
+    let kinds = Vec::from_slice(alloc, m.kinds.as_slice())?;
+    let mut entries = Vec::from_slice(alloc, m.entries.as_slice())?;
+    match close_own(kinds.as_slice(), entries.as_mut_slice()) {
         ClosingResult::Closed => Ok(Closing::Matrix(Narrow { kinds, entries })),
         ClosingResult::Empty => Ok(Closing::Empty),
         ClosingResult::TooWide => Ok(Closing::TooWide),

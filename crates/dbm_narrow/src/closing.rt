@@ -1,6 +1,7 @@
 //! Closing, over entries.
 ghost use Rattle.dbm_narrow.specs.Closings.{IsOutcome};
 ghost use Rattle.dbm_narrow.specs.Held.{HasLowDiagonal};
+ghost use Rattle.dbm_narrow.specs.Lowerings.{HasOwnWeights};
 ghost use Rattle.dbm_narrow.specs.Rounds.{IsNarrow};
 
 use crate::steps::finish;
@@ -31,5 +32,18 @@ pub fn close_entries(kinds: &[bool], entries: &mut [i32]) -> ClosingResult
         },
         Walks::Negative => ClosingResult::Empty,
         Walks::TooWide => ClosingResult::TooWide,
+    }
+}
+
+/// Closes entries that are the least weights of their own walks, in place.
+pub fn close_own(kinds: &[bool], entries: &mut [i32]) -> ClosingResult
+    requires narrow { IsNarrow kinds.now entries.old }
+    requires weights { HasOwnWeights kinds.now entries.old }
+    ensures outcome { IsOutcome kinds.now entries.old entries.new result }
+{
+    if finish(kinds, entries) {
+        ClosingResult::Closed
+    } else {
+        ClosingResult::Empty
     }
 }

@@ -26,8 +26,8 @@ pub fn narrowed(alloc: Global, matrix: &Matrix) -> Result<Option<Narrow>, Memory
     Ok(Some(Narrow { kinds, entries }))
 }
 
-// The entry of a bound, if it lies within the limits.
-fn narrow_entry(bound: Option<i128>) -> Option<i32>
+/// The entry of a bound, if it lies within the limits.
+pub fn narrow_entry(bound: Option<i128>) -> Option<i32>
     ensures entry { IsEntryOf bound result }
 {
     match bound {

@@ -1,12 +1,17 @@
 //! Matrices of narrow entries.
 ghost use Rattle.std.specs.Prelude.{◌≡◌, ◌<◌, ◌^◌, IfOk};
+ghost use Rattle.std.specs.Cmp.{partial_equiv_from_equiv};
 ghost use Rattle.dbm_core.specs.Half.{IsMatrix, entry, nodes};
 ghost use Rattle.dbm_core.specs.Limits.{AreWithin};
+ghost use Rattle.dbm_core.specs.Same.{same_matrix, same_matrix-equiv, same_matrix-hash};
+ghost use Rattle.dbm_narrow.specs.Feeding.{matrix_fed};
 
 use crate::entries::wide_bound;
+use crate::feeding::feed_entries;
 use crate::rows::entry_at;
 use base_values::Memory;
 use std::alloc::Global;
+use std::hash::{Hash, Hasher};
 use std::marker::Model;
 
 /// Bounds on the values of at most 16 slots, each an int or an array's length, from -2^25 to 2^25.
@@ -28,6 +33,31 @@ impl Model for Narrow {
     ghost view = { λ a. held a.kinds.items a.entries.items };
 
     ghost invariant = { λ a. IsNarrow a.kinds.items a.entries.items };
+}
+
+/// Two matrices are equal where their kinds and their entries are.
+impl PartialEq for Narrow {
+    ghost eq = { same_matrix };
+
+    ghost laws = { partial_equiv_from_equiv same_matrix-equiv };
+
+    fn eq(&self, other: &Narrow) -> bool {
+        self.kinds == other.kinds && self.entries == other.entries
+    }
+}
+
+impl Eq for Narrow {
+    ghost laws = { same_matrix-equiv };
+}
+
+impl Hash for Narrow {
+    ghost hash_input = { matrix_fed };
+
+    ghost respects_eq = { same_matrix-hash matrix_fed };
+
+    fn hash<H: Hasher>(&self, state: &mut H) {
+        feed_entries(self.entries.as_slice(), state);
+    }
 }
 
 impl Narrow {

@@ -88,6 +88,20 @@ fn stand(kinds: &[bool], entries: &mut [i32], q: usize, y: usize, c: i32) -> boo
     true
 }
 
+/// Makes slot q stand for node y plus c, in place: whether c and each bound lie within the limits.
+pub fn stand_by(kinds: &[bool], entries: &mut [i32], q: usize, y: usize, c: i128) -> bool
+    requires narrow { IsNarrow kinds.now entries.old }
+    requires closed { IsClosed (held kinds.now entries.old) }
+    requires slot { q < length kinds.now }
+    requires node { y < 2 * length kinds.now }
+    ensures stands { result ≡ true → StandsTo kinds.now entries.old entries.new q y c }
+{
+    match small_bound(c) {
+        None => false,
+        Some(small) => stand(kinds, entries, q, y, small),
+    }
+}
+
 // The number's negative.
 #[inline]
 fn negative(c: i32) -> i32

@@ -1,5 +1,5 @@
 -- Closing a closed matrix to which bounds, or an equation, are added.
-use Rattle.std.specs.Prelude.{◌≡◌, ℕ, ◌*◌, ℤ, pos, ◌+ℤ◌, ◌-ℤ◌, neg_ℤ, Option, Some, None, Bool, cond, List, [], ◌∷◌, refl}
+use Rattle.std.specs.Prelude.{◌≡◌, ℕ, ◌*◌, ℤ, pos, ◌+ℤ◌, ◌-ℤ◌, neg_ℤ, Option, Some, None, Bool, cond, List, [], ◌∷◌, Result, Ok, Err, IfOk, refl}
 use Rattle.std.proofs.Common.{ap, subst, arith}
 use Rattle.std.proofs.lemmas.Int.{ints}
 use Rattle.dbm_core.proofs.HalfLemmas.{entry-coherent}
@@ -59,6 +59,10 @@ bounds_close m bs c h p =
     (IsZeroAtMost-entries m.kinds (lowered_all (entry m) bs) (with_bounds m bs) e (lowered_all-zero (entry m) (nodes m) bs (closed-zero m h)))
     (p (with_bounds m bs) e)
 
+pub bounds_close_if : {E : Type 0} (m : HalfMatrix) (bs : List Bound) (r : Result Closed E) → IsClosed m → IfOk r (ClosesAllLowered m bs) → IfOk r (λ s. s ≡ close_of (with_bounds m bs))
+bounds_close_if m bs (Ok c) h p = bounds_close m bs c h p
+bounds_close_if m bs (Err e) h p = tt
+
 -- the two bounds of the equation
 abbrev there : ℕ → ℕ → ℤ → Bound
 there x i c = record { row = i; column = 2 * x; bound = (pos 0 +ℤ c) -ℤ pos 0 }
@@ -85,6 +89,10 @@ equation_close m x i c a h p =
     close_of-only (with_equation (without m x) (slot_form x) (Node i c)) a e.matrix
     (IsZeroAtMost-entries m.kinds (equated (entry m) x i c) (with_equation (without m x) (slot_form x) (Node i c)) e (equated-zero m x i c h))
     (p (with_equation (without m x) (slot_form x) (Node i c)) e)
+
+pub equation_close_if : {E : Type 0} (m : HalfMatrix) (x i : ℕ) (c : ℤ) (r : Result Closed E) → IsClosed m → IfOk r (ClosesEquated m x i c) → IfOk r (λ s. s ≡ close_of (with_equation (without m x) (slot_form x) (Node i c)))
+equation_close_if m x i c (Ok a) h p = equation_close m x i c a h p
+equation_close_if m x i c (Err e) h p = tt
 
 -- no bound changes the kinds
 pub bound-kinds : (m : HalfMatrix) (o : Option Bound) → (with_bound_if m o).kinds ≡ m.kinds

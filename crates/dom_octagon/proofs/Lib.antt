@@ -1,8 +1,10 @@
 pub mod Bounds
+pub mod Carried
+pub mod Collected
 pub mod Copies
 pub mod Entering
 pub mod FirstKinds
+pub mod Stood
 pub mod Tables
 pub mod Triangles
 pub mod Words
-pub mod Carried

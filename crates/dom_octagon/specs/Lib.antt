@@ -1,4 +1,5 @@
 pub mod Added
+pub mod Assigned
 pub mod Checked
 pub mod GoodForms
 pub mod Lists

@@ -1,4 +1,4 @@
-//! Assigning to a slot, for `value` of `assigned` and `exact` of `close_assigned`.
+//! Assigning to a slot, for `exact` of `close_assigned` and of `close_assigned_within`.
 ghost use Rattle.std.specs.Prelude.{◌≡◌, ◌≢◌, ◌/◌, ◌<◌, ◌^◌, ◌-ℤ◌, Some, IfOk};
 ghost use Rattle.dbm_core.specs.Half.{entry, nodes};
 ghost use Rattle.dbm_core.specs.Limits.{IsLimited, IsWithin};
@@ -9,21 +9,25 @@ ghost use Rattle.dbm_incremental.specs.ClosedMatrices.{IsClosed};
 ghost use Rattle.dom_octagon_meaning.specs.declared.form.Form.TheVariants.{Constant, Node};
 ghost use Rattle.dom_octagon_meaning.specs.Forms.{slot_form as slot_form_of};
 ghost use Rattle.dom_octagon_meaning.specs.Matrices as matrices;
+ghost use Rattle.dom_octagon.specs.Assigned.{assigned_within, carried_within, equal_within, made_equal, ranged_within};
 ghost use Rattle.dom_octagon.specs.GoodForms.{IsGoodForm};
 ghost use Rattle.dom_octagon_states.specs.Limits.{IsReady, IsTight};
 
+use crate::added::{close_with, close_with_more};
 use crate::evaluate::slot_form;
-use crate::matrices::{equation, meet_range};
+use crate::matrices::{difference, high_bound, low_bound, meet_range};
 use base_values::Memory;
 use dbm_core::{Matrix, other_sign};
-use dbm_incremental::{close_equation, is_whole};
 use dom_octagon_meaning::Form;
-use dom_octagon_states::{OctagonState, answered, close_changed, closed_matrix};
+use dom_octagon_states::{
+    Bounds, OctagonState, bounds_of, close_equation, close_kept, closed_matrix, forget, is_whole,
+    matrix_of_bounds, stood,
+};
 use num_bounds::Range;
 use std::alloc::Global;
 
 /// The bounds on a slot dropped.
-pub fn without(alloc: Global, m: &Matrix, k: usize) -> Result<Matrix, Memory>
+pub fn without(alloc: Global, m: &Bounds, k: usize) -> Result<Bounds, Memory>
     requires limited { IsLimited (2 ^ 64) m.now }
     ensures value { IfOk result (λ r. r ≡ matrices.without m.now k) }
     ensures ready { IfOk result IsReady }
@@ -31,7 +35,7 @@ pub fn without(alloc: Global, m: &Matrix, k: usize) -> Result<Matrix, Memory>
     ensures same { IsClosed m.now → close_of (matrices.without m.now k) ≡ Bounded (matrices.without m.now k) }
 {
     let _kinds = m.kinds();
-    m.forget(alloc, k)
+    forget(alloc, m, k)
 }
 
 /// Which node of the old matrix a node is, where slot x gets the value of its node i and a constant.
@@ -83,7 +87,7 @@ fn plus(bound: Option<i128>, by: i128) -> Option<i128>
 }
 
 /// The bound from a to b once slot x has got the value of its node i and a constant.
-fn shifted(m: &Matrix, x: usize, i: usize, c: i128, a: usize, b: usize) -> Option<i128>
+fn shifted(m: &Bounds, x: usize, i: usize, c: i128, a: usize, b: usize) -> Option<i128>
     requires row { a < nodes m.now }
     requires column { b < nodes m.now }
     requires small { IsWithin (2 ^ 64) (Some c) }
@@ -96,20 +100,20 @@ fn shifted(m: &Matrix, x: usize, i: usize, c: i128, a: usize, b: usize) -> Optio
 }
 
 /// Every bound on slot x carried over: the slot gets the value of its node i and a constant.
-pub fn carried(alloc: Global, m: &Matrix, x: usize, i: usize, c: i128) -> Result<Matrix, Memory>
+fn carried(alloc: Global, m: &Bounds, x: usize, i: usize, c: i128) -> Result<Matrix, Memory>
     requires small { IsWithin (2 ^ 64) (Some c) }
     requires limited { IsLimited (2 ^ 64) m.now }
     ensures value { IfOk result (λ r. r ≡ matrices.carried m.now x i c) }
     ensures ready { IfOk result IsReady }
 {
     let _kinds = m.kinds();
-    let mut set = m.copy(alloc)?;
+    let mut set = matrix_of_bounds(alloc, m)?;
     carry(&mut set, m, x, i, c);
     Ok(set)
 }
 
 /// Carries every bound on slot x over, in a copy of the matrix.
-fn carry(set: &mut Matrix, m: &Matrix, x: usize, i: usize, c: i128)
+fn carry(set: &mut Matrix, m: &Bounds, x: usize, i: usize, c: i128)
     requires copy { set.old ≡ m.now }
     requires small { IsWithin (2 ^ 64) (Some c) }
     requires limited { IsLimited (2 ^ 64) m.now }
@@ -131,35 +135,10 @@ fn carry(set: &mut Matrix, m: &Matrix, x: usize, i: usize, c: i128)
     );
 }
 
-/// The slot is equal to a form.
-fn equated(alloc: Global, m: &Matrix, x: usize, form: Form) -> Result<Matrix, Memory>
-    requires slot { x < 2 ^ 32 }
-    requires limited { IsLimited (2 ^ 64) m.now }
-    requires good { IsGoodForm (Some form) }
-    ensures value { IfOk result (λ r. r ≡ matrices.with_equation (matrices.without m.now x) (slot_form_of x) form) }
-    ensures ready { IfOk result IsReady }
-{
-    let mut free = without(alloc, m, x)?;
-    equation(&mut free, slot_form(x), form);
-    Ok(free)
-}
-
-/// The slot lies in a range.
-fn ranged(alloc: Global, m: &Matrix, x: usize, range: Range) -> Result<Matrix, Memory>
-    requires slot { x < 2 ^ 32 }
-    requires limited { IsLimited (2 ^ 64) m.now }
-    ensures value { IfOk result (λ r. r ≡ matrices.meets_range (matrices.without m.now x) x range) }
-    ensures ready { IfOk result IsReady }
-{
-    let mut free = without(alloc, m, x)?;
-    meet_range(&mut free, x, range);
-    Ok(free)
-}
-
 /// A closed matrix whose slot x gets a value of a range, closed.
 pub fn close_ranged(
     alloc: Global,
-    m: &Matrix,
+    m: &Bounds,
     x: usize,
     range: Range,
 ) -> Result<OctagonState, Memory>
@@ -167,26 +146,56 @@ pub fn close_ranged(
     requires tight { IsTight m.now }
     ensures exact { IfOk result (λ s. s ≡ close_of (matrices.meets_range (matrices.without m.now x) x range)) }
 {
-    let _low = range.lo();
-    let set = ranged(alloc, m, x, range)?;
-    close_changed(alloc, m, set, x)
+    let free = without(alloc, m, x)?;
+    let high = high_bound(&free, x, range);
+    let low = low_bound(&free, x, range);
+    close_with(alloc, &free, high, low)
+}
+
+/// A closed matrix whose slot x is equal to a form without it, closed.
+fn close_form(alloc: Global, m: &Bounds, x: usize, form: Form) -> Result<OctagonState, Memory>
+    requires slot { x < 2 ^ 32 }
+    requires tight { IsTight m.now }
+    requires good { IsGoodForm (Some form) }
+    ensures exact { IfOk result (λ s. s ≡ close_of (made_equal m.now x form)) }
+{
+    let free = without(alloc, m, x)?;
+    let there = difference(slot_form(x), form, 0);
+    let back = difference(form, slot_form(x), 0);
+    close_with(alloc, &free, there, back)
 }
 
 /// A closed matrix whose slot x gets a constant, closed.
-fn close_constant(alloc: Global, m: &Matrix, x: usize, c: i128) -> Result<OctagonState, Memory>
+fn close_constant(alloc: Global, m: &Bounds, x: usize, c: i128) -> Result<OctagonState, Memory>
     requires slot { x < 2 ^ 32 }
     requires tight { IsTight m.now }
     requires good { IsGoodForm (Some (Constant c)) }
     ensures exact { IfOk result (λ s. s ≡ close_of (matrices.with_equation (matrices.without m.now x) (slot_form_of x) (Constant c))) }
 {
-    let set = equated(alloc, m, x, Form::Constant(c))?;
-    close_changed(alloc, m, set, x)
+    close_form(alloc, m, x, Form::Constant(c))
+}
+
+/// The same in either form: slot x stands for its own node, where the narrow form fits.
+fn carried_bounds(alloc: Global, m: &Bounds, x: usize, i: usize, c: i128) -> Result<Bounds, Memory>
+    requires tight { IsTight m.now }
+    requires small { IsWithin (2 ^ 64) (Some c) }
+    ensures value { IfOk result (λ r. r ≡ matrices.carried m.now x i c) }
+    ensures ready { IfOk result IsReady }
+{
+    let slots = m.kinds().len();
+    if x < slots && i / 2 == x {
+        match stood(alloc, m, x, i, c)? {
+            Some(set) => return Ok(set),
+            None => {}
+        }
+    }
+    bounds_of(alloc, carried(alloc, m, x, i, c)?)
 }
 
 /// A closed matrix whose slot x gets its own node i and a constant, closed.
 fn close_carried(
     alloc: Global,
-    m: &Matrix,
+    m: &Bounds,
     x: usize,
     i: usize,
     c: i128,
@@ -195,15 +204,14 @@ fn close_carried(
     requires small { IsWithin (2 ^ 64) (Some c) }
     ensures exact { IfOk result (λ s. s ≡ close_of (matrices.carried m.now x i c)) }
 {
-    let _kinds = m.kinds();
-    let set = carried(alloc, m, x, i, c)?;
-    close_changed(alloc, m, set, x)
+    let set = carried_bounds(alloc, m, x, i, c)?;
+    close_kept(alloc, m, &set)
 }
 
 /// A closed matrix whose slot x gets another slot's node i and a constant, closed.
 fn close_equated(
     alloc: Global,
-    m: &Matrix,
+    m: &Bounds,
     x: usize,
     i: usize,
     c: i128,
@@ -216,17 +224,16 @@ fn close_equated(
 {
     let slots = m.kinds().len();
     if is_whole(m) && x < slots && i < 2 * slots {
-        return Ok(answered(close_equation(alloc, m, x, i, c)?));
+        return close_equation(alloc, m, x, i, c);
     }
-    let set = equated(alloc, m, x, Form::Node(i, c))?;
-    closed_matrix(alloc, &set)
+    close_form(alloc, m, x, Form::Node(i, c))
 }
 
 /// What an assignment leaves of a closed matrix: slot x gets the value of an expression of this form, if
 /// it has one, and of this range.
 pub fn close_assigned(
     alloc: Global,
-    m: &Matrix,
+    m: &Bounds,
     x: u32,
     form: Option<Form>,
     range: Range,
@@ -249,29 +256,90 @@ pub fn close_assigned(
     }
 }
 
-/// What an assignment makes of a closed matrix before it is closed: slot x gets the value of an expression of this form, if
-/// it has one, and of this range.
-pub fn assigned(
+/// A closed matrix whose slot x gets its own node i and a constant and then meets a range, closed.
+fn close_carried_within(
     alloc: Global,
-    m: &Matrix,
+    m: &Bounds,
+    x: usize,
+    i: usize,
+    c: i128,
+    within: Range,
+) -> Result<OctagonState, Memory>
+    requires slot { x < 2 ^ 32 }
+    requires tight { IsTight m.now }
+    requires small { IsWithin (2 ^ 64) (Some c) }
+    ensures exact { IfOk result (λ s. s ≡ close_of (carried_within m.now x i c within)) }
+{
+    let mut set = carried(alloc, m, x, i, c)?;
+    meet_range(&mut set, x, within);
+    let set = bounds_of(alloc, set)?;
+    closed_matrix(alloc, &set)
+}
+
+/// A closed matrix whose slot x gets a value of a range and then meets another, closed.
+fn close_ranged_within(
+    alloc: Global,
+    m: &Bounds,
+    x: usize,
+    range: Range,
+    within: Range,
+) -> Result<OctagonState, Memory>
+    requires slot { x < 2 ^ 32 }
+    requires tight { IsTight m.now }
+    ensures exact { IfOk result (λ s. s ≡ close_of (ranged_within m.now x range within)) }
+{
+    let free = without(alloc, m, x)?;
+    let high = high_bound(&free, x, range);
+    let low = low_bound(&free, x, range);
+    let most = high_bound(&free, x, within);
+    let least = low_bound(&free, x, within);
+    close_with_more(alloc, &free, high, low, most, least)
+}
+
+/// A closed matrix whose slot x is equal to a form without it and then meets a range, closed.
+fn close_form_within(
+    alloc: Global,
+    m: &Bounds,
+    x: usize,
+    form: Form,
+    within: Range,
+) -> Result<OctagonState, Memory>
+    requires slot { x < 2 ^ 32 }
+    requires tight { IsTight m.now }
+    requires good { IsGoodForm (Some form) }
+    ensures exact { IfOk result (λ s. s ≡ close_of (equal_within m.now x form within)) }
+{
+    let free = without(alloc, m, x)?;
+    let there = difference(slot_form(x), form, 0);
+    let back = difference(form, slot_form(x), 0);
+    let high = high_bound(&free, x, within);
+    let low = low_bound(&free, x, within);
+    close_with_more(alloc, &free, there, back, high, low)
+}
+
+/// What an assignment leaves of a closed matrix where the value lies in one more range: slot x gets the
+/// value of an expression of this form, if it has one, and of this range.
+pub fn close_assigned_within(
+    alloc: Global,
+    m: &Bounds,
     x: u32,
     form: Option<Form>,
     range: Range,
-) -> Result<Matrix, Memory>
-    requires limited { IsLimited (2 ^ 64) m.now }
+    within: Range,
+) -> Result<OctagonState, Memory>
+    requires tight { IsTight m.now }
     requires good { IsGoodForm form }
-    ensures value { IfOk result (λ r. r ≡ matrices.assigned m.now x form range) }
-    ensures ready { IfOk result IsReady }
+    ensures exact { IfOk result (λ s. s ≡ close_of (assigned_within m.now x form range within)) }
 {
     let x = x as usize;
     match form {
-        None => ranged(alloc, m, x, range),
-        Some(Form::Constant(c)) => equated(alloc, m, x, Form::Constant(c)),
+        None => close_ranged_within(alloc, m, x, range, within),
+        Some(Form::Constant(c)) => close_form_within(alloc, m, x, Form::Constant(c), within),
         Some(Form::Node(i, c)) => {
             if i / 2 == x {
-                carried(alloc, m, x, i, c)
+                close_carried_within(alloc, m, x, i, c, within)
             } else {
-                equated(alloc, m, x, Form::Node(i, c))
+                close_form_within(alloc, m, x, Form::Node(i, c), within)
             }
         }
     }

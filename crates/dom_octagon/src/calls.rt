@@ -15,7 +15,9 @@ use crate::matrices::meet_range;
 use base_values::Memory;
 use dbm_core::Matrix;
 use dom_octagon_meaning::ArgumentSource;
-use dom_octagon_states::{OctagonState, close_kept, closed_matrix, closure, empty};
+use dom_octagon_states::{
+    Bounds, OctagonState, bounds_of, close_kept, closed_matrix, closure, empty,
+};
 use imp_slots::{Argument, Entering, Layout, NumericSlot, SlotExpr, SlotExprNode};
 use std::alloc::{AllocError, Global};
 
@@ -60,11 +62,12 @@ pub fn initial(alloc: Global, main: &Layout) -> Result<OctagonState, Memory>
 {
     let kinds = kinds(alloc, main.numbers())?;
     let zeros = zeros(alloc, &kinds)?;
+    let zeros = bounds_of(alloc, zeros)?;
     closed_matrix(alloc, &zeros)
 }
 
 /// Where an int argument has its value from: a variable's or an array's slot, else its range.
-fn source(m: &Matrix, e: &SlotExpr) -> Option<ArgumentSource>
+fn source(m: &Bounds, e: &SlotExpr) -> Option<ArgumentSource>
     requires tight { IsTight m.now }
     ensures exact { result ≡ operations.source_of m.now e.now }
 {
@@ -78,7 +81,7 @@ fn source(m: &Matrix, e: &SlotExpr) -> Option<ArgumentSource>
 }
 
 /// Any number of the range of an expression.
-fn ranged_source(m: &Matrix, e: &SlotExpr) -> Option<ArgumentSource>
+fn ranged_source(m: &Bounds, e: &SlotExpr) -> Option<ArgumentSource>
     requires tight { IsTight m.now }
     ensures exact { result ≡ operations.ranged_source m.now e.now }
 {
@@ -91,7 +94,7 @@ fn ranged_source(m: &Matrix, e: &SlotExpr) -> Option<ArgumentSource>
 /// The sources of the arguments that take numeric slots, after these.
 #[tactic(auto, using(crate::specs::Lists::behind_front))]
 fn sources(
-    m: &Matrix,
+    m: &Bounds,
     arguments: &[Argument],
     sources: Vec<ArgumentSource>,
 ) -> Result<Option<Vec<ArgumentSource>>, Memory>
@@ -129,7 +132,7 @@ fn source_at(sources: &[ArgumentSource], k: usize) -> Option<ArgumentSource>
 }
 
 /// The bound on two nodes of the caller's matrix, none where they are no nodes.
-pub fn bound_at(m: &Matrix, i: usize, j: usize) -> Option<i128>
+pub fn bound_at(m: &Bounds, i: usize, j: usize) -> Option<i128>
     ensures exact { result ≡ entry m.now i j }
 {
     let nodes = 2 * m.kinds().len();
@@ -142,7 +145,7 @@ pub fn bound_at(m: &Matrix, i: usize, j: usize) -> Option<i128>
 
 /// The bound between two nodes of the callee, by the sources of their slots.
 fn copied(
-    m: &Matrix,
+    m: &Bounds,
     i: usize,
     j: usize,
     first: Option<ArgumentSource>,
@@ -163,7 +166,7 @@ fn copied(
 }
 
 /// The bound between two nodes of the callee before those that ranges give.
-fn entered_bound(m: &Matrix, sources: &[ArgumentSource], i: usize, j: usize) -> Option<i128>
+fn entered_bound(m: &Bounds, sources: &[ArgumentSource], i: usize, j: usize) -> Option<i128>
     ensures exact { result ≡ operations.entered m.now sources.now i j }
 {
     if i == j {
@@ -181,7 +184,7 @@ fn entered_bound(m: &Matrix, sources: &[ArgumentSource], i: usize, j: usize) -> 
 /// The callee's matrix before the slots that have a range meet it.
 fn entered_matrix(
     alloc: Global,
-    m: &Matrix,
+    m: &Bounds,
     kinds: &[bool],
     sources: &[ArgumentSource],
 ) -> Result<Matrix, Memory>
@@ -220,7 +223,7 @@ fn meet_sources(m: &mut Matrix, k: usize, sources: &[ArgumentSource])
 }
 
 /// The state before a callee's body, from a closed matrix of the caller.
-fn entered_by(alloc: Global, entering: &Entering, m: &Matrix) -> Result<OctagonState, Memory>
+fn entered_by(alloc: Global, entering: &Entering, m: &Bounds) -> Result<OctagonState, Memory>
     requires tight { IsTight m.now }
     ensures exact { IfOk result (λ t. t ≡ operations.entered_by m.now entering.now.layout.numbers (operations.sources m.now entering.now.arguments)) }
 {
@@ -250,7 +253,7 @@ fn ordered(sources: &[ArgumentSource])
 /// The callee's matrix, closed.
 fn close_entered(
     alloc: Global,
-    m: &Matrix,
+    m: &Bounds,
     kinds: &[bool],
     sources: &[ArgumentSource],
 ) -> Result<OctagonState, Memory>
@@ -261,7 +264,8 @@ fn close_entered(
     ordered(sources);
     let mut callee = entered_matrix(alloc, m, kinds, sources)?;
     meet_sources(&mut callee, 0, sources);
-    close_kept(alloc, m, callee)
+    let callee = bounds_of(alloc, callee)?;
+    close_kept(alloc, m, &callee)
 }
 
 /// The state before a callee's body.

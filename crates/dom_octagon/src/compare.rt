@@ -13,10 +13,9 @@ use crate::added::close_with;
 use crate::evaluate::evaluate;
 use crate::matrices::{difference, side_at_least, side_at_most};
 use base_values::Memory;
-use dbm_core::Matrix;
 use dbm_incremental::Bound;
 use dom_octagon_meaning::Form;
-use dom_octagon_states::{OctagonState, closure, empty, joined};
+use dom_octagon_states::{Bounds, OctagonState, closure, empty, joined};
 use imp_slots::SlotExpr;
 use imp_syntax::Relation;
 use num_bounds::Range;
@@ -55,7 +54,7 @@ fn bottom(l: Range) -> i128
 }
 
 /// The bound that makes a less than b.
-fn less_bound(m: &Matrix, a: Option<Form>, b: Option<Form>, l: Range, r: Range) -> Option<Bound>
+fn less_bound(m: &Bounds, a: Option<Form>, b: Option<Form>, l: Range, r: Range) -> Option<Bound>
     requires left { IsGoodForm a }
     requires right { IsGoodForm b }
     ensures value { (n : HalfMatrix) → n.kinds ≡ m.now.kinds → with_bound_if n result ≡ operations.less_matrix n a b l r }
@@ -69,7 +68,7 @@ fn less_bound(m: &Matrix, a: Option<Form>, b: Option<Form>, l: Range, r: Range) 
 }
 
 /// The bound that makes a at most b.
-fn most_bound(m: &Matrix, a: Option<Form>, b: Option<Form>, l: Range, r: Range) -> Option<Bound>
+fn most_bound(m: &Bounds, a: Option<Form>, b: Option<Form>, l: Range, r: Range) -> Option<Bound>
     requires left { IsGoodForm a }
     requires right { IsGoodForm b }
     ensures value { (n : HalfMatrix) → n.kinds ≡ m.now.kinds → with_bound_if n result ≡ operations.at_most_matrix n a b l r }
@@ -84,7 +83,7 @@ fn most_bound(m: &Matrix, a: Option<Form>, b: Option<Form>, l: Range, r: Range) 
 
 fn less(
     alloc: Global,
-    m: &Matrix,
+    m: &Bounds,
     a: Option<Form>,
     b: Option<Form>,
     l: Range,
@@ -103,7 +102,7 @@ fn less(
 
 fn at_most(
     alloc: Global,
-    m: &Matrix,
+    m: &Bounds,
     a: Option<Form>,
     b: Option<Form>,
     l: Range,
@@ -122,7 +121,7 @@ fn at_most(
 
 fn equal(
     alloc: Global,
-    m: &Matrix,
+    m: &Bounds,
     a: Option<Form>,
     b: Option<Form>,
     l: Range,
@@ -142,7 +141,7 @@ fn equal(
 /// What is left where a is at most b and b at most a, closed once.
 fn met(
     alloc: Global,
-    m: &Matrix,
+    m: &Bounds,
     a: Option<Form>,
     b: Option<Form>,
     l: Range,
@@ -160,7 +159,7 @@ fn met(
 
 fn not_equal(
     alloc: Global,
-    m: &Matrix,
+    m: &Bounds,
     a: Option<Form>,
     b: Option<Form>,
     l: Range,
@@ -180,7 +179,7 @@ fn not_equal(
 pub fn related(
     alloc: Global,
     relation: Relation,
-    m: &Matrix,
+    m: &Bounds,
     a: Option<Form>,
     b: Option<Form>,
     l: Range,
@@ -207,7 +206,7 @@ fn compare_terms(
     relation: Relation,
     a: &SlotExpr,
     b: &SlotExpr,
-    m: &Matrix,
+    m: &Bounds,
 ) -> Result<OctagonState, Memory>
     requires tight { IsTight m.now }
     ensures exact { IfOk result (λ s. s ≡ operations.compare_terms relation a.now b.now m.now) }

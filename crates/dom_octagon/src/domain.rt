@@ -116,7 +116,7 @@ impl Domain for Octagon {
         steps: &mut Steps<L>,
     ) -> Result<OctagonState, Memory> {
         steps.tick();
-        closed(alloc, s)
+        closed(s)
     }
 
     fn ticks(&self) -> u32 {
@@ -136,7 +136,7 @@ impl Domain for Octagon {
     }
 
     fn copy(&self, alloc: Global, s: &OctagonState) -> Result<OctagonState, Memory> {
-        copy_of(alloc, s)
+        copy_of(s)
     }
 
     ghost laws = { λ d. octagon_laws };

@@ -8,10 +8,10 @@ ghost use Rattle.dom_octagon_meaning.specs.declared.form.Form.TheVariants.{Const
 ghost use Rattle.dom_octagon.specs.GoodForms.{HasShortNode, HasShortNodeIf, IsGoodForm};
 ghost use Rattle.dom_octagon_states.specs.Limits.{IsTight};
 
-use dbm_close::slot_range;
-use dbm_core::{Matrix, other_sign};
+use dbm_core::other_sign;
 use dom_numeric::operate;
 use dom_octagon_meaning::Form;
+use dom_octagon_states::{Bounds, slot_range};
 use imp_slots::{SlotExpr, SlotExprNode};
 use imp_syntax::Operator;
 use num_bounds::Range;
@@ -24,7 +24,7 @@ pub struct Valued {
 }
 
 /// The range of a slot of a closed matrix, the full one where there is no such slot.
-pub fn range(m: &Matrix, x: usize) -> Range
+pub fn range(m: &Bounds, x: usize) -> Range
     requires tight { IsTight m.now }
     ensures exact { result ≡ range_at m.now x }
 {
@@ -45,7 +45,7 @@ pub fn slot_form(x: usize) -> Form
 }
 
 /// A slot.
-pub fn slot(m: &Matrix, x: u32) -> Valued
+pub fn slot(m: &Bounds, x: u32) -> Valued
     requires tight { IsTight m.now }
     ensures range { result.range ≡ range_at m.now x }
     ensures form { result.form ≡ Some (forms.slot_form x) }
@@ -138,7 +138,7 @@ fn literal(n: u64) -> Valued
 }
 
 /// What is known of an expression of this range and this form.
-fn known(m: &Matrix, e: &SlotExpr, range: Range, form: Option<Form>) -> Valued
+fn known(m: &Bounds, e: &SlotExpr, range: Range, form: Option<Form>) -> Valued
     requires tight { IsTight m.now }
     requires range { range_of m.now e.now ≡ Some range }
     requires form { form ≡ forms.form_of e.now }
@@ -154,7 +154,7 @@ fn known(m: &Matrix, e: &SlotExpr, range: Range, form: Option<Form>) -> Valued
 
 /// What is known of an expression over a closed matrix, or `None` where it has no value.
 #[tactic(auto, unfolding(dom_numeric::specs::Ranges::range_by, dom_octagon_meaning::specs::Forms::form_of))]
-pub fn evaluate(m: &Matrix, e: &SlotExpr) -> Option<Valued>
+pub fn evaluate(m: &Bounds, e: &SlotExpr) -> Option<Valued>
     requires tight { IsTight m.now }
     ensures range { option_map (λ v. v.range) result ≡ range_of m.now e.now }
     ensures form { IfSome result (λ v. v.form ≡ forms.form_of e.now) }

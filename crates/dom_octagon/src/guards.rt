@@ -26,13 +26,7 @@ pub fn assumed(
                 compared(alloc, opposite_of(*relation), a, b, s)
             }
         }
-        SlotCondNode::CompareLinks(_, _, _) => {
-            if sense {
-                closed(alloc, s)
-            } else {
-                closed(alloc, s)
-            }
-        }
+        SlotCondNode::CompareLinks(_, _, _) => { if sense { closed(s) } else { closed(s) } }
         SlotCondNode::Not(c) => {
             if sense {
                 assumed(alloc, c, false, s)

@@ -4,9 +4,9 @@
 //! definitions of `dom_octagon_meaning`, whose laws are those of a domain. The domain is that of A. Miné,
 //! "The Octagon Abstract Domain", 2006.
 //!
-//! The states are those of `dom_octagon_states`, which closes each once. What an operation makes of a closed matrix is closed in
-//! quadratic time: after bounds, a call. After an assignment only the bounds on its slot are gone over. A matrix with bounds
-//! of 2^63 or more is closed whole.
+//! The states are those of `dom_octagon_states`, which closes each once. What an operation makes of a
+//! closed matrix is closed in quadratic time. Closed whole are a matrix with bounds of 2^63 or more, and
+//! what making an array by its own old length leaves.
 #![tactic(auto)]
 
 mod added;

@@ -1,16 +1,17 @@
 //! The bounds that comparisons, ranges and equations add, and what they make of a matrix before it is
 //! closed.
-ghost use Rattle.std.specs.Prelude.{◌≡◌, ◌<◌, ◌^◌, ◌+ℤ◌, ◌-ℤ◌, Some};
+ghost use Rattle.std.specs.Prelude.{◌≡◌, ◌<◌, ◌*◌, ◌+◌, ◌^◌, ◌+ℤ◌, ◌-ℤ◌, Some, neg_ℤ};
 ghost use Rattle.dbm_core.specs.Half.{HalfMatrix};
 ghost use Rattle.dbm_core.specs.Limits.{IsWithin};
 ghost use Rattle.dom_octagon_meaning.specs.Matrices as matrices;
-ghost use Rattle.dom_octagon.specs.Added.{IsSmallBound, with_bound_if};
+ghost use Rattle.dom_octagon.specs.Added.{IsEnd, IsSmallBound, with_bound_if};
 ghost use Rattle.dom_octagon.specs.GoodForms.{IsGoodForm};
 ghost use Rattle.dom_octagon_states.specs.Limits.{IsReady};
 
 use dbm_core::{Matrix, other_sign};
 use dbm_incremental::Bound;
 use dom_octagon_meaning::Form;
+use dom_octagon_states::Bounds;
 use num_bounds::Range;
 
 /// Makes the bound on `v_j - v_i` at most this one, where these are nodes of the matrix.
@@ -83,17 +84,6 @@ pub fn difference(a: Form, b: Form, k: i128) -> Option<Bound>
     }
 }
 
-/// Makes a equal to b.
-pub fn equation(m: &mut Matrix, a: Form, b: Form)
-    requires left { IsGoodForm (Some a) }
-    requires right { IsGoodForm (Some b) }
-    ensures value { m.new ≡ matrices.with_equation m.old a b }
-    ensures ready { IsReady m.old → IsReady m.new }
-{
-    bound_if(m, difference(a, b, 0));
-    bound_if(m, difference(b, a, 0));
-}
-
 /// The greatest value of a node of an int slot.
 fn node_extreme(i: usize) -> i128
     ensures value { result ≡ matrices.node_extreme i }
@@ -106,11 +96,10 @@ fn node_extreme(i: usize) -> i128
 }
 
 /// Whether an int slot's node is at most c anyway.
-fn is_beyond(m: &Matrix, i: usize, c: i128) -> bool
-    ensures value { result ≡ matrices.is_beyond m.now.kinds i c }
+fn is_beyond(kinds: &[bool], i: usize, c: i128) -> bool
+    ensures value { result ≡ matrices.is_beyond kinds.now i c }
 {
     let slot = i / 2;
-    let kinds = m.kinds();
     if slot < kinds.len() && kinds[slot] {
         return false;
     }
@@ -120,13 +109,13 @@ fn is_beyond(m: &Matrix, i: usize, c: i128) -> bool
 /// The bound that makes `v_i` at most an end of a range: an int slot takes none at or beyond its
 /// extreme.
 #[tactic(auto, unfolding(dom_octagon_meaning::specs::Matrices::meets_end))]
-fn end(m: &Matrix, i: usize, c: i128) -> Option<Bound>
+fn end(kinds: &[bool], i: usize, c: i128) -> Option<Bound>
     requires node { i < 2 ^ 60 }
     requires small { IsWithin (2 ^ 69) (Some c) }
-    ensures value { (n : HalfMatrix) → n.kinds ≡ m.now.kinds → with_bound_if n result ≡ matrices.meets_end n i c }
+    ensures value { (n : HalfMatrix) → n.kinds ≡ kinds.now → with_bound_if n result ≡ matrices.meets_end n i c }
     ensures small { IsSmallBound result }
 {
-    if is_beyond(m, i, c) {
+    if is_beyond(kinds, i, c) {
         None
     } else {
         greatest(i, c)
@@ -140,7 +129,7 @@ fn meet_end(m: &mut Matrix, i: usize, c: i128)
     ensures value { m.new ≡ matrices.meets_end m.old i c }
     ensures ready { IsReady m.old → IsReady m.new }
 {
-    let added = end(m, i, c);
+    let added = end(m.kinds(), i, c);
     bound_if(m, added);
 }
 
@@ -156,29 +145,47 @@ pub fn meet_range(m: &mut Matrix, k: usize, r: Range)
     meet_end(m, 2 * k + 1, -low);
 }
 
+/// The bound that makes a slot at most the greatest number of a range.
+pub fn high_bound(m: &Bounds, k: usize, r: Range) -> Option<Bound>
+    requires slot { k < 2 ^ 40 }
+    ensures value { IsEnd m.now.kinds (2 * k) r.hi result }
+    ensures small { IsSmallBound result }
+{
+    end(m.kinds(), 2 * k, r.hi() as i128)
+}
+
+/// The bound that makes a slot at least the least number of a range.
+pub fn low_bound(m: &Bounds, k: usize, r: Range) -> Option<Bound>
+    requires slot { k < 2 ^ 40 }
+    ensures value { IsEnd m.now.kinds (2 * k + 1) (neg_ℤ r.lo) result }
+    ensures small { IsSmallBound result }
+{
+    end(m.kinds(), 2 * k + 1, -(r.lo() as i128))
+}
+
 /// The bound that makes a side of a comparison h at most.
-pub fn side_at_most(m: &Matrix, form: Option<Form>, h: i128) -> Option<Bound>
+pub fn side_at_most(m: &Bounds, form: Option<Form>, h: i128) -> Option<Bound>
     requires good { IsGoodForm form }
     requires small { IsWithin (2 ^ 65) (Some h) }
     ensures value { (n : HalfMatrix) → n.kinds ≡ m.now.kinds → with_bound_if n result ≡ matrices.side_at_most n form h }
     ensures small { IsSmallBound result }
 {
     match form {
-        Some(Form::Node(i, c)) => end(m, i, h - c),
+        Some(Form::Node(i, c)) => end(m.kinds(), i, h - c),
         Some(Form::Constant(_)) => None,
         None => None,
     }
 }
 
 /// The bound that makes a side of a comparison l at least.
-pub fn side_at_least(m: &Matrix, form: Option<Form>, l: i128) -> Option<Bound>
+pub fn side_at_least(m: &Bounds, form: Option<Form>, l: i128) -> Option<Bound>
     requires good { IsGoodForm form }
     requires small { IsWithin (2 ^ 65) (Some l) }
     ensures value { (n : HalfMatrix) → n.kinds ≡ m.now.kinds → with_bound_if n result ≡ matrices.side_at_least n form l }
     ensures small { IsSmallBound result }
 {
     match form {
-        Some(Form::Node(i, c)) => end(m, other_sign(i), c - l),
+        Some(Form::Node(i, c)) => end(m.kinds(), other_sign(i), c - l),
         Some(Form::Constant(_)) => None,
         None => None,
     }

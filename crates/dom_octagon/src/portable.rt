@@ -12,24 +12,36 @@ use crate::domain::Octagon;
 use base_values::{Memory, Text};
 use cert_meaning::Portable;
 use dbm_core::Matrix;
-use dom_octagon_states::{OctagonState, closure, empty, matrix_of_state, widened_to};
+use dom_octagon_states::{
+    Bounds, OctagonState, bounds_of, closure, empty, matrix_of_bounds, matrix_of_state, widened_to,
+};
 use imp_slots::Layout;
 use std::alloc::Global;
 
 /// The matrix of a state, none where it is Empty.
 #[tactic(auto, using(crate::proofs::Carried::state_in_is))]
-fn matrix(s: &OctagonState) -> Option<&Matrix>
-    ensures exact { state_in (option_copied result) ≡ s.now }
+fn matrix(alloc: Global, s: &OctagonState) -> Result<Option<Matrix>, Memory>
+    ensures exact { IfOk result (λ o. state_in o ≡ s.now) }
 {
-    matrix_of_state(s)
+    wide(alloc, matrix_of_state(s))
 }
 
 /// The matrix of what closing a state answers.
 #[tactic(auto, using(crate::proofs::Carried::state_in_is))]
-fn closed_matrix(s: &OctagonState) -> Option<&Matrix>
-    ensures exact { state_in (option_copied result) ≡ states.closed s.now }
+fn closed_matrix(alloc: Global, s: &OctagonState) -> Result<Option<Matrix>, Memory>
+    ensures exact { IfOk result (λ o. state_in o ≡ states.closed s.now) }
 {
-    closure(s)
+    wide(alloc, closure(s))
+}
+
+/// The same matrix in the entries of `dbm_core`, if there is one.
+fn wide(alloc: Global, m: Option<&Bounds>) -> Result<Option<Matrix>, Memory>
+    ensures same { IfOk result (λ o. o ≡ option_copied m.entry) }
+{
+    match m {
+        None => Ok(None),
+        Some(m) => Ok(Some(matrix_of_bounds(alloc, m)?)),
+    }
 }
 
 /// The matrix of the state that has this text.
@@ -53,7 +65,7 @@ fn state(alloc: Global, matrix: Option<Matrix>) -> Result<OctagonState, Memory>
 {
     match matrix {
         None => Ok(empty()),
-        Some(m) => widened_to(alloc, m),
+        Some(m) => widened_to(alloc, bounds_of(alloc, m)?),
     }
 }
 
@@ -61,7 +73,8 @@ impl Portable for Octagon {
     ghost port = { λ d. octagon_port };
 
     fn put(&self, alloc: Global, s: &OctagonState) -> Result<Text, Memory> {
-        dom_octagon_words::put(alloc, matrix(s))
+        let matrix = matrix(alloc, s)?;
+        dom_octagon_words::put(alloc, matrix.as_ref())
     }
 
     #[tactic(auto, using(dom_octagon_words::proofs::Portable::taken_state))]
@@ -78,7 +91,9 @@ impl Portable for Octagon {
     }
 
     fn leq(&self, alloc: Global, l: &OctagonState, r: &OctagonState) -> Result<bool, Memory> {
-        Ok(dom_octagon_words::leq(closed_matrix(l), matrix(r)))
+        let left = closed_matrix(alloc, l)?;
+        let right = matrix(alloc, r)?;
+        Ok(dom_octagon_words::leq(left.as_ref(), right.as_ref()))
     }
 
     ghost port_laws = { λ d. octagon_portable };

@@ -7,8 +7,7 @@ ghost use Rattle.dom_octagon_states.specs.Limits.{IsTight};
 use crate::assign::close_ranged;
 use crate::evaluate::range;
 use base_values::Memory;
-use dbm_core::Matrix;
-use dom_octagon_states::{OctagonState, closed_copy, closure, empty};
+use dom_octagon_states::{Bounds, OctagonState, closed_copy, closure, empty};
 use imp_slots::Returning;
 use std::alloc::Global;
 
@@ -16,16 +15,16 @@ use std::alloc::Global;
 fn taken(
     alloc: Global,
     returning: Option<Returning>,
-    m: &Matrix,
-    callee: &Matrix,
+    m: &Bounds,
+    callee: &Bounds,
 ) -> Result<OctagonState, Memory>
     requires tight { IsTight m.now }
     requires callee { IsTight callee.now }
     ensures exact { IfOk result (λ t. t ≡ operations.returned (taken_of returning) m.now callee.now) }
 {
     match returning {
-        None => closed_copy(alloc, m),
-        Some(Returning::Link { to: _, from: _ }) => closed_copy(alloc, m),
+        None => closed_copy(m),
+        Some(Returning::Link { to: _, from: _ }) => closed_copy(m),
         Some(Returning::Numeric { to, from }) => {
             close_ranged(alloc, m, to as usize, range(callee, from as usize))
         }

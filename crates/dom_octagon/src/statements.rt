@@ -10,15 +10,13 @@ ghost use Rattle.dom_octagon_meaning.specs.States as states;
 ghost use Rattle.dom_octagon.specs.Checked.{closed_if};
 ghost use Rattle.dom_octagon_states.specs.Limits.{IsTight};
 
-use crate::assign::{assigned, close_assigned, without};
+use crate::assign::{close_assigned, close_assigned_within, without};
 use crate::evaluate::{evaluate, slot};
 use crate::guards::assumed;
 use crate::indices::{and_length, zero_and};
-use crate::matrices::meet_range;
 use base_values::Memory;
-use dbm_core::Matrix;
 use dom_numeric::LONGEST;
-use dom_octagon_states::{OctagonState, bounded, closed_copy, closed_matrix, closure, empty};
+use dom_octagon_states::{Bounds, OctagonState, bounded, closed_copy, closure, empty};
 use imp_slots::{SlotAction, SlotExpr, SlotStmt};
 use imp_syntax::Relation;
 use std::alloc::Global;
@@ -70,7 +68,7 @@ fn checked(
 }
 
 /// `x = e`
-fn set_int(alloc: Global, x: u32, e: &SlotExpr, m: &Matrix) -> Result<OctagonState, Memory>
+fn set_int(alloc: Global, x: u32, e: &SlotExpr, m: &Bounds) -> Result<OctagonState, Memory>
     requires tight { IsTight m.now }
     ensures exact { IfOk result (λ t. t ≡ operations.does_set x e.now m.now) }
 {
@@ -81,7 +79,7 @@ fn set_int(alloc: Global, x: u32, e: &SlotExpr, m: &Matrix) -> Result<OctagonSta
 }
 
 /// `a = array e`
-fn make_array(alloc: Global, a: u32, e: &SlotExpr, m: &Matrix) -> Result<OctagonState, Memory>
+fn make_array(alloc: Global, a: u32, e: &SlotExpr, m: &Bounds) -> Result<OctagonState, Memory>
     requires tight { IsTight m.now }
     ensures exact { IfOk result (λ t. t ≡ operations.does_make a e.now m.now) }
 {
@@ -90,16 +88,12 @@ fn make_array(alloc: Global, a: u32, e: &SlotExpr, m: &Matrix) -> Result<Octagon
     };
     match value.range.cut(0, LONGEST) {
         None => Ok(empty()),
-        Some(length) => {
-            let mut set = assigned(alloc, m, a, value.form, value.range)?;
-            meet_range(&mut set, a as usize, length);
-            closed_matrix(alloc, &set)
-        }
+        Some(length) => close_assigned_within(alloc, m, a, value.form, value.range, length),
     }
 }
 
 /// `a = b`, of arrays
-fn copy_array(alloc: Global, a: u32, b: u32, m: &Matrix) -> Result<OctagonState, Memory>
+fn copy_array(alloc: Global, a: u32, b: u32, m: &Bounds) -> Result<OctagonState, Memory>
     requires tight { IsTight m.now }
     ensures exact { IfOk result (λ t. t ≡ operations.does_copy a b m.now) }
 {
@@ -108,7 +102,7 @@ fn copy_array(alloc: Global, a: u32, b: u32, m: &Matrix) -> Result<OctagonState,
 }
 
 /// A slot gets any value.
-fn free(alloc: Global, x: u32, m: &Matrix) -> Result<OctagonState, Memory>
+fn free(alloc: Global, x: u32, m: &Bounds) -> Result<OctagonState, Memory>
     requires tight { IsTight m.now }
     ensures exact { IfOk result (λ t. t ≡ close_of (matrices.without m.now x)) }
 {
@@ -116,19 +110,19 @@ fn free(alloc: Global, x: u32, m: &Matrix) -> Result<OctagonState, Memory>
 }
 
 /// A statement that asks no more than that an expression has a value.
-fn needs_value(alloc: Global, e: &SlotExpr, m: &Matrix) -> Result<OctagonState, Memory>
+fn needs_value(alloc: Global, e: &SlotExpr, m: &Bounds) -> Result<OctagonState, Memory>
     requires tight { IsTight m.now }
     ensures exact { IfOk result (λ t. t ≡ operations.does_need e.now m.now) }
 {
     match evaluate(m, e) {
         None => Ok(empty()),
-        Some(_) => closed_copy(alloc, m),
+        Some(_) => closed_copy(m),
     }
 }
 
 /// What a statement does after its check, of a closed matrix.
 #[tactic(auto, unfolding(dom_octagon_meaning::specs::Operations::does))]
-fn done(alloc: Global, action: &SlotAction, m: &Matrix) -> Result<OctagonState, Memory>
+fn done(alloc: Global, action: &SlotAction, m: &Bounds) -> Result<OctagonState, Memory>
     requires tight { IsTight m.now }
     ensures exact { IfOk result (λ t. t ≡ operations.does (effect_of action.now) m.now) }
 {
@@ -141,13 +135,13 @@ fn done(alloc: Global, action: &SlotAction, m: &Matrix) -> Result<OctagonState, 
         SlotAction::CopyArray(a, b) => copy_array(alloc, *a, *b, m),
         SlotAction::WriteElement(_, _, f) => needs_value(alloc, f, m),
         SlotAction::WriteItem(_, e) => needs_value(alloc, e, m),
-        SlotAction::Skip => closed_copy(alloc, m),
-        SlotAction::Assert(_) => closed_copy(alloc, m),
-        SlotAction::SetNull(_) => closed_copy(alloc, m),
-        SlotAction::MakeCell(_) => closed_copy(alloc, m),
-        SlotAction::CopyLink(_, _) => closed_copy(alloc, m),
-        SlotAction::ReadNext(_, _) => closed_copy(alloc, m),
-        SlotAction::WriteNext(_, _) => closed_copy(alloc, m),
+        SlotAction::Skip => closed_copy(m),
+        SlotAction::Assert(_) => closed_copy(m),
+        SlotAction::SetNull(_) => closed_copy(m),
+        SlotAction::MakeCell(_) => closed_copy(m),
+        SlotAction::CopyLink(_, _) => closed_copy(m),
+        SlotAction::ReadNext(_, _) => closed_copy(m),
+        SlotAction::WriteNext(_, _) => closed_copy(m),
     }
 }
 

@@ -9,9 +9,9 @@ ghost use Rattle.dom_octagon_meaning.specs.Text as texts;
 use crate::calls::bound_at;
 use crate::evaluate::range;
 use base_values::{Memory, Text};
-use dbm_core::{Matrix, other_sign};
+use dbm_core::other_sign;
 use dom_numeric::{put_name, put_range, put_space};
-use dom_octagon_states::{OctagonState, closure};
+use dom_octagon_states::{Bounds, OctagonState, closure};
 use imp_slots::{Layout, NumericSlot};
 use itoa::Buffer;
 use std::alloc::Global;
@@ -20,7 +20,7 @@ use std::alloc::Global;
 #[tactic(auto, using(base_values::proofs::Joined::joined_3))]
 fn put_ranges(
     text: &mut Text,
-    m: &Matrix,
+    m: &Bounds,
     slot: usize,
     numbers: &[NumericSlot],
 ) -> Result<(), Memory>
@@ -64,7 +64,7 @@ fn is_sharper(bound: Option<i128>, other: Option<i128>) -> bool
 
 /// The bound on two nodes, where it is less than half the sum of their own.
 #[tactic(auto, using(crate::proofs::Tables::bound_within))]
-fn sharp(m: &Matrix, i: usize, j: usize) -> Option<i128>
+fn sharp(m: &Bounds, i: usize, j: usize) -> Option<i128>
     requires tight { IsTight m.now }
     requires row { i < 2 ^ 62 }
     requires column { j < 2 ^ 62 }
@@ -109,7 +109,7 @@ fn put_bound(
 #[tactic(auto, unfolding(dom_octagon_meaning::specs::Text::pair_text), using(base_values::proofs::Joined::joined_4))]
 fn put_pair(
     text: &mut Text,
-    m: &Matrix,
+    m: &Bounds,
     a: usize,
     first: &NumericSlot,
     b: usize,
@@ -130,7 +130,7 @@ fn put_pair(
 #[tactic(auto, using(base_values::proofs::Joined::joined_2))]
 fn put_pairs_with(
     text: &mut Text,
-    m: &Matrix,
+    m: &Bounds,
     a: usize,
     first: &NumericSlot,
     b: usize,
@@ -154,7 +154,7 @@ fn put_pairs_with(
 #[tactic(auto, using(base_values::proofs::Joined::joined_2))]
 fn put_pairs(
     text: &mut Text,
-    m: &Matrix,
+    m: &Bounds,
     slot: usize,
     numbers: &[NumericSlot],
 ) -> Result<(), Memory>
@@ -172,7 +172,7 @@ fn put_pairs(
 }
 
 /// The text of a closed matrix: `any` where there are no slots.
-fn matrix_text(alloc: Global, numbers: &[NumericSlot], m: &Matrix) -> Result<Text, Memory>
+fn matrix_text(alloc: Global, numbers: &[NumericSlot], m: &Bounds) -> Result<Text, Memory>
     requires tight { IsTight m.now }
     ensures value { IfOk result (λ v. v ≡ texts.matrix_text numbers.now m.now) }
 {

@@ -48,7 +48,7 @@ fn safe_if_empty(failing: &OctagonState) -> Verdict
 fn link_verdict(alloc: Global, q: u32, s: &OctagonState) -> Result<Verdict, Memory>
     ensures exact { IfOk result (λ v. v ≡ (if states.dead (operations.assume (checks.checked_guard (checks.IsCell q)) false s.now) then verdicts.Safe else verdicts.May)) }
 {
-    let null = closed(alloc, s)?;
+    let null = closed(s)?;
     Ok(safe_if_empty(&null))
 }
 
@@ -92,7 +92,7 @@ fn action_verdict(alloc: Global, action: &SlotAction, s: &OctagonState) -> Resul
 pub fn verdict(alloc: Global, stmt: &SlotStmt, s: &OctagonState) -> Result<Verdict, Memory>
     ensures exact { IfOk result (λ v. v ≡ operations.check (act_of stmt.now) s.now) }
 {
-    let closed = closed(alloc, s)?;
+    let closed = closed(s)?;
     if is_empty(&closed) {
         return Ok(Verdict::Dead);
     }

@@ -15,13 +15,13 @@ state_of Nothing = Empty
 state_of (Bounded m) = Matrix m
 state_of (Widened m c) = Matrix m
 
--- a closed matrix, or one within the limits and what closing it answers
-abbrev pub IsKept : Kept → Type 0
-IsKept Nothing = Unit {0}
-IsKept (Bounded m) = IsClosed m
-IsKept (Widened m c) = IsLimited (2 ^ 64) m × (c ≡ close_of m)
-
 -- the state of a matrix, if there is one
 abbrev pub bounded_if : Option HalfMatrix → Closed
 bounded_if None = Empty
 bounded_if (Some m) = Matrix m
+
+-- a closed matrix, or one within the limits and what closing it answers
+abbrev pub IsKept : Kept → Type 0
+IsKept Nothing = Unit {0}
+IsKept (Bounded m) = IsClosed m
+IsKept (Widened m c) = IsLimited (2 ^ 64) m × (bounded_if c ≡ close_of m)

@@ -1,2 +1,4 @@
+pub mod Feeding
+pub mod Held
 pub mod Kept
 pub mod Limits

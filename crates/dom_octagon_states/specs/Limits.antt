@@ -11,6 +11,10 @@ pub record IsTight (m : HalfMatrix) : Type 0 where
   pub limited : IsLimited (2 ^ 64) m
   pub ranges : HasNoEmptyRange m.kinds (entry m)
 
+-- a matrix within the limits of states
+abbrev pub IsInLimits : HalfMatrix → Type 0
+IsInLimits m = IsLimited (2 ^ 64) m
+
 -- a matrix that obeys the triangle law, and whose diagonal is 0
 pub record ObeysTriangles (m : HalfMatrix) : Type 0 where
   pub diagonal : HasZeroDiagonal (nodes m) (entry m)

@@ -1,21 +1,18 @@
 //! Closed states.
-ghost use Rattle.std.specs.Prelude.{◌≡◌, ◌<◌, ◌^◌, IfOk, IfSome, length};
+ghost use Rattle.std.specs.Prelude.{◌≡◌, ◌^◌, IfOk, IfSome};
 ghost use Rattle.std.specs.Option.{option_copied};
 ghost use Rattle.dbm_core.specs.Limits.{IsLimited};
-ghost use Rattle.dbm_close.specs.CloseOf.{close_of};
 ghost use Rattle.dbm_close.specs.declared.closed.Closed.TheVariants as variants;
-ghost use Rattle.dbm_incremental.specs.Answers.{IsClosedAnswer};
-ghost use Rattle.dbm_incremental.specs.ClosedMatrices.{IsClosed, IsWhole};
+ghost use Rattle.dbm_incremental.specs.ClosedMatrices.{IsClosed};
 ghost use Rattle.dom_octagon_meaning.specs.States as states;
 ghost use Rattle.dom_octagon_states.specs.Kept.{bounded_if};
-ghost use Rattle.dom_octagon_states.specs.Limits.{ChangesOnly, IsReady, IsTight, ObeysTriangles};
+ghost use Rattle.dom_octagon_states.specs.Limits.{IsTight};
 
 use crate::OctagonState;
+use crate::bounds::Bounds;
+use crate::closing::closed_matrix;
 use crate::kept::Kept;
 use base_values::Memory;
-use dbm_close::{Closed, close};
-use dbm_core::Matrix;
-use dbm_incremental::{close_slot, close_whole, is_whole};
 use std::alloc::Global;
 
 /// The state that describes nothing.
@@ -28,7 +25,7 @@ pub fn empty() -> OctagonState
 }
 
 /// The state of a closed matrix.
-pub fn bounded(m: Matrix) -> OctagonState
+pub fn bounded(m: Bounds) -> OctagonState
     requires closed { IsClosed m }
     ensures exact { result ≡ variants.Matrix m }
 {
@@ -37,78 +34,31 @@ pub fn bounded(m: Matrix) -> OctagonState
     }
 }
 
-/// The state that closing has answered.
-pub fn answered(answer: Closed) -> OctagonState
-    requires closed { IsClosedAnswer answer }
-    ensures exact { result ≡ answer }
-{
-    match answer {
-        Closed::Empty => empty(),
-        Closed::Matrix(m) => bounded(m),
-    }
-}
-
 /// The state of a matrix that is not closed.
 #[tactic(auto, using(crate::proofs::Tight::limited_ready))]
-pub fn widened_to(alloc: Global, m: Matrix) -> Result<OctagonState, Memory>
+pub fn widened_to(alloc: Global, m: Bounds) -> Result<OctagonState, Memory>
     requires limited { IsLimited (2 ^ 64) m }
     ensures exact { IfOk result (λ s. s ≡ variants.Matrix m) }
 {
-    let closure = close(alloc, &m)?;
+    let closed = closed_matrix(alloc, &m)?;
     Ok(OctagonState {
-        kept: Kept::Widened(m, closure),
+        kept: Kept::Widened(m, kept_matrix(closed)),
     })
 }
 
-/// The matrix closed.
-#[tactic(auto, using(crate::proofs::Tight::answer_closed))]
-pub fn closed_matrix(alloc: Global, m: &Matrix) -> Result<OctagonState, Memory>
-    requires ready { IsReady m.now }
-    ensures exact { IfOk result (λ s. s ≡ close_of m.now) }
+/// The matrix of a state, if it is not empty.
+fn kept_matrix(s: OctagonState) -> Option<Bounds>
+    ensures exact { bounded_if result ≡ s }
 {
-    let _kinds = m.kinds();
-    Ok(answered(close(alloc, m)?))
-}
-
-/// Closes what an operation has made of a closed matrix, where it keeps the triangle law: one that
-/// obeys it is closed in quadratic time.
-pub fn close_kept(alloc: Global, m: &Matrix, set: Matrix) -> Result<OctagonState, Memory>
-    requires tight { IsTight m.now }
-    requires ready { IsReady set }
-    requires keeps { IsWhole m.now → ObeysTriangles set }
-    ensures exact { IfOk result (λ s. s ≡ close_of set) }
-{
-    let _kinds = set.kinds();
-    if is_whole(m) {
-        return Ok(answered(close_whole(set)));
+    match s.kept {
+        Kept::Nothing => None,
+        Kept::Bounded(m) => Some(m),
+        Kept::Widened(m, _) => Some(m),
     }
-    closed_matrix(alloc, &set)
-}
-
-/// Closes what an operation has made of a closed matrix, where it changes the bounds on one slot alone
-/// and keeps the triangle law: in a matrix that obeys it only that slot's bounds are gone over.
-pub fn close_changed(
-    alloc: Global,
-    m: &Matrix,
-    set: Matrix,
-    slot: usize,
-) -> Result<OctagonState, Memory>
-    requires tight { IsTight m.now }
-    requires ready { IsReady set }
-    requires changes { slot < length m.now.kinds → ChangesOnly slot m.now set }
-    requires keeps { IsWhole m.now → ObeysTriangles set }
-    ensures exact { IfOk result (λ s. s ≡ close_of set) }
-{
-    let _kinds = set.kinds();
-    let slots = m.kinds().len();
-    if is_whole(m) && slot < slots {
-        return Ok(answered(close_slot(m, set, slot)));
-    }
-    close_kept(alloc, m, set)
 }
 
 /// The matrix of the closed state, if it is not empty.
-pub fn closure(s: &OctagonState) -> Option<&Matrix>
+pub fn closure(s: &OctagonState) -> Option<&Bounds>
     ensures exact { bounded_if (option_copied result) ≡ states.closed s.now }
     ensures tight { IfSome (option_copied result) IsTight }
 {
@@ -117,61 +67,51 @@ pub fn closure(s: &OctagonState) -> Option<&Matrix>
         Kept::Bounded(m) => Some(m),
         Kept::Widened(m, closure) => {
             let _kinds = m.kinds();
-            matrix_answered(closure)
+            closure.as_ref()
         }
     }
 }
 
-/// The matrix that closing has answered, if it is not empty.
-fn matrix_answered(answer: &Closed) -> Option<&Matrix>
-    ensures exact { bounded_if (option_copied result) ≡ answer.now }
-{
-    match answer {
-        Closed::Empty => None,
-        Closed::Matrix(m) => Some(m),
-    }
-}
-
 /// The state closed.
-pub fn closed(alloc: Global, s: &OctagonState) -> Result<OctagonState, Memory>
+pub fn closed(s: &OctagonState) -> Result<OctagonState, Memory>
     ensures exact { IfOk result (λ t. t ≡ states.closed s.now) }
 {
     match closure(s) {
         None => Ok(empty()),
-        Some(m) => closed_copy(alloc, m),
+        Some(m) => closed_copy(m),
     }
 }
 
-/// The state of a closed matrix, of which the state is a copy.
-pub fn closed_copy(alloc: Global, m: &Matrix) -> Result<OctagonState, Memory>
+/// The state of a closed matrix, which shares its entries.
+pub fn closed_copy(m: &Bounds) -> Result<OctagonState, Memory>
     requires tight { IsTight m.now }
     ensures exact { IfOk result (λ s. s ≡ variants.Matrix m.now) }
 {
-    Ok(bounded(m.copy(alloc)?))
+    Ok(bounded(m.copy()?))
 }
 
-/// What closing has answered, once more.
-fn copy_of_answer(alloc: Global, answer: &Closed) -> Result<Closed, Memory>
-    ensures same { IfOk result (λ c. c ≡ answer.now) }
-{
-    match answer {
-        Closed::Empty => Ok(Closed::Empty),
-        Closed::Matrix(m) => Ok(Closed::Matrix(m.copy(alloc)?)),
-    }
-}
-
-/// The state once more.
-pub fn copy_of(alloc: Global, s: &OctagonState) -> Result<OctagonState, Memory>
+/// The state once more, which shares its entries.
+pub fn copy_of(s: &OctagonState) -> Result<OctagonState, Memory>
     ensures same { IfOk result (λ t. t ≡ s.now) }
 {
     match &s.kept {
         Kept::Nothing => Ok(empty()),
         Kept::Bounded(m) => Ok(OctagonState {
-            kept: Kept::Bounded(m.copy(alloc)?),
+            kept: Kept::Bounded(m.copy()?),
         }),
         Kept::Widened(m, closure) => Ok(OctagonState {
-            kept: Kept::Widened(m.copy(alloc)?, copy_of_answer(alloc, closure)?),
+            kept: Kept::Widened(m.copy()?, copy_if(closure)?),
         }),
+    }
+}
+
+/// The matrix once more, if there is one.
+fn copy_if(closure: &Option<Bounds>) -> Result<Option<Bounds>, Memory>
+    ensures same { IfOk result (λ c. c ≡ closure.now) }
+{
+    match closure {
+        None => Ok(None),
+        Some(m) => Ok(Some(m.copy()?)),
     }
 }
 

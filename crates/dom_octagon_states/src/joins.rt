@@ -11,15 +11,16 @@ ghost use Rattle.dbm_incremental.specs.ClosedMatrices.{IsClosed};
 ghost use Rattle.dom_octagon_states.specs.Limits.{IsTight};
 
 use crate::OctagonState;
+use crate::bounds::Bounds;
 use crate::close::{bounded, closed_copy, closure, copy_of, empty, widened_to};
+use crate::operations::{join, widen};
 use crate::state::matrix_of_state;
 use base_values::Memory;
-use dbm_core::Matrix;
 use std::alloc::Global;
 
 /// Whether two matrices have the same kinds of slots.
 #[tactic(auto, using(crate::proofs::SameKinds::kinds_alike))]
-fn alike(a: &Matrix, b: &Matrix) -> bool
+fn alike(a: &Bounds, b: &Bounds) -> bool
     ensures exact { result ≡ operations.same_kinds a.now b.now }
     ensures same { result ≡ true → b.now.kinds ≡ a.now.kinds }
 {
@@ -27,7 +28,7 @@ fn alike(a: &Matrix, b: &Matrix) -> bool
 }
 
 /// The greater bound at each pair of closed matrices.
-fn join_of(alloc: Global, a: &Matrix, b: &Matrix) -> Result<Matrix, Memory>
+fn join_of(alloc: Global, a: &Bounds, b: &Bounds) -> Result<Bounds, Memory>
     requires same { b.now.kinds ≡ a.now.kinds }
     requires left { IsTight a.now }
     requires right { IsTight b.now }
@@ -36,11 +37,11 @@ fn join_of(alloc: Global, a: &Matrix, b: &Matrix) -> Result<Matrix, Memory>
 {
     let _left = a.kinds();
     let _right = b.kinds();
-    a.join(alloc, b)
+    join(alloc, a, b)
 }
 
 /// The left matrix widened by the right one.
-fn widening_of(alloc: Global, thresholds: &[i64], a: &Matrix, b: &Matrix) -> Result<Matrix, Memory>
+fn widening_of(alloc: Global, thresholds: &[i64], a: &Bounds, b: &Bounds) -> Result<Bounds, Memory>
     requires same { b.now.kinds ≡ a.now.kinds }
     requires left { IsLimited (2 ^ 64) a.now }
     requires right { IsLimited (2 ^ 64) b.now }
@@ -49,10 +50,10 @@ fn widening_of(alloc: Global, thresholds: &[i64], a: &Matrix, b: &Matrix) -> Res
 {
     let _left = a.kinds();
     let _right = b.kinds();
-    a.widen(alloc, thresholds, b)
+    widen(alloc, thresholds, a, b)
 }
 
-fn join_matrices(alloc: Global, a: &Matrix, b: &Matrix) -> Result<OctagonState, Memory>
+fn join_matrices(alloc: Global, a: &Bounds, b: &Bounds) -> Result<OctagonState, Memory>
     requires left { IsTight a.now }
     requires right { IsTight b.now }
     ensures exact { IfOk result (λ s. s ≡ operations.join_matrices a.now b.now) }
@@ -60,7 +61,7 @@ fn join_matrices(alloc: Global, a: &Matrix, b: &Matrix) -> Result<OctagonState, 
     if alike(a, b) {
         return Ok(bounded(join_of(alloc, a, b)?));
     }
-    closed_copy(alloc, a)
+    closed_copy(a)
 }
 
 /// What either state describes.
@@ -70,15 +71,15 @@ pub fn joined(alloc: Global, s: &OctagonState, t: &OctagonState) -> Result<Octag
 {
     match (closure(s), closure(t)) {
         (Some(a), Some(b)) => join_matrices(alloc, a, b),
-        (Some(a), None) => closed_copy(alloc, a),
-        (None, Some(b)) => closed_copy(alloc, b),
+        (Some(a), None) => closed_copy(a),
+        (None, Some(b)) => closed_copy(b),
         (None, None) => Ok(empty()),
     }
 }
 
 /// Whether two matrices are the same.
 #[tactic(auto, using(crate::proofs::SameKinds::matrices_same))]
-fn is_same(a: &Matrix, b: &Matrix) -> bool
+fn is_same(a: &Bounds, b: &Bounds) -> bool
     ensures exact { result ≡ same_matrix a.now b.now }
     ensures same { result ≡ true → a.now ≡ b.now }
 {
@@ -91,8 +92,8 @@ fn widen_matrices(
     alloc: Global,
     thresholds: &[i64],
     s: &OctagonState,
-    a: &Matrix,
-    b: &Matrix,
+    a: &Bounds,
+    b: &Bounds,
 ) -> Result<OctagonState, Memory>
     requires left { IsLimited (2 ^ 64) a.now }
     requires right { IsLimited (2 ^ 64) b.now }
@@ -102,7 +103,7 @@ fn widen_matrices(
 {
     let widening = widening_of(alloc, thresholds, a, b)?;
     if is_same(a, &widening) {
-        return copy_of(alloc, s);
+        return copy_of(s);
     }
     widened_to(alloc, widening)
 }
@@ -122,10 +123,10 @@ pub fn widened(
             if alike(a, b) {
                 return widen_matrices(alloc, thresholds, s, a, b);
             }
-            copy_of(alloc, s)
+            copy_of(s)
         }
-        (None, Some(b)) => closed_copy(alloc, b),
-        (Some(_), None) => copy_of(alloc, s),
+        (None, Some(b)) => closed_copy(b),
+        (Some(_), None) => copy_of(s),
         (None, None) => Ok(empty()),
     }
 }

@@ -1,6 +1,5 @@
 //! What is kept of a state.
-use dbm_close::Closed;
-use dbm_core::Matrix;
+use crate::bounds::Bounds;
 
 /// What is kept of a state. No operation closes what is closed.
 #[derive(Drop)]
@@ -8,7 +7,7 @@ pub enum Kept {
     /// The state that describes nothing.
     Nothing,
     /// A closed matrix.
-    Bounded(Matrix),
-    /// What widening gives: a matrix that is not closed, and what closing it answers.
-    Widened(Matrix, Closed),
+    Bounded(Bounds),
+    /// What widening gives: a matrix that is not closed, and what closing it answers, if not Empty.
+    Widened(Bounds, Option<Bounds>),
 }

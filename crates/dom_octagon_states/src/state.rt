@@ -2,11 +2,12 @@
 ghost use Rattle.std.specs.Prelude.{◌≡◌, ◌^◌, IfSome};
 ghost use Rattle.dbm_core.specs.Limits.{IsLimited};
 ghost use Rattle.std.specs.Option.{option_copied};
-ghost use Rattle.dom_octagon_meaning.specs.States.{same_state, state_equiv, state_per, state_fed, state_fed-same};
+ghost use Rattle.dom_octagon_meaning.specs.States.{same_state, state_equiv, state_per};
+ghost use Rattle.dom_octagon_states.specs.Feeding.{state_fed, state_fed-same};
 ghost use Rattle.dom_octagon_states.specs.Kept.{bounded_if};
 
+use crate::bounds::Bounds;
 use crate::kept::Kept;
-use dbm_core::Matrix;
 use std::hash::{Hash, Hasher};
 use std::marker::Model;
 
@@ -33,7 +34,7 @@ impl Model for OctagonState {
 
 /// The matrix of a state, closed or not, if there is one.
 #[tactic(auto, using(dbm_incremental::proofs::LawLemmas::closed_limited))]
-pub fn matrix_of_state(s: &OctagonState) -> Option<&Matrix>
+pub fn matrix_of_state(s: &OctagonState) -> Option<&Bounds>
     ensures exact { bounded_if (option_copied result) ≡ s.now }
     ensures limited { IfSome (option_copied result) (IsLimited (2 ^ 64)) }
 {

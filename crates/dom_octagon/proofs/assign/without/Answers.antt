@@ -1,7 +1,6 @@
 use Rattle.std.specs.Prelude.{◌≡◌, ◌^◌}
 use Rattle.dbm_core.proofs.ValuationLemmas.{entries-if_ok-then}
 use Rattle.dbm_core.specs.Half.{HasEntries, entry}
-use Rattle.dbm_core.specs.Limits.{IsLimited}
 use Rattle.dbm_core.specs.Operations.{forgotten}
 use Rattle.dom_octagon_meaning.proofs.Exact.{without-is}
 use Rattle.dom_octagon_meaning.specs.Matrices as matrices
@@ -9,6 +8,7 @@ use Rattle.dbm_incremental.proofs.KeepLemmas.{forget-closed}
 use Rattle.dbm_incremental.proofs.LawLemmas.{closed-same}
 use Rattle.dbm_incremental.specs.ClosedMatrices.{IsClosed}
 use Rattle.dom_octagon.proofs.Bounds.{without-entries}
+use Rattle.dom_octagon.proofs.Stood.{forgotten_limited}
 use Rattle.dom_octagon_states.proofs.Tight.{limited_ready}
 use Rattle.dom_octagon_states.specs.Limits.{IsReady}
 use Rattle.dom_octagon.proofs.assign.without.Goals as goal
@@ -18,7 +18,8 @@ returns-clause-value c = entries-if_ok-then (HasEntries c.args.m.now.kinds (forg
     (λ r. without-is c.args.m.now r c.args.k c.kinds-kinds.ensures.matrix) c.forget.ensures.entries
 
 pub returns-clause-ready : goal.returns-clause-ready
-returns-clause-ready c = entries-if_ok-then (IsLimited (2 ^ 64)) IsReady c.forget.result limited_ready (c.forget.ensures.limited (2 ^ 64) c.requires.limited)
+returns-clause-ready c = entries-if_ok-then (HasEntries c.args.m.now.kinds (forgotten (entry c.args.m.now) c.args.k)) IsReady c.forget.result
+    (λ r e. limited_ready r (forgotten_limited (2 ^ 64) c.args.m.now r c.args.k c.requires.limited e)) c.forget.ensures.entries
 
 pub returns-clause-closed : goal.returns-clause-closed
 returns-clause-closed c = λ h. entries-if_ok-then (HasEntries c.args.m.now.kinds (forgotten (entry c.args.m.now) c.args.k)) IsClosed c.forget.result

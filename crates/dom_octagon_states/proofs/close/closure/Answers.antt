@@ -8,7 +8,7 @@ use Rattle.dbm_incremental.proofs.LawLemmas.{closed-same}
 use Rattle.dbm_incremental.specs.ClosedMatrices.{IsClosed}
 use Rattle.dom_octagon_meaning.specs.States.{closed}
 use Rattle.dom_octagon_states.proofs.Tight.{limited_closed, tight_if}
-use Rattle.dom_octagon_states.specs.Kept.{IsKept, state_of}
+use Rattle.dom_octagon_states.specs.Kept.{IsKept, bounded_if, state_of}
 use Rattle.dom_octagon_states.proofs.close.closure.Goals as goal
 
 pub returns-in-Bounded-clause-exact : goal.returns-in-Bounded-clause-exact
@@ -19,5 +19,6 @@ returns-in-Bounded-clause-exact c =
 
 pub returns-in-Widened-clause-tight : goal.returns-in-Widened-clause-tight
 returns-in-Widened-clause-tight c =
-    let h : IsLimited (2 ^ 64) c.in-Widened.m × (c.in-Widened.closure ≡ close_of c.in-Widened.m) = subst IsKept c.in-Widened.is c.s.invariant in
-    tight_if (option_copied c.matrix_answered.result) c.in-Widened.closure c.matrix_answered.ensures.exact (limited_closed c.in-Widened.m c.in-Widened.closure c.kinds-kinds.ensures.matrix h.0 h.1)
+    let h : IsLimited (2 ^ 64) c.in-Widened.m × (bounded_if c.in-Widened.closure ≡ close_of c.in-Widened.m) = subst IsKept c.in-Widened.is c.s.invariant in
+    tight_if (option_copied c.as_ref.result) (bounded_if c.in-Widened.closure) (ap bounded_if c.as_ref.ensures.value)
+    (limited_closed c.in-Widened.m (bounded_if c.in-Widened.closure) c.kinds-kinds.ensures.matrix h.0 h.1)

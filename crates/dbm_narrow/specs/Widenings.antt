@@ -1,0 +1,40 @@
+-- What widening makes of narrow entries.
+use Rattle.std.specs.Prelude.{◌≡◌, ℕ, ◌<◌, ◌+◌, ◌^◌, ℤ, Option, Some, None, Bool, true, MatchOption, List, length}
+use Rattle.dbm_core.specs.Half.{HalfMatrix, HasEntries, row_start, row_width}
+use Rattle.dbm_core.specs.Nodes.{is_single}
+use Rattle.dbm_core.specs.Operations.{widen_bound, widened}
+use Rattle.dbm_narrow.specs.Entries.{IsEntry, at, wide}
+
+-- z is the entry x widened by y
+pub record IsWidened (thresholds : List ℤ) (doubled : Bool) (x y z : ℤ) : Type 0 where
+  pub bound : wide z ≡ widen_bound thresholds doubled (wide x) (wide y)
+  pub entry : IsEntry (2 ^ 25) z
+
+-- the widened entry, where it fits
+abbrev pub IsWidenedIf : List ℤ → Bool → ℤ → ℤ → Option ℤ → Type 0
+IsWidenedIf thresholds doubled x y o = MatchOption o (Unit {0}) (IsWidened thresholds doubled x y)
+
+-- the entry of the threshold that a bound goes to, where it fits
+abbrev pub IsThresholdEntry : Option ℤ → Option ℤ → Type 0
+IsThresholdEntry bound o = MatchOption o (Unit {0}) (λ x. (wide x ≡ bound) × IsEntry (2 ^ 25) x)
+
+-- each entry of row i, xs, is widened by ys to zs
+abbrev pub EachWidens : List ℤ → ℕ → List ℤ → List ℤ → List ℤ → Type 0
+EachWidens thresholds i xs ys zs = (j : ℕ) → j < length xs → IsWidened thresholds (is_single i j) (at xs j) (at ys j) (at zs j)
+
+-- the same of row i among all entries
+abbrev pub RowWidens : List ℤ → ℕ → List ℤ → List ℤ → List ℤ → Type 0
+RowWidens thresholds i xs ys zs = (j : ℕ) → j < row_width i → IsWidened thresholds (is_single i j) (at xs (row_start i + j)) (at ys (row_start i + j)) (at zs (row_start i + j))
+
+-- the same of the n first rows
+abbrev pub Widens : List ℤ → ℕ → List ℤ → List ℤ → List ℤ → Type 0
+Widens thresholds n xs ys zs = (i j : ℕ) → i < n → j < row_width i → IsWidened thresholds (is_single i j) (at xs (row_start i + j)) (at ys (row_start i + j)) (at zs (row_start i + j))
+
+-- that where the answer is true
+abbrev pub WidensOn : Bool → List ℤ → ℕ → List ℤ → List ℤ → List ℤ → Type 0
+WidensOn answer thresholds n xs ys zs = answer ≡ true → Widens thresholds n xs ys zs
+
+-- the matrix a widened by b, where it fits
+abbrev pub WidensIf : List ℤ → HalfMatrix → HalfMatrix → Option HalfMatrix → Type 0
+WidensIf thresholds a b None = Unit {0}
+WidensIf thresholds a b (Some r) = HasEntries a.kinds (widened thresholds a b) r

@@ -1,0 +1,33 @@
+//! A slot that stands for a node of the same matrix plus a number.
+ghost use Rattle.std.specs.Prelude.{◌<◌, IfOk, length};
+ghost use Rattle.dbm_core.specs.Half.{nodes};
+ghost use Rattle.dbm_incremental.specs.ClosedMatrices.{IsClosed};
+ghost use Rattle.dbm_narrow.specs.Standing.{StandsIf};
+
+use crate::Narrow;
+use crate::standing::stand_by;
+use base_values::Memory;
+use std::alloc::Global;
+
+/// A closed matrix in which slot q stands for node y plus c, its own or another's: None where c or a
+/// bound leaves the limits.
+pub fn stood(
+    alloc: Global,
+    closed: &Narrow,
+    q: usize,
+    y: usize,
+    c: i128,
+) -> Result<Option<Narrow>, Memory>
+    requires slot { q < length closed.now.kinds }
+    requires node { y < nodes closed.now }
+    requires closed { IsClosed closed.now }
+    ensures stood { IfOk result (StandsIf closed.now q y c) }
+{
+    let kinds = Vec::from_slice(alloc, closed.kinds.as_slice())?;
+    let mut entries = Vec::from_slice(alloc, closed.entries.as_slice())?;
+    if stand_by(kinds.as_slice(), entries.as_mut_slice(), q, y, c) {
+        Ok(Some(Narrow { kinds, entries }))
+    } else {
+        Ok(None)
+    }
+}

@@ -1,0 +1,154 @@
+//! Widenings of narrow matrices.
+ghost use Rattle.std.specs.Prelude.{◌≡◌, ◌<◌, ◌≤◌, ◌*◌, ◌+◌, ◌^◌, IfOk, Some, true, cond, int_lt, length};
+ghost use Rattle.dbm_core.specs.Half.{row_start, row_width};
+ghost use Rattle.dbm_core.specs.Operations.{threshold_value as value_of, next_threshold};
+ghost use Rattle.dbm_core.specs.Weights.{least};
+ghost use Rattle.dbm_narrow.specs.Entries.{AreEntries, IsEntry, wide};
+ghost use Rattle.dbm_narrow.specs.Rows.{RestStays};
+ghost use Rattle.dbm_narrow.specs.Widenings.{EachWidens, IsThresholdEntry, IsWidenedIf, RowWidens, WidensIf, WidensOn};
+
+use crate::Narrow;
+use crate::convert::narrow_entry;
+use crate::entries::{FREE, NONE};
+use crate::rows::{row_at, row_len};
+use base_values::Memory;
+use dbm_core::{other_sign, smaller};
+use std::alloc::Global;
+
+/// The widening of a matrix by another, as that of `dbm_core`: None where a bound goes to a threshold
+/// outside the limits.
+pub fn widen(
+    alloc: Global,
+    thresholds: &[i64],
+    left: &Narrow,
+    right: &Narrow,
+) -> Result<Option<Narrow>, Memory>
+    requires same_kinds { right.now.kinds ≡ left.now.kinds }
+    ensures widens { IfOk result (WidensIf thresholds.now left.now right.now) }
+{
+    let kinds = Vec::from_slice(alloc, left.kinds.as_slice())?;
+    let mut entries = Vec::from_slice(alloc, left.entries.as_slice())?;
+    if raise_rows(
+        entries.as_mut_slice(),
+        right.entries.as_slice(),
+        left.kinds.len(),
+        thresholds,
+    ) {
+        Ok(Some(Narrow { kinds, entries }))
+    } else {
+        Ok(None)
+    }
+}
+
+// Widens the entries by the others, in place: whether each bound stays within the limits.
+#[inline]
+fn raise_rows(entries: &mut [i32], others: &[i32], slots: usize, thresholds: &[i64]) -> bool
+    requires few { slots ≤ 16 }
+    requires size { length entries.old ≡ row_start (2 * slots) }
+    requires as_many { length others.now ≡ length entries.old }
+    requires entries { AreEntries (2 ^ 25) entries.old }
+    requires others { AreEntries (2 ^ 25) others.now }
+    ensures kept { WidensOn result thresholds.now (2 * slots) entries.old others.now entries.new }
+    ensures entries { result ≡ true → AreEntries (2 ^ 25) entries.new }
+{
+    for i in 0..2 * slots {
+        if !raise_row(entries, others, i, thresholds) {
+            return false;
+        }
+    }
+    true
+}
+
+// The same in row i.
+#[inline]
+fn raise_row(entries: &mut [i32], others: &[i32], i: usize, thresholds: &[i64]) -> bool
+    requires row { i < 32 }
+    requires size { row_start i + row_width i ≤ length entries.old }
+    requires as_many { length others.now ≡ length entries.old }
+    requires entries { AreEntries (2 ^ 25) entries.old }
+    requires others { AreEntries (2 ^ 25) others.now }
+    ensures kept { result ≡ true → RowWidens thresholds.now i entries.old others.now entries.new }
+    ensures rest { RestStays i entries.old entries.new }
+    ensures entries { result ≡ true → AreEntries (2 ^ 25) entries.new }
+{
+    let start = row_at(i);
+    let end = start + row_len(i);
+    let other = &others[start..end];
+    let row = &mut entries[start..end];
+    raise_each(row, other, i, thresholds)
+}
+
+// The same of the row itself.
+#[inline]
+fn raise_each(row: &mut [i32], others: &[i32], i: usize, thresholds: &[i64]) -> bool
+    requires node { i < 32 }
+    requires size { length row.old ≤ 32 }
+    requires as_many { length others.now ≡ length row.old }
+    requires row { AreEntries (2 ^ 25) row.old }
+    requires others { AreEntries (2 ^ 25) others.now }
+    ensures kept { result ≡ true → EachWidens thresholds.now i row.old others.now row.new }
+    ensures within { result ≡ true → AreEntries (2 ^ 25) row.new }
+{
+    let other = other_sign(i);
+    for j in 0..row.len() {
+        match widened_entry(thresholds, j == other, row[j], others[j]) {
+            None => return false,
+            Some(entry) => row[j] = entry,
+        }
+    }
+    true
+}
+
+// An entry stays where the new one is not greater, else it goes to the next threshold, if that fits.
+#[inline]
+fn widened_entry(thresholds: &[i64], doubled: bool, old: i32, new: i32) -> Option<i32>
+    requires old { IsEntry (2 ^ 25) old }
+    requires new { IsEntry (2 ^ 25) new }
+    ensures widened { IsWidenedIf thresholds.now doubled old new result }
+{
+    if new <= old {
+        return Some(old);
+    }
+    if new >= FREE {
+        return Some(NONE);
+    }
+    threshold_entry(thresholds, doubled, i128::from(new))
+}
+
+// The entry of the next threshold, if it fits.
+fn threshold_entry(thresholds: &[i64], doubled: bool, bound: i128) -> Option<i32>
+    ensures threshold { IsThresholdEntry (next_threshold thresholds.now doubled bound) result }
+{
+    narrow_entry(threshold_from(thresholds, doubled, bound))
+}
+
+// The least of the thresholds, or of the thresholds doubled, that is not less than the bound.
+fn threshold_from(thresholds: &[i64], doubled: bool, bound: i128) -> Option<i128>
+    ensures threshold { result ≡ next_threshold thresholds.now doubled bound }
+{
+    let mut next = None;
+    for threshold in thresholds {
+        let value = threshold_value(*threshold, doubled);
+        next = nearer_threshold(next, value, bound);
+    }
+    next
+}
+
+// The value where it is not less than the bound and less than the next one that was found.
+fn nearer_threshold(next: Option<i128>, value: i128, bound: i128) -> Option<i128>
+    ensures nearer { result ≡ cond (int_lt value bound) next (least next (Some value)) }
+{
+    if value < bound {
+        next
+    } else {
+        smaller(next, Some(value))
+    }
+}
+
+// A threshold, or its double.
+fn threshold_value(threshold: i64, doubled: bool) -> i128
+    ensures value { result ≡ value_of doubled threshold }
+{
+    let value = i128::from(threshold);
+    if doubled { 2 * value } else { value }
+}

@@ -1,0 +1,154 @@
+//! Operations on the matrices of states: on narrow ones where these fit, else on those of `dbm_core`.
+ghost use Rattle.std.specs.Prelude.{◌≡◌, ◌<◌, ◌^◌, true, IfOk, length};
+ghost use Rattle.dbm_close.specs.Close.{slot_high, slot_low};
+ghost use Rattle.dbm_core.specs.Half.{HasEntries, entry, nodes};
+ghost use Rattle.dbm_core.specs.Limits.{AreWithin};
+ghost use Rattle.dbm_core.specs.Operations.{forgotten, joined, widened};
+ghost use Rattle.dbm_incremental.specs.ClosedMatrices.{IsClosed, IsWhole};
+ghost use Rattle.dbm_narrow.specs.Standing.{StandsIf};
+ghost use Rattle.dbm_narrow.specs.Widenings.{WidensIf};
+ghost use Rattle.dom_octagon_states.specs.Held.{IsSmallIf};
+ghost use Rattle.dom_octagon_states.specs.Limits.{IsInLimits};
+
+use crate::bounds::{Bounds, Held, bounds_of, matrix_of_bounds, small};
+use base_values::Memory;
+use dbm_narrow::Narrow;
+use std::alloc::Global;
+
+/// The ends of a slot's range: the least and the greatest value that its own two bounds leave
+/// within the extremes of its kind.
+pub fn slot_range(m: &Bounds, slot: usize) -> (i128, i128)
+    requires slot { slot < length m.now.kinds }
+    requires within { AreWithin (nodes m.now) (2 ^ 70) (entry m.now) }
+    ensures low { result.0 ≡ slot_low m.now.kinds (entry m.now) slot }
+    ensures high { result.1 ≡ slot_high m.now.kinds (entry m.now) slot }
+{
+    match &m.held {
+        Held::Small(narrow) => {
+            let (low, high) = dbm_narrow::slot_range(narrow.as_ref(), slot);
+            (i128::from(low), i128::from(high))
+        }
+        Held::Large(matrix) => dbm_close::slot_range(matrix.as_ref(), slot),
+    }
+}
+
+/// The bounds on a slot dropped: the slot may then have any value. The diagonal stays.
+pub fn forget(alloc: Global, m: &Bounds, slot: usize) -> Result<Bounds, Memory>
+    ensures entries { IfOk result (HasEntries m.now.kinds (forgotten (entry m.now) slot)) }
+{
+    match &m.held {
+        Held::Small(narrow) => small(alloc, dbm_narrow::forget(alloc, narrow.as_ref(), slot)?),
+        Held::Large(matrix) => bounds_of(alloc, matrix.as_ref().forget(alloc, slot)?),
+    }
+}
+
+/// The greater of the two bounds at each pair.
+pub fn join(alloc: Global, a: &Bounds, b: &Bounds) -> Result<Bounds, Memory>
+    requires same_kinds { b.now.kinds ≡ a.now.kinds }
+    ensures entries { IfOk result (HasEntries a.now.kinds (joined a.now b.now)) }
+{
+    match (&a.held, &b.held) {
+        (Held::Small(m), Held::Small(n)) => {
+            small(alloc, dbm_narrow::join(alloc, m.as_ref(), n.as_ref())?)
+        }
+        _ => join_large(alloc, a, b),
+    }
+}
+
+// The same where one of them is large.
+fn join_large(alloc: Global, a: &Bounds, b: &Bounds) -> Result<Bounds, Memory>
+    requires same_kinds { b.now.kinds ≡ a.now.kinds }
+    ensures entries { IfOk result (HasEntries a.now.kinds (joined a.now b.now)) }
+{
+    let left = matrix_of_bounds(alloc, a)?;
+    let right = matrix_of_bounds(alloc, b)?;
+    bounds_of(alloc, left.join(alloc, &right)?)
+}
+
+/// The left matrix widened by the right one.
+pub fn widen(alloc: Global, thresholds: &[i64], a: &Bounds, b: &Bounds) -> Result<Bounds, Memory>
+    requires same_kinds { b.now.kinds ≡ a.now.kinds }
+    ensures entries { IfOk result (HasEntries a.now.kinds (widened thresholds.now a.now b.now)) }
+    ensures limited { IsInLimits a.now → IsInLimits b.now → IfOk result IsInLimits }
+{
+    match (&a.held, &b.held) {
+        (Held::Small(m), Held::Small(n)) => {
+            match widen_small(alloc, thresholds, m.as_ref(), n.as_ref())? {
+                Some(widening) => Ok(widening),
+                None => widen_large(alloc, thresholds, a, b),
+            }
+        }
+        _ => widen_large(alloc, thresholds, a, b),
+    }
+}
+
+// The same of narrow matrices, where that fits.
+fn widen_small(
+    alloc: Global,
+    thresholds: &[i64],
+    a: &Narrow,
+    b: &Narrow,
+) -> Result<Option<Bounds>, Memory>
+    requires same_kinds { b.now.kinds ≡ a.now.kinds }
+    ensures widens { IfOk result (WidensIf thresholds.now a.now b.now) }
+    ensures within { IfOk result IsSmallIf }
+{
+    match dbm_narrow::widen(alloc, thresholds, a, b)? {
+        Some(widening) => {
+            let _kinds = widening.kinds();
+            Ok(Some(small(alloc, widening)?))
+        }
+        None => Ok(None),
+    }
+}
+
+// The same where one of them is large, or what it gives.
+fn widen_large(alloc: Global, thresholds: &[i64], a: &Bounds, b: &Bounds) -> Result<Bounds, Memory>
+    requires same_kinds { b.now.kinds ≡ a.now.kinds }
+    ensures entries { IfOk result (HasEntries a.now.kinds (widened thresholds.now a.now b.now)) }
+    ensures limited { IsInLimits a.now → IsInLimits b.now → IfOk result IsInLimits }
+{
+    let left = matrix_of_bounds(alloc, a)?;
+    let right = matrix_of_bounds(alloc, b)?;
+    bounds_of(alloc, left.widen(alloc, thresholds, &right)?)
+}
+
+/// Whether a matrix obeys the triangle law, if it is closed: no bound is 2^63 or more.
+pub fn is_whole(m: &Bounds) -> bool
+    ensures whole { result ≡ true → IsClosed m.now → IsWhole m.now }
+{
+    match &m.held {
+        Held::Small(narrow) => is_small(narrow.as_ref()),
+        Held::Large(matrix) => dbm_incremental::is_whole(matrix.as_ref()),
+    }
+}
+
+// No bound of a narrow matrix is 2^63 or more.
+fn is_small(narrow: &Narrow) -> bool
+    ensures whole { result ≡ true → IsClosed narrow.now → IsWhole narrow.now }
+{
+    let _kinds = narrow.kinds();
+    true
+}
+
+/// A closed matrix in which slot q stands for node y plus c, if it fits the narrow form.
+pub fn stood(
+    alloc: Global,
+    m: &Bounds,
+    q: usize,
+    y: usize,
+    c: i128,
+) -> Result<Option<Bounds>, Memory>
+    requires slot { q < length m.now.kinds }
+    requires node { y < nodes m.now }
+    requires closed { IsClosed m.now }
+    ensures stood { IfOk result (StandsIf m.now q y c) }
+{
+    match &m.held {
+        Held::Small(narrow) => match dbm_narrow::stood(alloc, narrow.as_ref(), q, y, c)? {
+            Some(set) => Ok(Some(small(alloc, set)?)),
+            None => Ok(None),
+        },
+        Held::Large(_) => Ok(None),
+    }
+}
