@@ -4,6 +4,8 @@ ghost use Rattle.dom_interval_meaning.specs.Domain.{intervals};
 ghost use Rattle.dom_interval_words.specs.Words.{interval_port};
 ghost use Rattle.dom_listseg_meaning.specs.Domain.{segments};
 ghost use Rattle.dom_listseg_words.specs.Words.{segment_port};
+ghost use Rattle.dom_octagon_meaning.specs.Domain.{octagons};
+ghost use Rattle.dom_octagon_words.specs.Words.{octagon_port};
 ghost use Rattle.cert_accepted.specs.Accepted.{AreAccepted, CheckedHaveLines, PutsUtf8};
 
 use cert_complete::{certificates_hold, heads_are_of_frames};
@@ -12,6 +14,8 @@ use dom_interval_meaning::intervals_are_a_domain;
 use dom_interval_words::{intervals_are_portable, intervals_have_upper_bounds};
 use dom_listseg_meaning::segments_are_a_domain;
 use dom_listseg_words::{segments_are_portable, segments_have_upper_bounds};
+use dom_octagon_meaning::octagons_are_a_domain;
+use dom_octagon_words::{octagons_are_portable, octagons_have_upper_bounds};
 use imp_chains::{chains_go_through_callers, places_are_found, thresholds_rise};
 
 /// Where the certificate of a checked program is no over, checking it says yes. Joins and widenings are to be above both
@@ -38,6 +42,18 @@ pub fn interval_certificates_are_accepted()
     intervals_are_a_domain();
     intervals_are_portable();
     intervals_have_upper_bounds();
+    thresholds_rise();
+    places_are_found();
+    chains_go_through_callers();
+}
+
+/// Certificates by octagons are accepted.
+pub fn octagon_certificates_are_accepted()
+    ensures accepted { AreAccepted octagons octagon_port }
+{
+    octagons_are_a_domain();
+    octagons_are_portable();
+    octagons_have_upper_bounds();
     thresholds_rise();
     places_are_found();
     chains_go_through_callers();

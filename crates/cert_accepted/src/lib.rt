@@ -11,5 +11,5 @@ mod laws;
 
 pub use laws::{
     certificates_are_accepted, checked_programs_have_lines, interval_certificates_are_accepted,
-    segment_certificates_are_accepted,
+    octagon_certificates_are_accepted, segment_certificates_are_accepted,
 };

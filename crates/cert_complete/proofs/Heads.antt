@@ -46,7 +46,7 @@ module _ {S : Type 0} (dom : Operations S) (engine : LoopOptions) (covers : S �
             let ends : State s ≡ State x = e in
             let came : s ≡ x = cc in
             subst (IsUp body s) came
-            (record { fits = fs; entry = bounds.self s; again = λ v j. let both : State w ≡ State v = sym is ∙ j in let given : w ≡ v = cc in subst (λ v. leq v s ≡ true) given (subst (λ t. leq w t ≡ true) i next.right) })
+            (record { fits = fs; entry = bounds.self ls s fs; again = λ v j. let both : State w ≡ State v = sym is ∙ j in let given : w ≡ v = cc in subst (λ v. leq v s ≡ true) given (subst (λ t. leq w t ≡ true) i next.right) })
         by false other e =
             let u = up (next_of dom engine thresholds k s w) next.fits e in
             record { fits = u.fits; entry = bounds.trans ls s (next_of dom engine thresholds k s w) x fs next.fits u.fits next.left u.entry; again = u.again }

@@ -29,7 +29,7 @@ pub record PortableLaws {S : Type 0} (dom : Operations S) (covers : S → Heap �
 
 -- An order of the states that fit, in which joins and widenings are above both sides.
 pub record HasUpperBounds {S : Type 0} (dom : Operations S) (leq : S → S → Bool) : Type 0 where
-  pub self : (s : S) → leq s s ≡ true
+  pub self : (ls : List Layout) (s : S) → dom.fits s ls ≡ true → leq s s ≡ true
   pub trans : (ls : List Layout) (s t u : S) → dom.fits s ls ≡ true → dom.fits t ls ≡ true → dom.fits u ls ≡ true → leq s t ≡ true → leq t u ≡ true → leq s u ≡ true
   pub join_left : (ls : List Layout) (s t : S) → dom.fits s ls ≡ true → dom.fits t ls ≡ true → leq s (dom.join s t) ≡ true
   pub join_right : (ls : List Layout) (s t : S) → dom.fits s ls ≡ true → dom.fits t ls ≡ true → leq t (dom.join s t) ≡ true

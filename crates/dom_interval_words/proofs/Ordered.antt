@@ -114,7 +114,7 @@ below_trans (l ∷ ls) (Within rs) t u f g h a b =
 
 pub interval_bounds : HasUpperBounds intervals leq
 interval_bounds = record {
-  self = below_self;
+  self = λ ls s f. below_self s;
   trans = below_trans;
   join_left = λ ls s t h k. two join (λ s t. s) refl (λ l s t f g. above l s (join s t) f (λ v c. join-left l v s t f g c)) ls s t h k;
   join_right = λ ls s t h k. two join (λ s t. t) refl (λ l s t f g. above l t (join s t) g (λ v c. join-right l v s t f g c)) ls s t h k;

@@ -55,7 +55,7 @@ above-right (Graphs gs) (Graphs hs) = capped-above hs (union gs hs) (in-all (uni
 
 pub segment_bounds : HasUpperBounds segments leq
 segment_bounds = record {
-  self = own;
+  self = λ ls s f. own s;
   trans = λ ls s t u f g h. through s t u;
   join_left = λ ls s t f g. above-left s t;
   join_right = λ ls s t f g. above-right s t;

@@ -4,6 +4,8 @@ pub mod Texts
 pub mod Entries
 pub mod Words
 pub mod Ordered
+pub mod Closing
+pub mod Upper
 pub mod Made
 pub mod Portable
 pub mod Limits

@@ -20,7 +20,7 @@ use Rattle.dom_octagon_meaning.specs.States.{closed}
 use Rattle.dom_octagon_words.specs.Words.{bound_leq, closed_leq, leq}
 use Rattle.dom_octagon_words.proofs.Below.{pairs-true}
 
-at-most : (a b : Option ℤ) → bound_leq a b ≡ true → AtMost a b
+pub at-most : (a b : Option ℤ) → bound_leq a b ≡ true → AtMost a b
 at-most None None e = tt
 at-most (Some x) None e = tt
 at-most None (Some y) e = absurd cc

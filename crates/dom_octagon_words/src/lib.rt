@@ -12,7 +12,7 @@ mod order;
 mod read;
 mod write;
 
-pub use laws::octagons_are_portable;
+pub use laws::{octagons_are_portable, octagons_have_upper_bounds};
 pub use order::leq;
 pub use read::take;
 pub use write::put;
