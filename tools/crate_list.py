@@ -16,11 +16,13 @@ from tally import Tally
 DOCUMENT = "docs/CRATES.md"
 HEAD = """# The crates
 
-Each layer stands only on itself and on those above it in this list. The sentences are the first of each crate's own page,
-which says what the crate promises. This file is made by `tools/crate_list.py`.
+Each layer stands only on itself and on those above it in this list. Most names begin with a family: base, imp (the
+language), dom (domains), dbm (octagon matrices), batch, call, cell, cert, daig (the engine), edit, serve, gen, test. The
+sentences are the first of each crate's own page, which says what the crate promises. This file is made by
+`tools/crate_list.py`.
 """
 LAYERS = {
-    "Base": "base_values base_counter io_edge base_hash state_table daig_order",
+    "Base": "base_values base_counter io_edge base_hash state_table daig_order base_sets",
     "Language": "imp_lex imp_syntax imp_parse imp_print imp_round_trip imp_slots imp_check imp_table imp_chains"
     " imp_words edit_entries edit_breaks imp_edit edit_history",
     "Input and output": "serve_command request_json serve_script gen_summary",

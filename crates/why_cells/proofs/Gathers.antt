@@ -1,31 +1,32 @@
 -- Cells that are gathered along inputs.
-use Rattle.std.proofs.Common.{◌≡◌, ◌⊎◌, ℕ, ◌<◌, ◌≤◌, ◌+◌, ◌-◌, List, [], ◌∷◌, ◌++◌, take, length, get_or, Option, Some, None, IsSome, slice_get, Bool, true, false, if◌then◌else◌, nat_eq, nat_lt, refl, sym, ap, subst, ◌∙◌, inl, inr, arith}
-use Rattle.std.specs.List.{list_any}
+use Rattle.std.proofs.Common.{◌≡◌, ◌⊎◌, ℕ, ◌<◌, ◌≤◌, ◌+◌, ◌-◌, List, [], ◌∷◌, ◌++◌, ◌≢◌, ◌↔◌, take, length, get_or, Option, Some, None, IsSome, slice_get, Bool, true, false, nat_lt, Contains, refl, sym, ap, subst, ◌∙◌, inl, inr, arith}
 use Rattle.std.specs.FinMap.{get, len}
 use Rattle.std.proofs.lemmas.Option.{slice_get-get_or, slice_get_within, same_Some}
 use Rattle.std.proofs.lemmas.List.{get_or_default}
-use Rattle.indexmap.specs.IndexSet.{insert_key}
+use Rattle.std.specs.Bool.{Decides}
+use Rattle.std.proofs.lemmas.Bool.{cases_eq}
 use Rattle.std.proofs.lemmas.Bool.Decides.{nat_tests}
 use Rattle.base_values.proofs.Cases.{by_bool}
+use Rattle.base_values.proofs.Members.{member_of}
 use Rattle.base_values.proofs.Lists.{take_item, get_front as get_left, get_pushed}
 use Rattle.daig_graph.specs.Cells.{AreCells, Filled}
 use Rattle.daig_graph.specs.Held.{IsIn, IsOnce}
 use Rattle.cell_removal.specs.Removal.{Cells}
-use Rattle.cell_removal.proofs.Ins.{in_none, in_any, not_any, in_left, in_last, in_pushed}
+use Rattle.cell_removal.proofs.Ins.{in_none, in_left, in_last, in_pushed}
 use Rattle.cell_removal.proofs.Pigeons.{differ_once, no_more_than}
-use Rattle.why_cells.specs.Reached.{Reached, seed, input, AreReached, Joins}
+use Rattle.base_sets.specs.Sets.{Puts}
+use Rattle.why_cells.specs.Reached.{Reached, seed, input, AreReached, IsSetOf, Joins}
 
--- what an insertion makes of a list
-data Inserted (old : List ℕ) (n : ℕ) (new : List ℕ) : Type 0 where
-  stays : IsIn old n → new ≡ old → Inserted old n new
-  pushed : (IsIn old n → ⊥) → new ≡ old ++ n ∷ [] → Inserted old n new
+-- a set of the cells of a list
+none_once : IsOnce {A = ℕ} []
+none_once i j x a b = absurd cc
 
-inserted : (old : List ℕ) (n : ℕ) (new : List ℕ) → new ≡ insert_key nat_eq old n → Inserted old n new
-inserted old n new e = go (list_any (nat_eq n) old) refl e
-  where
-    go : (b : Bool) → list_any (nat_eq n) old ≡ b → new ≡ (if b then old else old ++ n ∷ []) → Inserted old n new
-    go true h e = stays (in_any n old h) e
-    go false h e = pushed (not_any n old h) e
+pub no_cells : (cells set : List ℕ) → cells ≡ [] → set ≡ [] → IsSetOf cells set
+no_cells cells set e s =
+    subst (λ xs. IsSetOf xs set) (sym e) (subst (IsSetOf []) (sym s) (record {
+      once = none_once;
+      same = λ n. (λ c. elim (member_of n [] c) [ ], λ m. in_none n m);
+    }))
 
 once_pushed : (old : List ℕ) (n : ℕ) → (IsIn old n → ⊥) → IsOnce old → IsOnce (old ++ n ∷ [])
 once_pushed old n out once i j x a b =
@@ -40,13 +41,56 @@ once_pushed old n out once i j x a b =
       ]
     ]
 
+-- a cell more, in the list and in the set
+set_pushed : (now set next : List ℕ) (n : ℕ) → IsSetOf now set → (IsIn now n → ⊥) → Puts set next n → IsSetOf (now ++ n ∷ []) next
+set_pushed now set next n h out puts = record {
+  once = once_pushed now n out h.once;
+  same = λ m. elim (cases_eq m n) [
+    | inl e ↦ (λ c. subst (λ k. IsIn (now ++ n ∷ []) k) (sym e) (in_last n now), λ i. subst (Contains next) (sym e) puts.here)
+    | inr d ↦ (
+      λ c. in_left m now (n ∷ []) ((h.same m).0 ((puts.others m d).0 c)),
+      λ i. (puts.others m d).1 ((h.same m).1 (elim (in_pushed m n now i) [ inl a ↦ a | inr q ↦ absurd (d (sym q)) ])),
+    )
+  ];
+}
+
 -- What is kept while cells are added.
-pub record Adding (first more : List ℕ) (i : ℕ) (now : List ℕ) : Type 0 where
-  pub once : IsOnce first → IsOnce now
+pub record Adding (first more : List ℕ) (i : ℕ) (now set : List ℕ) : Type 0 where
+  pub set_of : IsSetOf now set
   pub joins : Joins first (take i more) now
 
-pub adding_next : (first more now new : List ℕ) (i n : ℕ) → i < length more → n ≡ get_or more i n → Adding first more i now → new ≡ insert_key nat_eq now n → Adding first more (i + 1) new
-adding_next first more now new i n l at h e = go (inserted now n new e)
+pub adding_first : (first more set : List ℕ) → IsSetOf first set → Adding first more 0 first set
+adding_first first more set h = record { set_of = h; joins = record { keeps = λ i n e. e; only = λ n m. inl m; each = λ n m. in_none n m } }
+
+-- a cell that is there already
+pub adding_stays : (first more now set : List ℕ) (i n : ℕ) → i < length more → n ≡ get_or more i n → Adding first more i now set → Contains set n → Adding first more (i + 1) now set
+adding_stays first more now set i n l at h c = record {
+  set_of = h.set_of;
+  joins = record {
+    keeps = h.joins.keeps;
+    only = λ x m. elim (h.joins.only x m) [ inl a ↦ inl a | inr b ↦ inr (subst (λ xs. IsIn xs x) (sym more_is) (in_left x (take i more) (n ∷ []) b)) ];
+    each = λ x m. elim (in_pushed x n (take i more) (subst (λ xs. IsIn xs x) more_is m)) [ inl a ↦ h.joins.each x a | inr q ↦ subst (IsIn now) q ((h.set_of.same n).0 c) ];
+  };
+}
+  where
+    more_is : take (i + 1) more ≡ take i more ++ n ∷ []
+    more_is = take_item more i n l at
+
+-- a cell that is new
+pub adding_pushed : (first more now set next new : List ℕ) (i n : ℕ) → i < length more → n ≡ get_or more i n → Adding first more i now set → (Contains set n → ⊥) → Puts set next n → new ≡ now ++ n ∷ [] → Adding first more (i + 1) new next
+adding_pushed first more now set next new i n l at h out puts e =
+    subst (λ xs. Adding first more (i + 1) xs next) (sym e) (record {
+      set_of = set_pushed now set next n h.set_of (λ m. out ((h.set_of.same n).1 m)) puts;
+      joins = record {
+        keeps = λ j x k. get_left now (n ∷ []) j x (h.joins.keeps j x k);
+        only = λ x k. elim (in_pushed x n now k) [ inl a ↦ only_more x a | inr b ↦ inr (subst (λ xs. IsIn xs x) (sym more_is) (subst (λ y. IsIn (take i more ++ n ∷ []) y) b (in_last n (take i more)))) ];
+        each = λ x m.
+            elim (in_pushed x n (take i more) (subst (λ xs. IsIn xs x) more_is m)) [
+              | inl a ↦ in_left x now (n ∷ []) (h.joins.each x a)
+              | inr q ↦ subst (IsIn (now ++ n ∷ [])) q (in_last n now)
+            ];
+      };
+    })
   where
     more_is : take (i + 1) more ≡ take i more ++ n ∷ []
     more_is = take_item more i n l at
@@ -54,37 +98,16 @@ adding_next first more now new i n l at h e = go (inserted now n new e)
     only_more : (x : ℕ) → IsIn now x → IsIn first x ⊎ IsIn (take (i + 1) more) x
     only_more x m = elim (h.joins.only x m) [ inl a ↦ inl a | inr b ↦ inr (subst (λ xs. IsIn xs x) (sym more_is) (in_left x (take i more) (n ∷ []) b)) ]
 
-    each_more : (IsIn new n) → ((x : ℕ) → IsIn now x → IsIn new x) → (x : ℕ) → IsIn (take (i + 1) more) x → IsIn new x
-    each_more here on x m =
-        elim (in_pushed x n (take i more) (subst (λ xs. IsIn xs x) more_is m)) [
-          | inl a ↦ on x (h.joins.each x a)
-          | inr q ↦ subst (IsIn new) q here
-        ]
+-- a cell, by whether the set has it
+pub adding_old : (first more now set seen new : List ℕ) (i d : ℕ) (b : Bool) → i < length more → Adding first more i now set → Decides b (Contains set (get_or more i d)) → b ≡ true → seen ≡ set → new ≡ now → Adding first more (i + 1) new seen
+adding_old first more now set seen new i d b l h has t s e =
+    subst (λ xs. Adding first more (i + 1) xs seen) (sym e) (subst (Adding first more (i + 1) now) (sym s) (adding_stays first more now set i (get_or more i d) l (get_or_default more i d (get_or more i d) l) h (has.0 t)))
 
-    go : Inserted now n new → Adding first more (i + 1) new
-    go (stays m q) = record {
-      once = λ o. subst IsOnce (sym q) (h.once o);
-      joins = record {
-        keeps = λ j x k. subst (λ xs. slice_get xs j ≡ Some x) (sym q) (h.joins.keeps j x k);
-        only = λ x k. only_more x (subst (λ xs. IsIn xs x) q k);
-        each = each_more (subst (λ xs. IsIn xs n) (sym q) m) (λ x k. subst (λ xs. IsIn xs x) (sym q) k);
-      };
-    }
-    go (pushed out q) = record {
-      once = λ o. subst IsOnce (sym q) (once_pushed now n out (h.once o));
-      joins = record {
-        keeps = λ j x k. subst (λ xs. slice_get xs j ≡ Some x) (sym q) (get_left now (n ∷ []) j x (h.joins.keeps j x k));
-        only = λ x k.
-            elim (in_pushed x n now (subst (λ xs. IsIn xs x) q k)) [
-              | inl a ↦ only_more x a
-              | inr b ↦ inr (subst (λ xs. IsIn xs x) (sym more_is) (subst (λ y. IsIn (take i more ++ n ∷ []) y) b (in_last n (take i more))))
-            ];
-        each = each_more (subst (λ xs. IsIn xs n) (sym q) (in_last n now)) (λ x k. subst (λ xs. IsIn xs x) (sym q) (in_left x now (n ∷ []) k));
-      };
-    }
-
-pub adding_at : (first more now new : List ℕ) (i d : ℕ) → i < length more → Adding first more i now → new ≡ insert_key nat_eq now (get_or more i d) → Adding first more (i + 1) new
-adding_at first more now new i d l h e = adding_next first more now new i (get_or more i d) l (get_or_default more i d (get_or more i d) l) h e
+pub adding_new : (first more now set next seen new : List ℕ) (i d : ℕ) (b : Bool) → i < length more → Adding first more i now set → Decides b (Contains set (get_or more i d)) → b ≡ false → Puts set next (get_or more i d) → seen ≡ next →
+    new ≡ now ++ get_or more i d ∷ [] → Adding first more (i + 1) new seen
+adding_new first more now set next seen new i d b l h has t puts s e =
+    subst (Adding first more (i + 1) new) (sym s)
+    (adding_pushed first more now set next new i (get_or more i d) l (get_or_default more i d (get_or more i d) l) h (λ c. let y = sym (has.1 c) ∙ t in cc) puts e)
 
 -- What is kept while the inputs of the cells are looked at in turn: those before `next` are done.
 pub record Gathers {V : Type 0} (cells : Cells V) (seeds : List ℕ) (next : ℕ) (out : List ℕ) : Type 0 where
@@ -174,16 +197,16 @@ gathers_done cells seeds out next g l n = (λ m. g.only n m, λ r. all n r)
 pub turn_left : {V : Type 0} (cells : Cells V) (seeds out : List ℕ) (next size : ℕ) → Gathers cells seeds next out → size ≡ length out → next < size → len cells - (next + 1) < len cells - next
 turn_left cells seeds out next size g e l = let k = few cells seeds next out g in omega arith
 
-pub gathers_look : {V : Type 0} (cells : Cells V) (seeds out new items : List ℕ) (next size d : ℕ) → Gathers cells seeds next out → size ≡ length out → next < size → items ≡ out → IsOnce new →
-    ((f : Filled V) → get cells (get_or items next d) ≡ Some f → Joins out f.inputs new) → ((f : Filled V) → get cells (get_or items next d) ≡ Some f → AreCells cells f.inputs) → Gathers cells seeds (next + 1) new
-gathers_look {V} cells seeds out new items next size d g e l same once joins there =
+pub gathers_look : {V : Type 0} (cells : Cells V) (seeds out new : List ℕ) (next size m : ℕ) → Gathers cells seeds next out → size ≡ length out → next < size → m ≡ get_or out next m → IsOnce new →
+    ((f : Filled V) → get cells m ≡ Some f → Joins out f.inputs new) → ((f : Filled V) → get cells m ≡ Some f → AreCells cells f.inputs) → Gathers cells seeds (next + 1) new
+gathers_look {V} cells seeds out new next size m g e l same once joins there =
     let lt : next < length out = omega arith in
-    let at : slice_get out next ≡ Some (get_or items next d) = slice_get-get_or out next d lt ∙ ap (λ xs. Some (get_or xs next d)) (sym same) in
-    filled (get cells (get_or items next d)) refl (g.there (get_or items next d) (next, at)) at
+    let at : slice_get out next ≡ Some m = slice_get-get_or out next m lt ∙ ap Some (sym same) in
+    filled (get cells m) refl (g.there m (next, at)) at
   where
-    filled : (o : Option (Filled V)) → get cells (get_or items next d) ≡ o → IsSome o → slice_get out next ≡ Some (get_or items next d) → Gathers cells seeds (next + 1) new
+    filled : (o : Option (Filled V)) → get cells m ≡ o → IsSome o → slice_get out next ≡ Some m → Gathers cells seeds (next + 1) new
     filled None e s at = absurd cc
-    filled (Some f) e s at = gathers_next cells seeds out new f.inputs next (get_or items next d) f g at e refl (there f e) (λ o. once) (joins f e)
+    filled (Some f) e s at = gathers_next cells seeds out new f.inputs next m f g at e refl (there f e) (λ o. once) (joins f e)
 
 pub gathers_all : {V : Type 0} (cells : Cells V) (seeds out : List ℕ) (next size : ℕ) → Gathers cells seeds next out → size ≡ length out → size ≤ next → AreReached cells seeds out
 gathers_all cells seeds out next size g e h = gathers_done cells seeds out next g (omega arith)

@@ -3,7 +3,7 @@ use Rattle.std.proofs.Common.{◌≡◌, ◌↔◌, ℕ, List, [], ◌∷◌, �
 use Rattle.std.specs.FinMap.{get}
 use Rattle.std.proofs.lemmas.List.{reverse-append}
 use Rattle.imp_syntax.specs.declared.edit.Location.{Location}
-use Rattle.base_values.proofs.Members.{Member, here, there, in_left, in_right, either, of_reverse}
+use Rattle.base_values.proofs.Members.{Member, here, there, in_left, in_right, either, of_reverse, contains_of, member_of}
 use Rattle.imp_chains.specs.Chains.{selected}
 use Rattle.domain_laws.specs.Operations.{Operations}
 use Rattle.daig_order.specs.Order.{member, System}
@@ -31,9 +31,10 @@ use Rattle.daig_query.specs.Right.{found, IsRight}
 use Rattle.daig_query.specs.Walked.{fixes, with_fixes, place_of, IsDone}
 use Rattle.daig_query.proofs.Found.{stored}
 use Rattle.why_slice.specs.Upstream.{all_hung, all_of, listed, statement_at, needed_by, sorted_once, upstream, NeededBy}
-use Rattle.why_slice.proofs.Rising.{rising_same}
+use Rattle.base_sets.proofs.Rising.{rising_same}
 use Rattle.why_slice.proofs.Told.{all_hung_only, all_hung_there, as_member, is_member, needs}
 use Rattle.why_cells.specs.Reached.{Reached, seed, input as leads, AllNamed, AreReached}
+use Rattle.why_cells.specs.Told.{SameItems}
 use Rattle.std.proofs.lemmas.Option.{same_Some}
 
 -- nothing is left where nothing is asked for
@@ -239,9 +240,9 @@ module _ {S : Type 0} (dom : Operations S) (plan : Plan) (ts : List Target) (sto
               ]
 
           -- the statements of the chains and cells are those that the answer depends on
-          pub upstream_is : sorted_once (listed (statement_at l) ++ (all_of (map reverse (selected plan.program p string)) ++ hung xs)) ≡ upstream dom plan.engine plan.program same_name l string p ts
-          upstream_is =
+          pub upstream_is : (ns : List ℕ) → SameItems ns (hung xs) → sorted_once (listed (statement_at l) ++ (all_of (map reverse (selected plan.program p string)) ++ ns)) ≡ upstream dom plan.engine plan.program same_name l string p ts
+          upstream_is ns items =
               let nss = selected plan.program p string in
               rising_same _ _
-              (parts (listed (statement_at l)) (all_of (map reverse nss)) (all_of nss) (hung xs) (hung needed) (of_turned nss) of_hung)
-              (parts (listed (statement_at l)) (all_of nss) (all_of (map reverse nss)) (hung needed) (hung xs) (in_turned nss) in_hung)
+              (parts (listed (statement_at l)) (all_of (map reverse nss)) (all_of nss) ns (hung needed) (of_turned nss) (λ n m. of_hung n (member_of n (hung xs) ((items n).0 (contains_of n ns m)))))
+              (parts (listed (statement_at l)) (all_of nss) (all_of (map reverse nss)) (hung needed) ns (in_turned nss) (λ n m. member_of n ns ((items n).1 (contains_of n (hung xs) (in_hung n m)))))

@@ -18,8 +18,8 @@ use std::alloc::Global;
 
 /// The statements that the answer at a location under a call string depends on, rising, each once, where nothing is missing
 /// for its targets: the one that the location names, the call sites of the selected chains, and those on which the names
-/// that the answer needs hang. It takes time in proportion to the cells of these names and their inputs, times the
-/// logarithm of how many statements they are.
+/// that the answer needs hang. It takes time in proportion to the cells of these names and their inputs, and a step more for
+/// each 64 numbers up to the greatest of a cell or a statement.
 ///
 /// # Errors
 ///

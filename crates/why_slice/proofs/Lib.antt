@@ -8,6 +8,5 @@ mod Idle
 pub mod Staying
 mod Edited
 mod Whole
-pub mod Rising
 pub mod Told
 pub mod Putting

@@ -3,6 +3,7 @@
 
 mod laws;
 mod listing;
+mod statements;
 
 pub use laws::{answers_stay, upstream_is_told};
 pub use listing::upstream;

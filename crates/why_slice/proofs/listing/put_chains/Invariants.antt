@@ -5,4 +5,4 @@ use Rattle.why_slice.specs.Upstream.{all_of}
 use Rattle.why_slice.proofs.listing.put_chains.Given as goal
 
 abbrev pub invariant-loop-chain : goal.invariant-loop-chain
-invariant-loop-chain l = l.numbers.keys ≡ fold (insert_key nat_cmp) l.initial.numbers.keys (all_of (take l.chain-index l.chains))
+invariant-loop-chain l = l.stmts ≡ fold (insert_key nat_cmp) l.initial.stmts (all_of (take l.chain-index l.chains))

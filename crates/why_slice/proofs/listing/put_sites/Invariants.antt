@@ -4,4 +4,4 @@ use Rattle.std.specs.Ordering.{nat_cmp}
 use Rattle.why_slice.proofs.listing.put_sites.Given as goal
 
 abbrev pub invariant-loop-site : goal.invariant-loop-site
-invariant-loop-site l = l.numbers.keys ≡ fold (insert_key nat_cmp) l.initial.numbers.keys (take l.site-index l.site-items)
+invariant-loop-site l = l.stmts ≡ fold (insert_key nat_cmp) l.initial.stmts (take l.site-index l.site-items)

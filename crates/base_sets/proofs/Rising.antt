@@ -5,12 +5,14 @@ use Rattle.std.proofs.Common.{Ordering, Less, Equal, Greater}
 use Rattle.std.specs.Ordering.{nat_cmp, MatchOrdering, match_ordering}
 use Rattle.std.specs.Cmp.{ranked}
 use Rattle.base_values.proofs.Members.{Member, here, there}
-use Rattle.why_slice.specs.Upstream.{sorted_once}
 
-abbrev put : List ℕ → ℕ → List ℕ
+abbrev pub put : List ℕ → ℕ → List ℕ
 put = insert_key nat_cmp
 
-cases : (i x : ℕ) (xs : List ℕ) → Member i (x ∷ xs) → (i ≡ x) ⊎ Member i xs
+abbrev pub sorted_once : List ℕ → List ℕ
+sorted_once ns = fold put [] ns
+
+pub cases : (i x : ℕ) (xs : List ℕ) → Member i (x ∷ xs) → (i ≡ x) ⊎ Member i xs
 cases i x xs here = inl refl
 cases i x xs (there m) = inr m
 
@@ -18,7 +20,7 @@ at_first : (i x : ℕ) (xs : List ℕ) → i ≡ x → Member i (x ∷ xs)
 at_first i x xs e = subst (λ j. Member i (j ∷ xs)) e here
 
 -- what stands in a list with a number put in
-in_put : (ks : List ℕ) (n : ℕ) → Member n (put ks n)
+pub in_put : (ks : List ℕ) (n : ℕ) → Member n (put ks n)
 in_put [] n = here
 in_put (k ∷ ks) n = go (nat_cmp n k) (ranked n k (nat_cmp n k) refl) (in_put ks n)
   where
@@ -27,7 +29,7 @@ in_put (k ∷ ks) n = go (nat_cmp n k) (ranked n k (nat_cmp n k) refl) (in_put k
     go Equal r m = subst (λ j. Member n (j ∷ ks)) r here
     go Greater r m = there m
 
-stays_put : (ks : List ℕ) (n i : ℕ) → Member i ks → Member i (put ks n)
+pub stays_put : (ks : List ℕ) (n i : ℕ) → Member i ks → Member i (put ks n)
 stays_put [] n i m = elim m [ ]
 stays_put (k ∷ ks) n i m = go (nat_cmp n k) m (λ j. stays_put ks n i j)
   where
@@ -39,7 +41,7 @@ stays_put (k ∷ ks) n i m = go (nat_cmp n k) m (λ j. stays_put ks n i j)
     go Equal m f = m
     go Greater m f = more m f
 
-put_only : (ks : List ℕ) (n i : ℕ) → Member i (put ks n) → (i ≡ n) ⊎ Member i ks
+pub put_only : (ks : List ℕ) (n i : ℕ) → Member i (put ks n) → (i ≡ n) ⊎ Member i ks
 put_only [] n i m = cases i n [] m
 put_only (k ∷ ks) n i m = go (nat_cmp n k) m (put_only ks n i)
   where
@@ -59,14 +61,14 @@ put_only (k ∷ ks) n i m = go (nat_cmp n k) m (put_only ks n i)
     go Greater m f = more m f
 
 -- Strictly rising lists.
-abbrev Above : ℕ → List ℕ → Type 0
+abbrev pub Above : ℕ → List ℕ → Type 0
 Above n ks = (k : ℕ) → Member k ks → n < k
 
 abbrev pub Strict : List ℕ → Type 0
 Strict [] = Unit {0}
 Strict (k ∷ ks) = Above k ks × Strict ks
 
-strict_put : (ks : List ℕ) (n : ℕ) → Strict ks → Strict (put ks n)
+pub strict_put : (ks : List ℕ) (n : ℕ) → Strict ks → Strict (put ks n)
 strict_put [] n s = ((λ k m. elim m [ ]), tt)
 strict_put (k ∷ ks) n s = go (nat_cmp n k) (ranked n k (nat_cmp n k) refl) (strict_put ks n s.1)
   where
@@ -113,7 +115,7 @@ pub of_rising : (ns : List ℕ) (i : ℕ) → Member i (sorted_once ns) → Memb
 of_rising ns i m = elim (all_put [] ns i m) [ inl a ↦ elim a [ ] | inr b ↦ b ]
 
 -- Strictly rising lists of the same numbers are the same.
-strict_same : (xs ys : List ℕ) → Strict xs → Strict ys → ((i : ℕ) → Member i xs → Member i ys) → ((i : ℕ) → Member i ys → Member i xs) → xs ≡ ys
+pub strict_same : (xs ys : List ℕ) → Strict xs → Strict ys → ((i : ℕ) → Member i xs → Member i ys) → ((i : ℕ) → Member i ys → Member i xs) → xs ≡ ys
 strict_same [] [] s t f g = refl
 strict_same [] (y ∷ ys) s t f g = elim (g y here) [ ]
 strict_same (x ∷ xs) [] s t f g = elim (f x here) [ ]
