@@ -1,15 +1,15 @@
 //! The generated script over a generated program, summed up.
 ghost use Rattle.std.specs.Prelude.{◌≡◌, ◌<◌, ◌+◌, ◌^◌, ℕ, [], ◌∷◌, suc, length, IfOk, OnOk};
 ghost use Rattle.std.specs.String.{string_bytes};
-ghost use Rattle.gen_summary.specs.Summary.{tally_with, nothing, IsWithin};
+ghost use Rattle.gen_summary.specs.Summary.{nothing, IsWithin};
 ghost use Rattle.serve_script.specs.Lines.{last_part, whole_lines};
 ghost use Rattle.serve_answers.specs.Fine.{opening};
-ghost use Rattle.serve_answers.specs.Lines.{Served, line_turn, server as machine};
+ghost use Rattle.serve_answers.specs.Lines.{Served};
 ghost use Rattle.serve_answers.specs.Readings.{Readings};
-ghost use Rattle.serve_output.specs.Domains.{meaning_of};
 ghost use Rattle.serve_output.specs.Jobs.{engine_of};
-ghost use Rattle.serve_output.specs.Output.{gen_bytes, served_after, tally_output};
+ghost use Rattle.serve_output.specs.Output.{gen_bytes};
 ghost use Rattle.serve_output.specs.Works.{IsNumbered};
+ghost use Rattle.daig_server.specs.Tallies.{ServesOn, Tallies, UsesOne};
 
 use crate::server::Server;
 use base_counter::Steps;
@@ -35,10 +35,12 @@ fn tally_line<D: Named, L: Ledger>(
 ) -> Result<(), Memory>
     requires lasts { (n : ℕ) × ⟦<Server<D> as Answerer>⟧.lasts server.old (suc n) }
     requires room { (n : ℕ) × (n < 2 ^ 62) × IsWithin n tally.old }
-    ensures lasts { OnOk result ((n : ℕ) → ⟦<Server<D> as Answerer>⟧.lasts server.old (suc n) → ⟦<Server<D> as Answerer>⟧.lasts server.new n) }
+    ensures lasts { OnOk result (UsesOne ⟦<Server<D> as Answerer>⟧.lasts server.old server.new) }
     ensures within { OnOk result ((n : ℕ) → IsWithin n tally.old → IsWithin (n + 1) tally.new) }
-    ensures next { OnOk result ((s : Served) → ⟦<Server<D> as Answerer>⟧.stands server.old s → ⟦<Server<D> as Answerer>⟧.stands server.new ((machine (meaning_of D.name).operations).next s line.now)) }
-    ensures added { OnOk result ((s : Served) → ⟦<Server<D> as Answerer>⟧.stands server.old s → tally.new ≡ tally_with (line_turn s.readings (meaning_of D.name).operations line.now s.machine).reply tally.old) }
+    ensures next { OnOk result (ServesOn D.name ⟦<Server<D> as Answerer>⟧.stands
+        (line.now ∷ []) server.old server.new) }
+    ensures added { OnOk result (Tallies D.name (⟦<Server<D> as Answerer>⟧.stands server.old)
+        (line.now ∷ []) tally.old tally.new) }
 {
     let reply = server.answer(alloc, line, steps)?;
     tally.add(reply.as_slice(), server.cost());
@@ -58,10 +60,12 @@ fn tally_byte<D: Named, L: Ledger>(
     requires lasts { (n : ℕ) × ⟦<Server<D> as Answerer>⟧.lasts server.old (suc n) }
     requires room { (n : ℕ) × (n < 2 ^ 62) × IsWithin n tally.old }
     ensures line { OnOk result (line.new.items ≡ last_part line.old.items (byte ∷ [])) }
-    ensures lasts { OnOk result ((n : ℕ) → ⟦<Server<D> as Answerer>⟧.lasts server.old (suc n) → ⟦<Server<D> as Answerer>⟧.lasts server.new n) }
+    ensures lasts { OnOk result (UsesOne ⟦<Server<D> as Answerer>⟧.lasts server.old server.new) }
     ensures within { OnOk result ((n : ℕ) → IsWithin n tally.old → IsWithin (n + 1) tally.new) }
-    ensures next { OnOk result ((s : Served) → ⟦<Server<D> as Answerer>⟧.stands server.old s → ⟦<Server<D> as Answerer>⟧.stands server.new (served_after (meaning_of D.name).operations (whole_lines line.old.items (byte ∷ [])) s)) }
-    ensures tally { OnOk result ((s : Served) → ⟦<Server<D> as Answerer>⟧.stands server.old s → tally.new ≡ tally_output (meaning_of D.name).operations (whole_lines line.old.items (byte ∷ [])) s tally.old) }
+    ensures next { OnOk result (ServesOn D.name ⟦<Server<D> as Answerer>⟧.stands
+        (whole_lines line.old.items (byte ∷ [])) server.old server.new) }
+    ensures tally { OnOk result (Tallies D.name (⟦<Server<D> as Answerer>⟧.stands server.old)
+        (whole_lines line.old.items (byte ∷ [])) tally.old tally.new) }
 {
     if byte == b'\n' {
         tally_line(alloc, server, line.as_slice(), tally, steps)?;
@@ -81,7 +85,8 @@ fn tally_lines<D: Named, L: Ledger>(
 ) -> Result<ReplyTally, Memory>
     requires lasts { ⟦<Server<D> as Answerer>⟧.lasts server.old (length script.now) }
     requires few { length script.now < 2 ^ 62 }
-    ensures tally { IfOk result (λ t. (s : Served) → ⟦<Server<D> as Answerer>⟧.stands server.old s → t ≡ tally_output (meaning_of D.name).operations (whole_lines [] script.now) s nothing) }
+    ensures tally { IfOk result (Tallies D.name (⟦<Server<D> as Answerer>⟧.stands server.old)
+        (whole_lines [] script.now) nothing) }
 {
     let mut tally = ReplyTally::new();
     let mut line = Vec::new(alloc);
@@ -99,7 +104,9 @@ fn summed<D: Named, L: Ledger>(
     steps: &mut Steps<L>,
 ) -> Result<String, Memory>
     requires lasts { ⟦<Server<D> as Answerer>⟧.lasts server.old (2 ^ 40) }
-    ensures line { IfOk result (λ v. (first : Served) → ⟦<Server<D> as Answerer>⟧.stands server.old first → string_bytes v ≡ gen_bytes D.name first drawn.seed drawn.size) }
+    ensures line { IfOk result (λ v.
+        (first : Served) → ⟦<Server<D> as Answerer>⟧.stands server.old first →
+        string_bytes v ≡ gen_bytes D.name first drawn.seed drawn.size) }
 {
     let script = daig_gen::script(alloc, drawn.seed, drawn.size)?;
     let tally = tally_lines(alloc, server, script.as_slice(), steps)?;
@@ -116,7 +123,9 @@ pub(crate) fn summary<D: Named, L: Ledger>(
     steps: &mut Steps<L>,
 ) -> Result<String, Memory>
     requires numbered { IsNumbered table.program }
-    ensures line { IfOk result (λ v. (readings : Readings) → string_bytes v ≡ gen_bytes D.name (opening readings (engine_of settings.now) table.program) drawn.seed drawn.size) }
+    ensures line { IfOk result (λ v. (readings : Readings) → string_bytes v ≡
+        gen_bytes D.name (opening readings (engine_of settings.now) table.program)
+        drawn.seed drawn.size) }
 {
     let mut server = Server::start(alloc, domain, settings, MEMO, table)?;
     summed(alloc, &mut server, drawn, steps)

@@ -1,14 +1,16 @@
 //! From words to a status, one step after another: what is written, and when each status comes, for
 //! the clauses of [`serve`](crate::serve).
-ghost use Rattle.std.specs.Prelude.{◌≡◌, ◌^◌, ◌<◌, ◌≤◌, ◌⊎◌, ℕ, List, length, Option, Some, None, Ok};
+ghost use Rattle.std.specs.Prelude.{◌≡◌, ◌^◌, ◌<◌, ◌≤◌, ◌⊎◌, ℕ, List, length};
+ghost use Rattle.std.specs.Prelude.{None, Ok, Option, Some};
 ghost use Rattle.io_edge.specs.Outside.{Rose, Lacks};
 ghost use Rattle.imp_syntax.specs.Plain.{Procedure};
-ghost use Rattle.serve_script.specs.Replies.{ReadToEnd, ReadBytes};
+ghost use Rattle.serve_script.specs.Replies.{ReadsBytes, ReadsToEnd};
 ghost use Rattle.serve_answers.specs.Readings.{Readings};
 ghost use Rattle.serve_output.specs.Sources.{source_of};
 ghost use Rattle.serve_output.specs.Jobs.{AsksToGenerate, AsksToServe, Serves};
-ghost use Rattle.serve_output.specs.Output.{file_output, generated_output, output, source_output, usage, IsProgram, LacksFile};
-ghost use Rattle.serve_output.specs.Ends.{Fits, Wrote};
+ghost use Rattle.serve_output.specs.Output.{file_output, generated_output, output, source_output};
+ghost use Rattle.serve_output.specs.Output.{usage, IsProgram, LacksFile};
+ghost use Rattle.serve_output.specs.Ends.{EndsBy, EndsByFile, Fits, WritesFor, WritesOutput, Wrote};
 ghost use Rattle.serve_output.specs.Told.{job_of_words, TellsFiles, TellsScript};
 ghost use Rattle.serve_output.specs.Works.{Remembers};
 
@@ -36,8 +38,8 @@ const USAGE: &[u8] = b"usage: daig serve|batch|gen [OPTIONS] [FILE]\n";
 fn refuse_words<O: Sink>(out: &mut O) -> Status
     ensures status { (result ≡ Status.Words) ⊎ (result ≡ Status.Sink) }
     ensures fits { Fits result 2 }
-    ensures wrote { (text taken : List ℕ) (rest : Option (List ℕ)) → O.told out.old ≡ Some taken
-        → Wrote result (record { status = 2; bytes = usage }) text taken rest (O.told out.new) }
+    ensures wrote { WritesOutput result (record { status = 2; bytes = usage })
+        (O.told out.old) (O.told out.new) }
     ensures sink_failed { result ≡ Status.Sink → Rose (O.faults out.old) (O.faults out.new) }
 {
     match write_all(out, USAGE) {
@@ -58,13 +60,20 @@ fn run_source<I: Source, O: Sink, L: Ledger>(
 ) -> Status
     requires short { length source.now < 2 ^ 31 }
     requires remembers { Remembers task }
-    ensures fits { (readings : Readings) (text : List ℕ) → Fits result (source_output readings task settings.now (source_of readings source.now) text).status }
-    ensures wrote { (readings : Readings) (text taken : List ℕ) → (Serves task → (program : List Procedure) → source_of readings source.now ≡ Ok program → I.told script.old ≡ Some text) → O.told out.old ≡ Some taken
-        → Wrote result (source_output readings task settings.now (source_of readings source.now) text) text taken (I.told script.new) (O.told out.new) }
-    ensures ended { result ≡ Status.Done → Serves task → (text : List ℕ) → I.told script.old ≡ Some text → ReadToEnd text (I.told script.new) }
+    ensures fits { (readings : Readings) (text : List ℕ) → Fits result
+        (source_output readings task settings.now (source_of readings source.now) text).status }
+    ensures wrote { (readings : Readings) → WritesFor
+        (λ text. Serves task → (program : List Procedure) →
+        source_of readings source.now ≡ Ok program → I.told script.old ≡ Some text)
+        result (source_output readings task settings.now (source_of readings source.now))
+        (I.told script.new) (O.told out.old) (O.told out.new) }
+    ensures ended { result ≡ Status.Done → Serves task →
+        ReadsToEnd (I.told script.old) (I.told script.new) }
     ensures unread { (Serves task → ⊥) → script.new ≡ script.old }
-    ensures long { result ≡ Status.LongScript → Serves task × ((text : List ℕ) → I.told script.old ≡ Some text → ReadBytes (2 ^ 40) text (I.told script.new)) }
-    ensures script_failed { result ≡ Status.Script → Serves task × Rose (I.faults script.old) (I.faults script.new) }
+    ensures long { result ≡ Status.LongScript → Serves task ×
+        ReadsBytes (2 ^ 40) (I.told script.old) (I.told script.new) }
+    ensures script_failed { result ≡ Status.Script →
+        Serves task × Rose (I.faults script.old) (I.faults script.new) }
     ensures sink_failed { result ≡ Status.Sink → Rose (O.faults out.old) (O.faults out.new) }
     ensures no_file { result ≡ Status.Files → ⊥ }
     ensures no_words { result ≡ Status.Words → ⊥ }
@@ -89,19 +98,28 @@ fn run_file<F: Files, I: Source, O: Sink, L: Ledger>(
     steps: &mut Steps<L>,
 ) -> Status
     requires remembers { Remembers task }
-    ensures fits { (readings : Readings) (folder : List ℕ → Option (List ℕ)) (text : List ℕ) → F.told files.old ≡ Some folder
+    ensures fits { (readings : Readings) (folder : List ℕ → Option (List ℕ)) (text : List ℕ)
+        → F.told files.old ≡ Some folder
         → Fits result (file_output readings task settings.now (folder name.now) text).status }
-    ensures wrote { (readings : Readings) (folder : List ℕ → Option (List ℕ)) (text taken : List ℕ) → F.told files.old ≡ Some folder
-        → (Serves task → (program : List Procedure) → IsProgram readings (folder name.now) program → I.told script.old ≡ Some text) → O.told out.old ≡ Some taken
-        → Wrote result (file_output readings task settings.now (folder name.now) text) text taken (I.told script.new) (O.told out.new) }
-    ensures ended { result ≡ Status.Done → Serves task → (text : List ℕ) → I.told script.old ≡ Some text → ReadToEnd text (I.told script.new) }
+    ensures wrote { (readings : Readings) (folder : List ℕ → Option (List ℕ)) (text taken : List ℕ)
+        → F.told files.old ≡ Some folder
+        → (Serves task → (program : List Procedure) → IsProgram readings (folder name.now) program
+        → I.told script.old ≡ Some text)
+        → O.told out.old ≡ Some taken
+        → Wrote result (file_output readings task settings.now (folder name.now) text) text taken
+        (I.told script.new) (O.told out.new) }
+    ensures ended { result ≡ Status.Done → Serves task →
+        ReadsToEnd (I.told script.old) (I.told script.new) }
     ensures unread { (Serves task → ⊥) → script.new ≡ script.old }
-    ensures long { result ≡ Status.LongScript → Serves task × ((text : List ℕ) → I.told script.old ≡ Some text → ReadBytes (2 ^ 40) text (I.told script.new)) }
-    ensures script_failed { result ≡ Status.Script → Serves task × Rose (I.faults script.old) (I.faults script.new) }
+    ensures long { result ≡ Status.LongScript → Serves task ×
+        ReadsBytes (2 ^ 40) (I.told script.old) (I.told script.new) }
+    ensures script_failed { result ≡ Status.Script →
+        Serves task × Rose (I.faults script.old) (I.faults script.new) }
     ensures sink_failed { result ≡ Status.Sink → Rose (O.faults out.old) (O.faults out.new) }
-    ensures quiet { (result ≡ Status.Files) ⊎ (result ≡ Status.LongFile) → O.told out.new ≡ O.told out.old }
+    ensures quiet { EndsByFile result → O.told out.new ≡ O.told out.old }
     ensures no_words { result ≡ Status.Words → ⊥ }
-    ensures files_failed { result ≡ Status.Files → (Rose (F.faults files.old) (F.faults files.new)) ⊎ (Lacks (F.told files.old) name.now) }
+    ensures files_failed { result ≡ Status.Files →
+        (Rose (F.faults files.old) (F.faults files.new)) ⊎ (Lacks (F.told files.old) name.now) }
 {
     match files.load(alloc, name, MOST_SOURCE) {
         Ok(source) => run_source(alloc, task, settings, source.as_slice(), script, out, steps),
@@ -122,10 +140,12 @@ fn run_generated<I: Source, O: Sink, L: Ledger>(
     steps: &mut Steps<L>,
 ) -> Status
     requires few { drawn.size ≤ 1000 }
-    ensures status { (result ≡ Status.Done) ⊎ ((result ≡ Status.Sink) ⊎ (result ≡ Status.Memory)) }
-    ensures fits { (readings : Readings) (text : List ℕ) → Fits result (generated_output readings drawn domain text).status }
+    ensures status { EndsBy Status.Done result }
+    ensures fits { (readings : Readings) (text : List ℕ) →
+        Fits result (generated_output readings drawn domain text).status }
     ensures wrote { (readings : Readings) (text taken : List ℕ) → O.told out.old ≡ Some taken
-        → Wrote result (generated_output readings drawn domain text) text taken (I.told script.new) (O.told out.new) }
+        → Wrote result (generated_output readings drawn domain text) text taken
+        (I.told script.new) (O.told out.new) }
     ensures unread { script.new ≡ script.old }
     ensures sink_failed { result ≡ Status.Sink → Rose (O.faults out.old) (O.faults out.new) }
 {
@@ -164,21 +184,30 @@ pub(crate) fn run<F: Files, I: Source, O: Sink, L: Ledger>(
     out: &mut O,
     steps: &mut Steps<L>,
 ) -> Status
-    ensures words_taken { job_of_words words.now ≡ None → (result ≡ Status.Words) ⊎ (result ≡ Status.Sink) ⊎ (result ≡ Status.Memory) }
+    ensures words_taken { job_of_words words.now ≡ None → EndsBy Status.Words result }
     ensures words_refused { result ≡ Status.Words → job_of_words words.now ≡ None }
-    ensures fits { (readings : Readings) (folder : List ℕ → Option (List ℕ)) (text : List ℕ) → TellsFiles (job_of_words words.now) (F.told files.old) folder
+    ensures fits { (readings : Readings) (folder : List ℕ → Option (List ℕ)) (text : List ℕ)
+        → TellsFiles (job_of_words words.now) (F.told files.old) folder
         → Fits result (output readings (job_of_words words.now) folder text).status }
-    ensures wrote { (readings : Readings) (folder : List ℕ → Option (List ℕ)) (text taken : List ℕ) → TellsFiles (job_of_words words.now) (F.told files.old) folder
-        → TellsScript readings (job_of_words words.now) folder (I.told script.old) text → O.told out.old ≡ Some taken
-        → Wrote result (output readings (job_of_words words.now) folder text) text taken (I.told script.new) (O.told out.new) }
-    ensures ended { result ≡ Status.Done → AsksToServe (job_of_words words.now) → (text : List ℕ) → I.told script.old ≡ Some text → ReadToEnd text (I.told script.new) }
+    ensures wrote { (readings : Readings) (folder : List ℕ → Option (List ℕ)) (text taken : List ℕ)
+        → TellsFiles (job_of_words words.now) (F.told files.old) folder
+        → TellsScript readings (job_of_words words.now) folder (I.told script.old) text
+        → O.told out.old ≡ Some taken
+        → Wrote result (output readings (job_of_words words.now) folder text) text taken
+        (I.told script.new) (O.told out.new) }
+    ensures ended { result ≡ Status.Done → AsksToServe (job_of_words words.now) →
+        ReadsToEnd (I.told script.old) (I.told script.new) }
     ensures unread { (AsksToServe (job_of_words words.now) → ⊥) → script.new ≡ script.old }
-    ensures long { result ≡ Status.LongScript → AsksToServe (job_of_words words.now) × ((text : List ℕ) → I.told script.old ≡ Some text → ReadBytes (2 ^ 40) text (I.told script.new)) }
-    ensures script_failed { result ≡ Status.Script → AsksToServe (job_of_words words.now) × Rose (I.faults script.old) (I.faults script.new) }
+    ensures long { result ≡ Status.LongScript → AsksToServe (job_of_words words.now) ×
+        ReadsBytes (2 ^ 40) (I.told script.old) (I.told script.new) }
+    ensures script_failed { result ≡ Status.Script →
+        AsksToServe (job_of_words words.now) × Rose (I.faults script.old) (I.faults script.new) }
     ensures sink_failed { result ≡ Status.Sink → Rose (O.faults out.old) (O.faults out.new) }
-    ensures generated { AsksToGenerate (job_of_words words.now) → (result ≡ Status.Done) ⊎ ((result ≡ Status.Sink) ⊎ (result ≡ Status.Memory)) }
-    ensures quiet { (result ≡ Status.Files) ⊎ (result ≡ Status.LongFile) → O.told out.new ≡ O.told out.old }
-    ensures files_failed { result ≡ Status.Files → (Rose (F.faults files.old) (F.faults files.new)) ⊎ (LacksFile (F.told files.old) (job_of_words words.now)) }
+    ensures generated { AsksToGenerate (job_of_words words.now) → EndsBy Status.Done result }
+    ensures quiet { EndsByFile result → O.told out.new ≡ O.told out.old }
+    ensures files_failed { result ≡ Status.Files →
+        (Rose (F.faults files.old) (F.faults files.new)) ⊎
+        (LacksFile (F.told files.old) (job_of_words words.now)) }
 {
     match read_words(alloc, words) {
         Ok(

@@ -1,7 +1,7 @@
 //! The server of one program, which answers each line as the machine `server` of `serve_answers` does.
 ghost use Rattle.std.specs.Prelude.{◌≡◌, ◌<◌, ◌≤◌, ◌+◌, ◌^◌, IfOk};
 ghost use Rattle.daig_machine.specs.Machine.{first_machine, Machine};
-ghost use Rattle.daig_session.specs.Holds.{Holds, IsReady};
+ghost use Rattle.daig_session.specs.Sessions.{IsReadyBy, StandsFor};
 ghost use Rattle.serve_output.specs.Jobs.{engine_of};
 ghost use Rattle.serve_answers.specs.Fine.{next_number};
 ghost use Rattle.serve_output.specs.Works.{IsNumbered};
@@ -46,8 +46,9 @@ impl<D: Named> Server<D> {
     ) -> Result<Server<D>, Memory>
         requires memo { 0 < memo }
         requires numbered { IsNumbered table.program }
-        ensures begins { IfOk result (λ s. Holds (D.operations s.session.engine.domain) s.session.engine.store s.session.book (first_machine table.program (engine_of settings.now) (next_number table.program))) }
-        ensures ready { IfOk result (λ s. IsReady (D.operations s.session.engine.domain) s.session.engine.store s.session.book) }
+        ensures begins { IfOk result (λ s. StandsFor D.operations s.session
+            (first_machine table.program (engine_of settings.now) (next_number table.program))) }
+        ensures ready { IfOk result (λ s. IsReadyBy D.operations s.session) }
         ensures first { IfOk result (λ s. s.session.book.tickets.next ≡ 1) }
     {
         let next = next_number(&table);
@@ -67,7 +68,7 @@ impl<D: Named> Server<D> {
 impl<D: Named> Server<D> {
     /// How many cells the last question filled.
     pub(crate) fn cost(&self) -> u64
-        ensures is { (m : Machine) → Holds (D.operations self.now.session.engine.domain) self.now.session.engine.store self.now.session.book m → result ≡ m.cost }
+        ensures is { (m : Machine) → StandsFor D.operations self.now.session m → result ≡ m.cost }
     {
         self.session.cost()
     }
@@ -75,7 +76,7 @@ impl<D: Named> Server<D> {
 
 impl<D: Named> Answerer for Server<D> {
     ghost use Rattle.std.specs.Prelude.{◌≤◌, ◌+◌, ◌^◌};
-    ghost use Rattle.daig_session.specs.Holds.{Holds, IsReady};
+    ghost use Rattle.daig_session.specs.Sessions.{IsReadyBy, StandsFor};
     ghost use Rattle.serve_answers.specs.Lines.{Served, server};
     ghost use Rattle.serve_output.specs.Domains.{meaning_of};
 
@@ -83,9 +84,10 @@ impl<D: Named> Answerer for Server<D> {
 
     ghost machine = { server (meaning_of D.name).operations };
 
-    ghost stands = { λ s m. Holds (D.operations s.session.engine.domain) s.session.engine.store s.session.book m.machine };
+    ghost stands = { λ s m. StandsFor D.operations s.session m.machine };
 
-    ghost lasts = { λ s n. IsReady (D.operations s.session.engine.domain) s.session.engine.store s.session.book × (s.session.book.tickets.next + n ≤ 2 ^ 63) };
+    ghost lasts = { λ s n.
+        IsReadyBy D.operations s.session × (s.session.book.tickets.next + n ≤ 2 ^ 63) };
 
     fn answer<L: Ledger>(
         &mut self,

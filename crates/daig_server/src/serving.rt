@@ -1,27 +1,25 @@
 //! The top call [`serve`], with all that is claimed of it.
-ghost use Rattle.std.specs.Prelude.{◌≡◌, ◌≢◌, ◌<◌, ◌^◌, ◌++◌, ◌⊎◌, ℕ, List, Option, Some, None, length};
+ghost use Rattle.std.specs.Prelude.{◌≡◌, ◌≢◌, ◌<◌, ◌^◌, ◌++◌, ◌⊎◌, ℕ, List, Some, None, length};
 ghost use Rattle.io_edge.specs.Outside.{Rose};
 ghost use Rattle.imp_syntax.specs.Plain.{Procedure};
-ghost use Rattle.serve_command.specs.declared.job.AnalysisOptions.{AnalysisOptions};
 ghost use Rattle.serve_command.specs.declared.job.Job.TheVariants as job;
 ghost use Rattle.serve_command.specs.declared.job.SingleDomain.{SingleDomain as Single};
 ghost use Rattle.cert_lines.specs.Verify.{verified_line, Yes};
-ghost use Rattle.serve_script.specs.Replies.{AnsweredRead, ReadBytes, ReadToEnd};
+ghost use Rattle.serve_script.specs.Replies.{AnsweredRead, ReadsBytes, ReadsToEnd};
 ghost use Rattle.serve_answers.specs.Fine.{opening};
 ghost use Rattle.serve_answers.specs.Histories.{HistoriesDoNotMatter, RedoRestores, UndoRestores};
 ghost use Rattle.serve_answers.specs.Lines.{server};
 ghost use Rattle.serve_answers.specs.Readings.{Readings};
 ghost use Rattle.reply_lines.specs.Refused.{RefusalsKeep};
 ghost use Rattle.reply_lines.specs.Replied.{OneForEach};
-ghost use Rattle.reuse_laws.specs.Shorter.{NeverLonger};
-ghost use Rattle.serve_output.specs.Domains.{meaning_of};
-ghost use Rattle.serve_output.specs.Jobs.{AsksToGenerate, AsksToServe, domain_in, engine_in};
-ghost use Rattle.serve_output.specs.Output.{IsAccepted, IsProgram, LacksFile, output};
+ghost use Rattle.serve_output.specs.Jobs.{AsksToGenerate, AsksToServe, engine_in};
+ghost use Rattle.serve_output.specs.Output.{IsAccepted, IsProgram, LacksFile};
 ghost use Rattle.serve_output.specs.Kept.{WrittenAreAccepted};
-ghost use Rattle.serve_output.specs.Settles.{IsSettledAfter, served_after};
-ghost use Rattle.serve_output.specs.Sound.{AreRunsCovered, IsBatchSound, IsSoundAfter};
+ghost use Rattle.serve_output.specs.Sound.{AreRunsCovered};
 ghost use Rattle.serve_output.specs.Ends.{Fits, IsStatus, Wrote, WroteAll, status_of};
 ghost use Rattle.serve_output.specs.Told.{job_of_words, job_output, Tells, TellsFiles, Told};
+ghost use Rattle.daig_server.specs.Claims.{operations_in, LinesAreSound, LinesSettle};
+ghost use Rattle.daig_server.specs.Claims.{MemoIsUnseen, NeverLonger, ReportsAreSound};
 
 use crate::run::run;
 use base_counter::Steps;
@@ -64,61 +62,85 @@ pub fn serve<F: Files, I: Source, O: Sink, L: Ledger>(
 ) -> u8
     ensures named { IsStatus result }
     // Where nothing failed and the script is short, exactly the output goes out, unless memory runs out.
-    ensures complete { (readings : Readings) (told : Told) → Tells readings (job_of_words words.now) (F.told files.old) (I.told script.old) (O.told out.old) told
-        → ((Rose (F.faults files.old) (F.faults files.new)) ⊎ (Rose (I.faults script.old) (I.faults script.new)) ⊎ (Rose (O.faults out.old) (O.faults out.new)) → ⊥)
-        → length told.script < 2 ^ 40 → result ≢ 6 → WroteAll result (job_output readings (job_of_words words.now) told) told.taken (O.told out.new) }
+    ensures complete { (readings : Readings) (told : Told)
+        → Tells readings (job_of_words words.now)
+        (F.told files.old) (I.told script.old) (O.told out.old) told
+        → ((Rose (F.faults files.old) (F.faults files.new))
+        ⊎ (Rose (I.faults script.old) (I.faults script.new))
+        ⊎ (Rose (O.faults out.old) (O.faults out.new)) → ⊥)
+        → length told.script < 2 ^ 40 → result ≢ 6
+        → WroteAll result (job_output readings (job_of_words words.now) told)
+        told.taken (O.told out.new) }
     // Which status the output then has, and what was written, at each status; so it is even where something failed.
-    ensures exactly { (readings : Readings) (told : Told) → TellsFiles (job_of_words words.now) (F.told files.old) told.folder → Fits (status_of result) (job_output readings (job_of_words words.now) told).status }
-    ensures written { (readings : Readings) (told : Told) → Tells readings (job_of_words words.now) (F.told files.old) (I.told script.old) (O.told out.old) told
-        → Wrote (status_of result) (job_output readings (job_of_words words.now) told) told.script told.taken (I.told script.new) (O.told out.new) }
+    ensures exactly { (readings : Readings) (told : Told)
+        → TellsFiles (job_of_words words.now) (F.told files.old) told.folder
+        → Fits (status_of result) (job_output readings (job_of_words words.now) told).status }
+    ensures written { (readings : Readings) (told : Told)
+        → Tells readings (job_of_words words.now)
+        (F.told files.old) (I.told script.old) (O.told out.old) told
+        → Wrote (status_of result) (job_output readings (job_of_words words.now) told)
+        told.script told.taken (I.told script.new) (O.told out.new) }
     // Where the script stopped before its end, what was read of it was answered by the session with the program that the words
     // ask for; each line has one reply, and each reply is one line.
-    ensures answered_part { (readings : Readings) (told : Told) (program : List Procedure) → Tells readings (job_of_words words.now) (F.told files.old) (I.told script.old) (O.told out.old) told → IsAccepted readings (job_of_words words.now) told.folder program
-        → (result ≡ 4) ⊎ (result ≡ 8) → AnsweredRead (server (meaning_of (domain_in (job_of_words words.now))).operations) (opening readings (engine_in (job_of_words words.now)) program) told.script told.taken (I.told script.new) (O.told out.new) }
-    ensures one_reply_each { OneForEach (meaning_of (domain_in (job_of_words words.now))).operations }
-    ensures words_exactly { (result ≡ 2 → job_of_words words.now ≡ None) × (job_of_words words.now ≡ None → (result ≡ 2) ⊎ (result ≡ 5) ⊎ (result ≡ 6)) }
-    ensures read_to_end { result ≡ 0 → AsksToServe (job_of_words words.now) → (text : List ℕ) → I.told script.old ≡ Some text → ReadToEnd text (I.told script.new) }
-    ensures gen_ends { AsksToGenerate (job_of_words words.now) → (result ≡ 0) ⊎ (result ≡ 5) ⊎ (result ≡ 6) }
+    ensures answered_part { (readings : Readings) (told : Told) (program : List Procedure)
+        → Tells readings (job_of_words words.now)
+        (F.told files.old) (I.told script.old) (O.told out.old) told
+        → IsAccepted readings (job_of_words words.now) told.folder program
+        → (result ≡ 4) ⊎ (result ≡ 8)
+        → AnsweredRead (server (operations_in (job_of_words words.now)))
+        (opening readings (engine_in (job_of_words words.now)) program)
+        told.script told.taken (I.told script.new) (O.told out.new) }
+    ensures one_reply_each { OneForEach (operations_in (job_of_words words.now)) }
+    ensures words_exactly { (result ≡ 2 → job_of_words words.now ≡ None)
+        × (job_of_words words.now ≡ None → (result ≡ 2) ⊎ (result ≡ 5) ⊎ (result ≡ 6)) }
+    ensures read_to_end { result ≡ 0 → AsksToServe (job_of_words words.now)
+        → ReadsToEnd (I.told script.old) (I.told script.new) }
+    ensures gen_ends { AsksToGenerate (job_of_words words.now)
+        → (result ≡ 0) ⊎ (result ≡ 5) ⊎ (result ≡ 6) }
     ensures script_unread { (AsksToServe (job_of_words words.now) → ⊥) → script.new ≡ script.old }
-    ensures script_failed { result ≡ 4 → AsksToServe (job_of_words words.now) × Rose (I.faults script.old) (I.faults script.new) }
+    ensures script_failed { result ≡ 4
+        → AsksToServe (job_of_words words.now) × Rose (I.faults script.old) (I.faults script.new) }
     ensures sink_failed { result ≡ 5 → Rose (O.faults out.old) (O.faults out.new) }
-    ensures files_failed { result ≡ 7 → (Rose (F.faults files.old) (F.faults files.new)) ⊎ (LacksFile (F.told files.old) (job_of_words words.now)) }
-    ensures long_script { result ≡ 8 → AsksToServe (job_of_words words.now) × ((text : List ℕ) → I.told script.old ≡ Some text → ReadBytes (2 ^ 40) text (I.told script.new)) }
+    ensures files_failed { result ≡ 7
+        → (Rose (F.faults files.old) (F.faults files.new))
+        ⊎ (LacksFile (F.told files.old) (job_of_words words.now)) }
+    ensures long_script { result ≡ 8
+        → AsksToServe (job_of_words words.now)
+        × ReadsBytes (2 ^ 40) (I.told script.old) (I.told script.new) }
     ensures nothing_written { (result ≡ 7) ⊎ (result ≡ 9) → O.told out.new ≡ O.told out.old }
     // At each moment of each script: a line that is answered by a state, as a question or as a step of a ticket, describes
     // every configuration that a run of the program present then reaches there; in a report no run fails a check that is
     // safe, none comes to a statement that is dead; a statement that is not told where a line asks what an answer depends
     // on does not matter to it.
-    ensures sound { (readings : Readings) (folder : List ℕ → Option (List ℕ)) (program : List Procedure) (before : List (List ℕ)) (line : List ℕ) → IsAccepted readings (job_of_words words.now) folder program
-        → IsSoundAfter (meaning_of (domain_in (job_of_words words.now))) readings (engine_in (job_of_words words.now)) program before line }
-    ensures reports_sound { (readings : Readings) (folder : List ℕ → Option (List ℕ)) (program : List Procedure) → IsAccepted readings (job_of_words words.now) folder program
-        → IsBatchSound (meaning_of (domain_in (job_of_words words.now))) (engine_in (job_of_words words.now)) program }
+    ensures sound { LinesAreSound (job_of_words words.now) }
+    ensures reports_sound { ReportsAreSound (job_of_words words.now) }
     // Where a certificate is checked, whoever wrote it, and the line that is written is the yes, each configuration of a
     // run of the program that stands at the test of a loop is described by the state written of the loop under its calls.
-    ensures verified { (readings : Readings) (told : Told) (domain : Single) (file cert text : List ℕ) (program : List Procedure) → job_of_words words.now ≡ Some (job.Verify domain file cert)
-        → Tells readings (job_of_words words.now) (F.told files.old) (I.told script.old) (O.told out.old) told → IsProgram readings (told.folder file) program → told.folder cert ≡ Some text
-        → result ≡ 0 → O.told out.new ≡ Some (told.taken ++ verified_line Yes) → AreRunsCovered domain program text }
+    ensures verified { (readings : Readings) (told : Told)
+        (domain : Single) (file cert text : List ℕ) (program : List Procedure)
+        → job_of_words words.now ≡ Some (job.Verify domain file cert)
+        → Tells readings (job_of_words words.now)
+        (F.told files.old) (I.told script.old) (O.told out.old) told
+        → IsProgram readings (told.folder file) program → told.folder cert ≡ Some text
+        → result ≡ 0 → O.told out.new ≡ Some (told.taken ++ verified_line Yes)
+        → AreRunsCovered domain program text }
     // Whatever was asked and edited before, where the same program stands the same replies are written to what asks for the
     // program alone; an undo restores all of these as they were before the last accepted edit, whatever questions, steps and
     // runs stand in between, and a redo as they were after it. These are the machines whose lines `output` has.
-    ensures history_unseen { HistoriesDoNotMatter (meaning_of (domain_in (job_of_words words.now))).operations }
-    ensures undo_restores { UndoRestores (meaning_of (domain_in (job_of_words words.now))).operations }
-    ensures redo_restores { RedoRestores (meaning_of (domain_in (job_of_words words.now))).operations }
+    ensures history_unseen { HistoriesDoNotMatter (operations_in (job_of_words words.now)) }
+    ensures undo_restores { UndoRestores (operations_in (job_of_words words.now)) }
+    ensures redo_restores { RedoRestores (operations_in (job_of_words words.now)) }
     // A line that is refused changes nothing, but that a ticket whose question is gone is closed.
-    ensures refusals_keep { RefusalsKeep (meaning_of (domain_in (job_of_words words.now))).operations }
+    ensures refusals_keep { RefusalsKeep (operations_in (job_of_words words.now)) }
     // What others asked never makes a question or a step longer: after any questions, reports, steps and runs it fills no more
     // cells than it would have filled before them.
-    ensures never_longer { (readings : Readings) (folder : List ℕ → Option (List ℕ)) (program : List Procedure) (before : List (List ℕ)) → IsAccepted readings (job_of_words words.now) folder program
-        → NeverLonger (meaning_of (domain_in (job_of_words words.now))).operations (served_after (domain_in (job_of_words words.now)) readings (engine_in (job_of_words words.now)) program before) }
-    // What `cert` wrote of a program, without an over in place of the lines, `verify` finds to hold: by intervals and by list
-    // segments.
+    ensures never_longer { NeverLonger (job_of_words words.now) }
+    // What `cert` wrote of a program, without an over in place of the lines, `verify` finds to hold.
     ensures certified { WrittenAreAccepted }
     // From a budget on that is stated for each domain by the program present, no line is replied by an over.
-    ensures settles { (readings : Readings) (folder : List ℕ → Option (List ℕ)) (program : List Procedure) (before : List (List ℕ)) (line : List ℕ) → IsAccepted readings (job_of_words words.now) folder program
-        → IsSettledAfter (domain_in (job_of_words words.now)) readings (engine_in (job_of_words words.now)) program before line }
+    ensures settles { LinesSettle (job_of_words words.now) }
     // No byte depends on how many results are remembered.
-    ensures memo_unseen { (readings : Readings) (settings : AnalysisOptions) (memo other : ℕ) (file : List ℕ) (folder : List ℕ → Option (List ℕ)) (text : List ℕ)
-        → output readings (Some (job.Serve settings memo file)) folder text ≡ output readings (Some (job.Serve settings other file)) folder text }
+    ensures memo_unseen { MemoIsUnseen }
 {
     named_domains_are_sound();
     named_domains_converge();

@@ -1,14 +1,15 @@
 //! What is done for a program: the clauses of `run`, from a program on.
-ghost use Rattle.std.specs.Prelude.{◌≡◌, ◌<◌, ◌^◌, ◌⊎◌, ℕ, List, Option, Some};
+ghost use Rattle.std.specs.Prelude.{◌≡◌, ◌<◌, ◌^◌, Some};
 ghost use Rattle.io_edge.specs.Outside.{Rose};
-ghost use Rattle.serve_script.specs.Replies.{ReadToEnd, ReadBytes};
-ghost use Rattle.serve_output.specs.Ends.{Fits, Wrote};
-ghost use Rattle.serve_output.specs.Jobs.{engine_of, Serves};
-ghost use Rattle.serve_output.specs.Output.{batch_bytes, gen_bytes, program_bytes, served_bytes};
+ghost use Rattle.serve_script.specs.Replies.{ReadsBytes, ReadsToEnd};
+ghost use Rattle.serve_output.specs.Ends.{EndsBy, Fits, WritesFor, WritesOutput};
+ghost use Rattle.serve_output.specs.Jobs.{engine_of, Serves, TellsServed};
+ghost use Rattle.serve_output.specs.Output.{batch_bytes, done, gen_bytes, served_bytes};
 ghost use Rattle.serve_answers.specs.Readings.{Readings};
 ghost use Rattle.serve_answers.specs.Fine.{opening};
 ghost use Rattle.serve_answers.specs.Lines.{Served};
-ghost use Rattle.serve_output.specs.Works.{program_in, task_in, IsNumbered, Remembers};
+ghost use Rattle.serve_output.specs.Works.{program_in, task_in, work_output};
+ghost use Rattle.serve_output.specs.Works.{IsNumbered, Remembers};
 
 use crate::generated::summary;
 use crate::server::Server;
@@ -35,11 +36,16 @@ fn serve_lines<D: Named, I: Source, O: Sink, L: Ledger>(
 ) -> Status
     requires lasts { ⟦<Server<D> as Answerer>⟧.lasts server.old (2 ^ 40) }
     ensures fits { Fits result 0 }
-    ensures wrote { (first : Served) → ⟦<Server<D> as Answerer>⟧.stands server.old first → (text taken : List ℕ) → I.told script.old ≡ Some text → O.told out.old ≡ Some taken
-        → Wrote result (record { status = 0; bytes = served_bytes D.name first text }) text taken (I.told script.new) (O.told out.new) }
-    ensures ended { result ≡ Status.Done → (text : List ℕ) → I.told script.old ≡ Some text → ReadToEnd text (I.told script.new) }
-    ensures long { result ≡ Status.LongScript → (text : List ℕ) → I.told script.old ≡ Some text → ReadBytes (2 ^ 40) text (I.told script.new) }
-    ensures script_failed { result ≡ Status.Script → Rose (I.faults script.old) (I.faults script.new) }
+    ensures wrote { (first : Served) → ⟦<Server<D> as Answerer>⟧.stands server.old first →
+        WritesFor (λ text. I.told script.old ≡ Some text) result
+        (λ text. done (served_bytes D.name first text))
+        (I.told script.new) (O.told out.old) (O.told out.new) }
+    ensures ended { result ≡ Status.Done →
+        ReadsToEnd (I.told script.old) (I.told script.new) }
+    ensures long { result ≡ Status.LongScript →
+        ReadsBytes (2 ^ 40) (I.told script.old) (I.told script.new) }
+    ensures script_failed { result ≡ Status.Script →
+        Rose (I.faults script.old) (I.faults script.new) }
     ensures sink_failed { result ≡ Status.Sink → Rose (O.faults out.old) (O.faults out.new) }
     ensures no_file { result ≡ Status.Files → ⊥ }
     ensures no_words { result ≡ Status.Words → ⊥ }
@@ -68,11 +74,16 @@ fn serve_program<D: Named, I: Source, O: Sink, L: Ledger>(
     requires memo { 0 < memo }
     requires numbered { IsNumbered table.program }
     ensures fits { Fits result 0 }
-    ensures wrote { (readings : Readings) (text taken : List ℕ) → I.told script.old ≡ Some text → O.told out.old ≡ Some taken
-        → Wrote result (record { status = 0; bytes = served_bytes D.name (opening readings (engine_of settings.now) table.program) text }) text taken (I.told script.new) (O.told out.new) }
-    ensures ended { result ≡ Status.Done → (text : List ℕ) → I.told script.old ≡ Some text → ReadToEnd text (I.told script.new) }
-    ensures long { result ≡ Status.LongScript → (text : List ℕ) → I.told script.old ≡ Some text → ReadBytes (2 ^ 40) text (I.told script.new) }
-    ensures script_failed { result ≡ Status.Script → Rose (I.faults script.old) (I.faults script.new) }
+    ensures wrote { (readings : Readings) →
+        WritesFor (λ text. I.told script.old ≡ Some text) result (λ text. done
+        (served_bytes D.name (opening readings (engine_of settings.now) table.program) text))
+        (I.told script.new) (O.told out.old) (O.told out.new) }
+    ensures ended { result ≡ Status.Done →
+        ReadsToEnd (I.told script.old) (I.told script.new) }
+    ensures long { result ≡ Status.LongScript →
+        ReadsBytes (2 ^ 40) (I.told script.old) (I.told script.new) }
+    ensures script_failed { result ≡ Status.Script →
+        Rose (I.faults script.old) (I.faults script.new) }
     ensures sink_failed { result ≡ Status.Sink → Rose (O.faults out.old) (O.faults out.new) }
     ensures no_file { result ≡ Status.Files → ⊥ }
     ensures no_words { result ≡ Status.Words → ⊥ }
@@ -93,10 +104,11 @@ fn batch_program<D: Named, O: Sink, L: Ledger>(
     out: &mut O,
     steps: &mut Steps<L>,
 ) -> Status
-    ensures status { (result ≡ Status.Done) ⊎ ((result ≡ Status.Sink) ⊎ (result ≡ Status.Memory)) }
+    ensures status { EndsBy Status.Done result }
     ensures fits { Fits result 0 }
-    ensures wrote { (text taken : List ℕ) (rest : Option (List ℕ)) → O.told out.old ≡ Some taken
-        → Wrote result (record { status = 0; bytes = batch_bytes D.name (engine_of settings.now) program.now }) text taken rest (O.told out.new) }
+    ensures wrote { WritesOutput result
+        (done (batch_bytes D.name (engine_of settings.now) program.now))
+        (O.told out.old) (O.told out.new) }
     ensures sink_failed { result ≡ Status.Sink → Rose (O.faults out.old) (O.faults out.new) }
 {
     let Ok(bytes) = listed(alloc, domain, settings, program, steps) else {
@@ -119,10 +131,12 @@ fn gen_program<D: Named, O: Sink, L: Ledger>(
     steps: &mut Steps<L>,
 ) -> Status
     requires numbered { IsNumbered table.program }
-    ensures status { (result ≡ Status.Done) ⊎ ((result ≡ Status.Sink) ⊎ (result ≡ Status.Memory)) }
+    ensures status { EndsBy Status.Done result }
     ensures fits { Fits result 0 }
-    ensures wrote { (readings : Readings) (text taken : List ℕ) (rest : Option (List ℕ)) → O.told out.old ≡ Some taken
-        → Wrote result (record { status = 0; bytes = gen_bytes D.name (opening readings (engine_of settings.now) table.program) drawn.seed drawn.size }) text taken rest (O.told out.new) }
+    ensures wrote { (readings : Readings) → WritesOutput result (done
+        (gen_bytes D.name (opening readings (engine_of settings.now) table.program)
+        drawn.seed drawn.size))
+        (O.told out.old) (O.told out.new) }
     ensures sink_failed { result ≡ Status.Sink → Rose (O.faults out.old) (O.faults out.new) }
 {
     let Ok(line) = summary(alloc, domain, settings, table, drawn, steps) else {
@@ -148,12 +162,17 @@ fn work_by<D: Named, I: Source, O: Sink, L: Ledger>(
     requires remembers { Remembers (task_in work) }
     requires numbered { IsNumbered (program_in work) }
     ensures fits { Fits result 0 }
-    ensures wrote { (readings : Readings) (text taken : List ℕ) → (Serves (task_in work) → I.told script.old ≡ Some text) → O.told out.old ≡ Some taken
-        → Wrote result (record { status = 0; bytes = program_bytes readings settings.now.domain (engine_of settings.now) (task_in work) (program_in work) text }) text taken (I.told script.new) (O.told out.new) }
-    ensures ended { result ≡ Status.Done → Serves (task_in work) → (text : List ℕ) → I.told script.old ≡ Some text → ReadToEnd text (I.told script.new) }
+    ensures wrote { (readings : Readings) →
+        WritesFor (TellsServed (task_in work) (I.told script.old)) result
+        (work_output readings settings.now work)
+        (I.told script.new) (O.told out.old) (O.told out.new) }
+    ensures ended { result ≡ Status.Done → Serves (task_in work) →
+        ReadsToEnd (I.told script.old) (I.told script.new) }
     ensures unread { (Serves (task_in work) → ⊥) → script.new ≡ script.old }
-    ensures long { result ≡ Status.LongScript → Serves (task_in work) × ((text : List ℕ) → I.told script.old ≡ Some text → ReadBytes (2 ^ 40) text (I.told script.new)) }
-    ensures script_failed { result ≡ Status.Script → Serves (task_in work) × Rose (I.faults script.old) (I.faults script.new) }
+    ensures long { result ≡ Status.LongScript → Serves (task_in work) ×
+        ReadsBytes (2 ^ 40) (I.told script.old) (I.told script.new) }
+    ensures script_failed { result ≡ Status.Script →
+        Serves (task_in work) × Rose (I.faults script.old) (I.faults script.new) }
     ensures sink_failed { result ≡ Status.Sink → Rose (O.faults out.old) (O.faults out.new) }
     ensures no_file { result ≡ Status.Files → ⊥ }
     ensures no_words { result ≡ Status.Words → ⊥ }
@@ -182,12 +201,17 @@ pub(crate) fn do_work<I: Source, O: Sink, L: Ledger>(
     requires remembers { Remembers (task_in work) }
     requires numbered { IsNumbered (program_in work) }
     ensures fits { Fits result 0 }
-    ensures wrote { (readings : Readings) (text taken : List ℕ) → (Serves (task_in work) → I.told script.old ≡ Some text) → O.told out.old ≡ Some taken
-        → Wrote result (record { status = 0; bytes = program_bytes readings settings.now.domain (engine_of settings.now) (task_in work) (program_in work) text }) text taken (I.told script.new) (O.told out.new) }
-    ensures ended { result ≡ Status.Done → Serves (task_in work) → (text : List ℕ) → I.told script.old ≡ Some text → ReadToEnd text (I.told script.new) }
+    ensures wrote { (readings : Readings) →
+        WritesFor (TellsServed (task_in work) (I.told script.old)) result
+        (work_output readings settings.now work)
+        (I.told script.new) (O.told out.old) (O.told out.new) }
+    ensures ended { result ≡ Status.Done → Serves (task_in work) →
+        ReadsToEnd (I.told script.old) (I.told script.new) }
     ensures unread { (Serves (task_in work) → ⊥) → script.new ≡ script.old }
-    ensures long { result ≡ Status.LongScript → Serves (task_in work) × ((text : List ℕ) → I.told script.old ≡ Some text → ReadBytes (2 ^ 40) text (I.told script.new)) }
-    ensures script_failed { result ≡ Status.Script → Serves (task_in work) × Rose (I.faults script.old) (I.faults script.new) }
+    ensures long { result ≡ Status.LongScript → Serves (task_in work) ×
+        ReadsBytes (2 ^ 40) (I.told script.old) (I.told script.new) }
+    ensures script_failed { result ≡ Status.Script →
+        Serves (task_in work) × Rose (I.faults script.old) (I.faults script.new) }
     ensures sink_failed { result ≡ Status.Sink → Rose (O.faults out.old) (O.faults out.new) }
     ensures no_file { result ≡ Status.Files → ⊥ }
     ensures no_words { result ≡ Status.Words → ⊥ }

@@ -3,4 +3,5 @@ pub mod Going
 pub mod Holds
 pub mod Moves
 pub mod Reports
+pub mod Sessions
 pub mod Turns

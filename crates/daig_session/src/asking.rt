@@ -32,8 +32,11 @@ fn asked_targets<D: Domain>(
     string: &[u32],
 ) -> Result<Items<Target>, QueryError>
     requires right { IsRight (D.operations engine.now.domain) flow.now engine.now.store }
-    ensures asked { IfOk result (λ ts. IsAsked flow.now.program at.now string.now (map target_of ts)) }
-    ensures refused { IfErr result (IsRefused (answer (D.operations engine.now.domain) flow.now.engine flow.now.program at.now string.now)) }
+    ensures asked { IfOk result (λ ts. IsAsked flow.now.program at.now string.now
+        (map target_of ts)) }
+    ensures refused { IfErr result (IsRefused
+        (answer (D.operations engine.now.domain) flow.now.engine flow.now.program at.now
+        string.now)) }
 {
     let _domain = engine.domain();
     if string.len() > 2 {
@@ -59,8 +62,11 @@ pub(crate) fn begun<D: Domain>(
     string: &[u32],
 ) -> Result<Going, QueryError>
     requires right { IsRight (D.operations engine.now.domain) flow.now engine.now.store }
-    ensures going { IfOk result (IsGoing (D.operations engine.now.domain) flow.now engine.now.store at.now string.now) }
-    ensures refused { IfErr result (IsRefused (answer (D.operations engine.now.domain) flow.now.engine flow.now.program at.now string.now)) }
+    ensures going { IfOk result (IsGoing (D.operations engine.now.domain) flow.now engine.now.store
+        at.now string.now) }
+    ensures refused { IfErr result (IsRefused
+        (answer (D.operations engine.now.domain) flow.now.engine flow.now.program at.now
+        string.now)) }
 {
     let targets = asked_targets(alloc, engine, flow, at, string)?;
     let walk = Walk::new(alloc);
@@ -74,13 +80,22 @@ pub(crate) fn read_answer<D: Domain, L: Ledger>(
     walk: &Walk,
     steps: &mut Steps<L>,
 ) -> Result<Value<D::State>, Memory>
-    requires filled { (plan : Plan) × (l : Location) × (string : List ℕ) × (ts : List PlainTarget) × IsAsked plan.program l string ts × AreFilled (D.operations engine.now.domain) engine.now.store walk.now plan ts }
-    ensures says { (plan : Plan) (l : Location) (string : List ℕ) (ts : List PlainTarget) → IsAsked plan.program l string ts → AreFilled (D.operations engine.now.domain) engine.now.store walk.now plan ts →
-        IfOk result (λ v. Says (answer (D.operations engine.now.domain) plan.engine plan.program l string) (Some v)) }
-    ensures sound { (plan : Plan) (l : Location) (string : List ℕ) (ts : List PlainTarget) → IsAsked plan.program l string ts → AreFilled (D.operations engine.now.domain) engine.now.store walk.now plan ts →
+    requires filled { (plan : Plan) × (l : Location) × (string : List ℕ) × (ts : List PlainTarget) ×
+        IsAsked plan.program l string ts × AreFilled (D.operations engine.now.domain)
+        engine.now.store walk.now plan ts }
+    ensures says { (plan : Plan) (l : Location) (string : List ℕ) (ts : List PlainTarget) →
+        IsAsked plan.program l string ts →
+        AreFilled (D.operations engine.now.domain) engine.now.store walk.now plan ts →
+        IfOk result (λ v. Says (answer (D.operations engine.now.domain) plan.engine plan.program
+        l string) (Some v)) }
+    ensures sound { (plan : Plan) (l : Location) (string : List ℕ) (ts : List PlainTarget) →
+        IsAsked plan.program l string ts →
+        AreFilled (D.operations engine.now.domain) engine.now.store walk.now plan ts →
         IfOk result (λ v. Covers (D.covers engine.now.domain) plan.program l string (Some v)) }
     ensures least { steps.old ≤ steps.new }
-    ensures ticked { (plan : Plan) (ts : List PlainTarget) → AreFilled (D.operations engine.now.domain) engine.now.store walk.now plan ts → steps.new ≤ steps.old + D.counted engine.now.domain * (2 * length ts) }
+    ensures ticked { (plan : Plan) (ts : List PlainTarget) →
+        AreFilled (D.operations engine.now.domain) engine.now.store walk.now plan ts →
+        steps.new ≤ steps.old + D.counted engine.now.domain * (2 * length ts) }
 {
     match engine.read(alloc, walk, steps)? {
         Some(value) => Ok(value),

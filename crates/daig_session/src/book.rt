@@ -44,7 +44,8 @@ impl Book {
         widening: Widening,
     ) -> Result<Book, Memory>
         ensures fine { IfOk result (λ _. IsFine table.program) }
-        ensures first { IfOk result (λ b. IsFirst b table.program (engine_of budget widening) next) }
+        ensures first { IfOk result (λ b. IsFirst b table.program
+            (engine_of budget widening) next) }
     {
         table.procs();
         let setting = Setting::new(alloc, &table.view(), budget, widening)?;
@@ -70,8 +71,10 @@ impl Book {
     /// Puts a change in, with the setting of the program that it makes and the next number.
     pub(crate) fn remember(&mut self, change: Change, next: u32, setting: Setting)
         requires leads { Leads self.old.history.room self.old.history.now change }
-        requires set { setting ≡ setting_of self.old.setting.engine (routines_of (changed_program self.old.history.now change)) }
-        ensures turned { IsTurned self.old (changed_program self.old.history.now change) (take 64 (self.old.history.now ∷ self.old.history.past)) [] next self.new }
+        requires set { setting ≡ setting_of self.old.setting.engine
+            (routines_of (changed_program self.old.history.now change)) }
+        ensures turned { IsTurned self.old (changed_program self.old.history.now change)
+            (take 64 (self.old.history.now ∷ self.old.history.past)) [] next self.new }
     {
         self.history.remember(change);
         self.setting = setting;
@@ -83,7 +86,10 @@ impl Book {
     pub(crate) fn back(&mut self, setting: Setting)
         requires there { 0 < length self.old.history.past }
         ensures past { self.new.history.now ∷ self.new.history.past ≡ self.old.history.past }
-        ensures turned { setting ≡ setting_of self.old.setting.engine (routines_of self.new.history.now) → IsTurned self.old self.new.history.now self.new.history.past (self.old.history.now ∷ self.old.history.future) self.old.next self.new }
+        ensures turned { setting ≡ setting_of self.old.setting.engine
+            (routines_of self.new.history.now) →
+            IsTurned self.old self.new.history.now self.new.history.past
+            (self.old.history.now ∷ self.old.history.future) self.old.next self.new }
     {
         self.history.back();
         self.setting = setting;
@@ -94,7 +100,10 @@ impl Book {
     pub(crate) fn forth(&mut self, setting: Setting)
         requires there { 0 < length self.old.history.future }
         ensures future { self.new.history.now ∷ self.new.history.future ≡ self.old.history.future }
-        ensures turned { setting ≡ setting_of self.old.setting.engine (routines_of self.new.history.now) → IsTurned self.old self.new.history.now (self.old.history.now ∷ self.old.history.past) self.new.history.future self.old.next self.new }
+        ensures turned { setting ≡ setting_of self.old.setting.engine
+            (routines_of self.new.history.now) →
+            IsTurned self.old self.new.history.now (self.old.history.now ∷ self.old.history.past)
+            self.new.history.future self.old.next self.new }
     {
         self.history.forth();
         self.setting = setting;

@@ -9,7 +9,7 @@ ghost use Rattle.daig_machine.specs.Machine.{Machine};
 ghost use Rattle.daig_machine.specs.Turns.{after_edit};
 ghost use Rattle.daig_session.specs.contracts.session.Session.{the_row};
 ghost use Rattle.daig_session.specs.Books.{IsSame};
-ghost use Rattle.daig_session.specs.Holds.{Holds, IsReady};
+ghost use Rattle.daig_session.specs.Sessions.{IsReadyBy, StandsFor};
 ghost use Rattle.daig_session.specs.Moves.{IsPlanned};
 
 use crate::moving::{Moving, leave, planned_move};
@@ -29,13 +29,15 @@ pub struct Planned {
 impl<D: Domain> Session<D> {
     /// Works out an edit beside what stands: nothing is changed except room.
     fn planned(&mut self, alloc: Global, edit: &Edit) -> Result<Planned, EditError>
-        requires ready { IsReady (D.operations self.old.engine.domain) self.old.engine.store self.old.book }
+        requires ready { IsReadyBy D.operations self.old }
         requires continues { Continues edit.now self.old.book.next }
         ensures engine { self.new.engine ≡ self.old.engine }
         ensures same { IsSame self.old.book self.new.book }
         ensures planned { IfOk result (IsPlanned self.new.engine.store self.new.book edit.now) }
-        ensures accepted { IfOk result (λ _. edit_refusal edit.now self.old.book.history.now self.old.book.next ≡ None) }
-        ensures refused { IfErr result (IsRefusal (edit_refusal edit.now self.old.book.history.now self.old.book.next)) }
+        ensures accepted { IfOk result (λ _. edit_refusal edit.now self.old.book.history.now
+            self.old.book.next ≡ None) }
+        ensures refused { IfErr result (IsRefusal
+            (edit_refusal edit.now self.old.book.history.now self.old.book.next)) }
     {
         let edited = apply(alloc, self.book.history.table(), edit, self.book.next)?;
         self.book.history.make_room(edited.next)?;
@@ -51,15 +53,17 @@ impl<D: Domain> Session<D> {
 
     /// Makes a planned edit.
     fn make(&mut self, planned: Planned)
-        requires ready { IsReady (D.operations self.old.engine.domain) self.old.engine.store self.old.book }
+        requires ready { IsReadyBy D.operations self.old }
         requires planned { (e : AnyEdit) × IsPlanned self.old.engine.store self.old.book e planned }
-        ensures ready { IsReady (D.operations self.new.engine.domain) self.new.engine.store self.new.book }
+        ensures ready { IsReadyBy D.operations self.new }
         ensures domain { self.new.engine.domain ≡ self.old.engine.domain }
         ensures spare { self.new.engine.spare ≡ self.old.engine.spare }
         ensures bounded { IsBounded self.new.engine.spare self.new.engine.store }
         ensures next_ticket { self.new.book.tickets.next ≡ self.old.book.tickets.next }
-        ensures committed { (e : AnyEdit) (m : Machine) → IsPlanned self.old.engine.store self.old.book e planned → Holds (D.operations self.old.engine.domain) self.old.engine.store self.old.book m →
-            Holds (D.operations self.new.engine.domain) self.new.engine.store self.new.book (after_edit (D.operations self.old.engine.domain) e m) }
+        ensures committed { (e : AnyEdit) (m : Machine) →
+            IsPlanned self.old.engine.store self.old.book e planned →
+            StandsFor D.operations self.old m →
+            StandsFor D.operations self.new (after_edit (D.operations self.old.engine.domain) e m) }
     {
         let Planned { edited, moving } = planned;
         let Edited { change, next } = edited;
@@ -91,20 +95,28 @@ impl<D: Domain> Session<D> {
     /// The first refusal of the edit: where it goes, then whether the numbers suffice, then the first fault of the new
     /// program; or [`EditError::Memory`] when memory runs out. The session is then as it was.
     pub fn prepare(&mut self, alloc: Global, edit: &Edit) -> Result<Prepared<'_, D>, EditError>
-        requires ready { IsReady (D.operations self.old.engine.domain) self.old.engine.store self.old.book }
+        requires ready { IsReadyBy D.operations self.old }
         requires continues { Continues edit.now self.old.book.next }
-        ensures* rests { sem 𝓛 (RestsIfErr (the_row D.row D.State.row D.State.PartialEq (record { hash_input = D.State.Hash.hash_input })) self.entry (λ p. p.session.ghost_name) result (λ s. (s.engine ≡ self.old.engine) × IsSame self.old.book s.book)) }
+        ensures* rests { sem 𝓛 (RestsIfErr
+            (the_row D.row D.State.row D.State.PartialEq
+            (record { hash_input = D.State.Hash.hash_input })) self.entry
+            (λ p. p.session.ghost_name) result
+            (λ s. (s.engine ≡ self.old.engine) × IsSame self.old.book s.book)) }
         ensures same_reference { IfOk result (λ p. p.session.ghost_name ≡ self.entry.ghost_name) }
-        ensures ready { IfOk result (λ p. IsReady (D.operations p.session.now.engine.domain) p.session.now.engine.store p.session.now.book) }
-        ensures planned { IfOk result (λ p. IsPlanned p.session.now.engine.store p.session.now.book edit.now p.planned) }
-        ensures holds { (m : Machine) → Holds (D.operations self.old.engine.domain) self.old.engine.store self.old.book m →
-            IfOk result (λ p. Holds (D.operations p.session.now.engine.domain) p.session.now.engine.store p.session.now.book m) }
+        ensures ready { IfOk result (λ p. IsReadyBy D.operations p.session.now) }
+        ensures planned { IfOk result (λ p. IsPlanned p.session.now.engine.store p.session.now.book
+            edit.now p.planned) }
+        ensures holds { (m : Machine) → StandsFor D.operations self.old m →
+            IfOk result (λ p. StandsFor D.operations p.session.now m) }
         ensures domain { IfOk result (λ p. p.session.now.engine.domain ≡ self.old.engine.domain) }
         ensures spare { IfOk result (λ p. p.session.now.engine.spare ≡ self.old.engine.spare) }
         ensures unmoved { IfOk result (λ p. p.session.now.engine.store ≡ self.old.engine.store) }
-        ensures next_ticket { IfOk result (λ p. p.session.now.book.tickets.next ≡ self.old.book.tickets.next) }
-        ensures accepted { IfOk result (λ _. edit_refusal edit.now self.old.book.history.now self.old.book.next ≡ None) }
-        ensures refused { IfErr result (IsRefusal (edit_refusal edit.now self.old.book.history.now self.old.book.next)) }
+        ensures next_ticket { IfOk result
+            (λ p. p.session.now.book.tickets.next ≡ self.old.book.tickets.next) }
+        ensures accepted { IfOk result (λ _. edit_refusal edit.now self.old.book.history.now
+            self.old.book.next ≡ None) }
+        ensures refused { IfErr result (IsRefusal
+            (edit_refusal edit.now self.old.book.history.now self.old.book.next)) }
     {
         let planned = self.planned(alloc, edit)?;
         Ok(Prepared {
@@ -117,7 +129,9 @@ impl<D: Domain> Session<D> {
 impl<D: Domain> Prepared<'_, D, Planned> {
     /// The number of the next new statement once the edit is made.
     pub fn next(&self) -> u32
-        ensures is { (e : AnyEdit) → IsPlanned self.now.session.now.engine.store self.now.session.now.book e self.now.planned → result ≡ next_after e self.now.session.now.book.next }
+        ensures is { (e : AnyEdit) → IsPlanned self.now.session.now.engine.store
+            self.now.session.now.book e self.now.planned →
+            result ≡ next_after e self.now.session.now.book.next }
     {
         self.planned.edited.next
     }
@@ -125,15 +139,20 @@ impl<D: Domain> Prepared<'_, D, Planned> {
     /// Makes the edit: of the kept cells those are kept that it leaves, and all tickets begin anew. It takes no memory and
     /// cannot fail.
     pub fn commit(self)
-        requires ready { IsReady (D.operations self.session.now.engine.domain) self.session.now.engine.store self.session.now.book }
-        requires planned { (e : AnyEdit) × IsPlanned self.session.now.engine.store self.session.now.book e self.planned }
-        ensures ready { IsReady (D.operations self.exit.0.now.engine.domain) self.exit.0.now.engine.store self.exit.0.now.book }
+        requires ready { IsReadyBy D.operations self.session.now }
+        requires planned { (e : AnyEdit) × IsPlanned self.session.now.engine.store
+            self.session.now.book e self.planned }
+        ensures ready { IsReadyBy D.operations self.exit.0.now }
         ensures domain { self.exit.0.now.engine.domain ≡ self.entry.session.now.engine.domain }
         ensures spare { self.exit.0.now.engine.spare ≡ self.entry.session.now.engine.spare }
         ensures bounded { IsBounded self.exit.0.now.engine.spare self.exit.0.now.engine.store }
-        ensures next_ticket { self.exit.0.now.book.tickets.next ≡ self.entry.session.now.book.tickets.next }
-        ensures committed { (e : AnyEdit) (m : Machine) → IsPlanned self.entry.session.now.engine.store self.entry.session.now.book e self.entry.planned → Holds (D.operations self.entry.session.now.engine.domain) self.entry.session.now.engine.store self.entry.session.now.book m →
-            Holds (D.operations self.exit.0.now.engine.domain) self.exit.0.now.engine.store self.exit.0.now.book (after_edit (D.operations self.entry.session.now.engine.domain) e m) }
+        ensures next_ticket { self.exit.0.now.book.tickets.next ≡
+            self.entry.session.now.book.tickets.next }
+        ensures committed { (e : AnyEdit) (m : Machine) →
+            IsPlanned self.entry.session.now.engine.store self.entry.session.now.book e
+            self.entry.planned → StandsFor D.operations self.entry.session.now m →
+            StandsFor D.operations self.exit.0.now
+            (after_edit (D.operations self.entry.session.now.engine.domain) e m) }
     {
         let Prepared { session, planned } = self;
         session.make(planned);

@@ -37,11 +37,15 @@ fn emptied<D: Domain>(
     setting: &Setting,
     other: &Setting,
 ) -> Result<RemovalOrder, Memory>
-    requires right { IsRight (D.operations engine.now.domain) (flow_of setting.now.engine table.now.program) engine.now.store }
+    requires right { IsRight (D.operations engine.now.domain)
+        (flow_of setting.now.engine table.now.program) engine.now.store }
     requires leads { Leads table.now.room table.now.program change.now }
     requires set { setting.now ≡ setting_of setting.now.engine (routines_of table.now.program) }
-    requires set_other { other.now ≡ setting_of setting.now.engine (routines_of (changed_program table.now.program change.now)) }
-    ensures empties { IfOk result (Empties (flow_of setting.now.engine table.now.program) (flow_of setting.now.engine (changed_program table.now.program change.now)) engine.now.store) }
+    requires set_other { other.now ≡ setting_of setting.now.engine
+        (routines_of (changed_program table.now.program change.now)) }
+    ensures empties { IfOk result (Empties (flow_of setting.now.engine table.now.program)
+        (flow_of setting.now.engine (changed_program table.now.program change.now))
+        engine.now.store) }
 {
     let changed = points_changed(alloc, table, change, setting, other)?;
     let old = Flow::new(table.view(), setting);
@@ -69,10 +73,12 @@ pub(crate) fn planned_move<D: Domain>(
     change: &Change,
     setting: &Setting,
 ) -> Result<Moving, Memory>
-    requires right { IsRight (D.operations engine.now.domain) (flow_of setting.now.engine table.now.program) engine.now.store }
+    requires right { IsRight (D.operations engine.now.domain)
+        (flow_of setting.now.engine table.now.program) engine.now.store }
     requires leads { Leads table.now.room table.now.program change.now }
     requires set { setting.now ≡ setting_of setting.now.engine (routines_of table.now.program) }
-    ensures moving { IfOk result (IsMoving engine.now.store setting.now.engine table.now.program (changed_program table.now.program change.now)) }
+    ensures moving { IfOk result (IsMoving engine.now.store setting.now.engine table.now.program
+        (changed_program table.now.program change.now)) }
 {
     let other = setting.after(alloc, table, change)?;
     let plan = emptied(alloc, engine, table, change, setting, &other)?;
@@ -87,8 +93,11 @@ pub(crate) fn planned_move<D: Domain>(
 pub(crate) fn leave<D: Domain>(engine: &mut Engine<D>, plan: RemovalOrder)
     requires order { IsOrder engine.old.store.graph.cells plan }
     requires held { IsInTables engine.old.store }
-    ensures leaves { (e : LoopOptions) (old new : List Procedure) → AreOneApart old new → IsRight (D.operations engine.old.domain) (flow_of e old) engine.old.store → Empties (flow_of e old) (flow_of e new) engine.old.store plan →
-        Leaves (D.operations engine.old.domain) (flow_of e old) (flow_of e new) engine.old.store engine.new.store }
+    ensures leaves { (e : LoopOptions) (old new : List Procedure) → AreOneApart old new →
+        IsRight (D.operations engine.old.domain) (flow_of e old) engine.old.store →
+        Empties (flow_of e old) (flow_of e new) engine.old.store plan →
+        Leaves (D.operations engine.old.domain) (flow_of e old) (flow_of e new) engine.old.store
+        engine.new.store }
     ensures domain { engine.new.domain ≡ engine.old.domain }
     ensures spare { engine.new.spare ≡ engine.old.spare }
     ensures bounded { IsBounded engine.new.spare engine.new.store }

@@ -1,5 +1,6 @@
 //! Queries, for `answers` and `sound` of `query`, and for `explains` and `stays` of `why`.
-ghost use Rattle.std.specs.Prelude.{◌≡◌, ℕ, suc, ◌+◌, ◌*◌, ◌≤◌, List, length, map, Some, IfErr, IfOk, OnOk};
+ghost use Rattle.std.specs.Prelude.{◌≡◌, ℕ, suc, ◌+◌, ◌*◌, ◌≤◌, List, length, map, Some, IfErr};
+ghost use Rattle.std.specs.Prelude.{IfOk, OnOk};
 ghost use Rattle.imp_syntax.specs.declared.edit.Location.{Location};
 ghost use Rattle.imp_check.specs.Slots.{routines_of};
 ghost use Rattle.imp_flow.specs.Reached.{target_of};
@@ -12,6 +13,8 @@ ghost use Rattle.daig_machine.specs.Turns.{after_question, missing_at, targets_o
 ghost use Rattle.daig_session.specs.Books.{flow_in};
 ghost use Rattle.daig_session.specs.Going.{IsAsked, IsGoing};
 ghost use Rattle.daig_session.specs.Holds.{Holds, IsReady};
+ghost use Rattle.daig_session.specs.Sessions.{IsReadyBy, StandsFor, FromEach, TicksAtMost};
+ghost use Rattle.daig_session.specs.Sessions.{cells_filled};
 ghost use Rattle.daig_session.specs.Reports.{IsUnticked};
 ghost use Rattle.daig_session.specs.Turns.{Explains, Fails, Questions};
 
@@ -39,18 +42,25 @@ fn fill_all<D: Domain, L: Ledger>(
     steps: &mut Steps<L>,
 ) -> Result<usize, Memory>
     requires ready { IsReady (D.operations engine.old.domain) engine.old.store book.now }
-    requires going { (l : Location) × (string : List ℕ) × IsGoing (D.operations engine.old.domain) (flow_in book.now) engine.old.store l string going.old }
+    requires going { (l : Location) × (string : List ℕ) × IsGoing (D.operations engine.old.domain)
+        (flow_in book.now) engine.old.store l string going.old }
     ensures domain { engine.new.domain ≡ engine.old.domain }
     ensures spare { engine.new.spare ≡ engine.old.spare }
     ensures targets { going.new.targets ≡ going.old.targets }
-    ensures fills { Fills (D.operations engine.old.domain) (flow_in book.now) (map target_of going.old.targets) engine.old.store engine.new.store (cells_added engine.old.store engine.new.store) }
+    ensures fills { Fills (D.operations engine.old.domain) (flow_in book.now)
+        (map target_of going.old.targets) engine.old.store engine.new.store
+        (cells_added engine.old.store engine.new.store) }
     ensures few { FillsFew engine.old.store engine.new.store }
     ensures counted { IfOk result (λ n. n ≡ cells_added engine.old.store engine.new.store) }
-    ensures all { IfOk result (λ n. n ≡ length (missing (D.operations engine.old.domain) (flow_in book.now) (map target_of going.old.targets) engine.old.store)) }
-    ensures filled { OnOk result (AreFilled (D.operations engine.old.domain) engine.new.store going.new.walk (flow_in book.now) (map target_of going.old.targets)) }
+    ensures all { IfOk result (λ n. n ≡
+        length (missing (D.operations engine.old.domain) (flow_in book.now)
+        (map target_of going.old.targets) engine.old.store)) }
+    ensures filled { OnOk result (AreFilled (D.operations engine.old.domain) engine.new.store
+        going.new.walk (flow_in book.now) (map target_of going.old.targets)) }
     ensures least { steps.old ≤ steps.new }
     ensures ticked { IfOk result (λ n. steps.new ≤ steps.old + D.counted engine.old.domain * n) }
-    ensures most { steps.new ≤ steps.old + D.counted engine.old.domain * suc (cells_added engine.old.store engine.new.store) }
+    ensures most { steps.new ≤ steps.old
+        + D.counted engine.old.domain * suc (cells_added engine.old.store engine.new.store) }
 {
     let flow = book.flow();
     let Going { targets, walk } = going;
@@ -73,27 +83,34 @@ impl<D: Domain> Session<D> {
         string: &[u32],
         steps: &mut Steps<L>,
     ) -> Result<Filled, QueryError>
-        requires ready { IsReady (D.operations self.old.engine.domain) self.old.engine.store self.old.book }
-        ensures ready { IsReady (D.operations self.new.engine.domain) self.new.engine.store self.new.book }
+        requires ready { IsReadyBy D.operations self.old }
+        ensures ready { IsReadyBy D.operations self.new }
         ensures domain { self.new.engine.domain ≡ self.old.engine.domain }
         ensures spare { self.new.engine.spare ≡ self.old.engine.spare }
         ensures book { self.new.book ≡ self.old.book }
         ensures few { FillsFew self.old.engine.store self.new.engine.store }
-        ensures targets { IfOk result (λ f. IsAsked (flow_in self.old.book).program at.now string.now (map target_of f.going.targets)) }
-        ensures filled { IfOk result (λ f. AreFilled (D.operations self.old.engine.domain) self.new.engine.store f.going.walk (flow_in self.old.book) (map target_of f.going.targets)) }
-        ensures counted { IfOk result (λ f. f.count ≡ cells_added self.old.engine.store self.new.engine.store) }
-        ensures all { (m : Machine) → Holds (D.operations self.old.engine.domain) self.old.engine.store self.old.book m →
-            IfOk result (λ f. f.count ≡ length (missing_at (D.operations self.old.engine.domain) at.now string.now m)) }
-        ensures answered { (m : Machine) → Holds (D.operations self.old.engine.domain) self.old.engine.store self.old.book m →
-            IfOk result (λ f. Holds (D.operations self.old.engine.domain) self.new.engine.store (record self.old.book { cost = f.count }) (after_question (D.operations self.old.engine.domain) at.now string.now m)) }
-        ensures unanswered { (m : Machine) → Holds (D.operations self.old.engine.domain) self.old.engine.store self.old.book m →
-            IfOk result (λ _. IsBetween (missing_at (D.operations self.old.engine.domain) at.now string.now m) m (Holds (D.operations self.new.engine.domain) self.new.engine.store self.new.book)) }
-        ensures fails { (m : Machine) → Holds (D.operations self.old.engine.domain) self.old.engine.store self.old.book m →
-            IfErr result (Fails (D.operations self.old.engine.domain) m (Holds (D.operations self.new.engine.domain) self.new.engine.store self.new.book) at.now string.now) }
+        ensures targets { IfOk result (λ f. IsAsked (flow_in self.old.book).program at.now
+            string.now (map target_of f.going.targets)) }
+        ensures filled { IfOk result (λ f. AreFilled (D.operations self.old.engine.domain)
+            self.new.engine.store f.going.walk (flow_in self.old.book)
+            (map target_of f.going.targets)) }
+        ensures counted { IfOk result (λ f. f.count ≡ cells_filled self.old self.new) }
+        ensures all { FromEach D.operations self.old self.new
+            (λ dom m _. IfOk result (λ f. f.count ≡ length (missing_at dom at.now string.now m))) }
+        ensures answered { FromEach D.operations self.old self.new
+            (λ dom m _. IfOk result (λ f. Holds dom self.new.engine.store
+            (record self.old.book { cost = f.count }) (after_question dom at.now string.now m))) }
+        ensures unanswered { FromEach D.operations self.old self.new
+            (λ dom m stands. IfOk result
+            (λ _. IsBetween (missing_at dom at.now string.now m) m stands)) }
+        ensures fails { FromEach D.operations self.old self.new
+            (λ dom m stands. IfErr result (Fails dom m stands at.now string.now)) }
         ensures least { steps.old ≤ steps.new }
         ensures unticked { IfErr result (IsUnticked steps.old steps.new) }
-        ensures ticked { IfOk result (λ f. steps.new ≤ steps.old + D.counted self.old.engine.domain * f.count) }
-        ensures most { steps.new ≤ steps.old + D.counted self.old.engine.domain * suc (cells_added self.old.engine.store self.new.engine.store) }
+        ensures ticked { IfOk result (λ f. TicksAtMost D.counted self.old steps.old
+            steps.new f.count) }
+        ensures most { TicksAtMost D.counted self.old steps.old steps.new
+            (suc (cells_filled self.old self.new)) }
     {
         questions_keep_cells::<D>();
         let flow = self.book.flow();
@@ -110,27 +127,34 @@ impl<D: Domain> Session<D> {
         string: &[u32],
         steps: &mut Steps<L>,
     ) -> Result<Filled, QueryError>
-        requires ready { IsReady (D.operations self.old.engine.domain) self.old.engine.store self.old.book }
-        ensures ready { IsReady (D.operations self.new.engine.domain) self.new.engine.store self.new.book }
+        requires ready { IsReadyBy D.operations self.old }
+        ensures ready { IsReadyBy D.operations self.new }
         ensures domain { self.new.engine.domain ≡ self.old.engine.domain }
         ensures spare { self.new.engine.spare ≡ self.old.engine.spare }
         ensures book { self.new.book ≡ self.old.book }
         ensures bounded { IsBounded self.new.engine.spare self.new.engine.store }
-        ensures targets { IfOk result (λ f. IsAsked (flow_in self.old.book).program at.now string.now (map target_of f.going.targets)) }
-        ensures filled { IfOk result (λ f. AreFilled (D.operations self.old.engine.domain) self.new.engine.store f.going.walk (flow_in self.old.book) (map target_of f.going.targets)) }
-        ensures counted { IfOk result (λ f. f.count ≡ cells_added self.old.engine.store self.new.engine.store) }
-        ensures all { (m : Machine) → Holds (D.operations self.old.engine.domain) self.old.engine.store self.old.book m →
-            IfOk result (λ f. f.count ≡ length (missing_at (D.operations self.old.engine.domain) at.now string.now m)) }
-        ensures answered { (m : Machine) → Holds (D.operations self.old.engine.domain) self.old.engine.store self.old.book m →
-            IfOk result (λ f. Holds (D.operations self.old.engine.domain) self.new.engine.store (record self.old.book { cost = f.count }) (after_question (D.operations self.old.engine.domain) at.now string.now m)) }
-        ensures unanswered { (m : Machine) → Holds (D.operations self.old.engine.domain) self.old.engine.store self.old.book m →
-            IfOk result (λ _. IsBetween (missing_at (D.operations self.old.engine.domain) at.now string.now m) m (Holds (D.operations self.new.engine.domain) self.new.engine.store self.new.book)) }
-        ensures fails { (m : Machine) → Holds (D.operations self.old.engine.domain) self.old.engine.store self.old.book m →
-            IfErr result (Fails (D.operations self.old.engine.domain) m (Holds (D.operations self.new.engine.domain) self.new.engine.store self.new.book) at.now string.now) }
+        ensures targets { IfOk result (λ f. IsAsked (flow_in self.old.book).program at.now
+            string.now (map target_of f.going.targets)) }
+        ensures filled { IfOk result (λ f. AreFilled (D.operations self.old.engine.domain)
+            self.new.engine.store f.going.walk (flow_in self.old.book)
+            (map target_of f.going.targets)) }
+        ensures counted { IfOk result (λ f. f.count ≡ cells_filled self.old self.new) }
+        ensures all { FromEach D.operations self.old self.new
+            (λ dom m _. IfOk result (λ f. f.count ≡ length (missing_at dom at.now string.now m))) }
+        ensures answered { FromEach D.operations self.old self.new
+            (λ dom m _. IfOk result (λ f. Holds dom self.new.engine.store
+            (record self.old.book { cost = f.count }) (after_question dom at.now string.now m))) }
+        ensures unanswered { FromEach D.operations self.old self.new
+            (λ dom m stands. IfOk result
+            (λ _. IsBetween (missing_at dom at.now string.now m) m stands)) }
+        ensures fails { FromEach D.operations self.old self.new
+            (λ dom m stands. IfErr result (Fails dom m stands at.now string.now)) }
         ensures least { steps.old ≤ steps.new }
         ensures unticked { IfErr result (IsUnticked steps.old steps.new) }
-        ensures ticked { IfOk result (λ f. steps.new ≤ steps.old + D.counted self.old.engine.domain * f.count) }
-        ensures most { steps.new ≤ steps.old + D.counted self.old.engine.domain * suc (cells_added self.old.engine.store self.new.engine.store) }
+        ensures ticked { IfOk result (λ f. TicksAtMost D.counted self.old steps.old
+            steps.new f.count) }
+        ensures most { TicksAtMost D.counted self.old steps.old steps.new
+            (suc (cells_filled self.old self.new)) }
     {
         self.engine.sweep();
         self.fill_now(alloc, at, string, steps)
@@ -156,21 +180,25 @@ impl<D: Domain> Session<D> {
         string: &[u32],
         steps: &mut Steps<L>,
     ) -> Result<Value<D::State>, QueryError>
-        requires ready { IsReady (D.operations self.old.engine.domain) self.old.engine.store self.old.book }
-        ensures ready { IsReady (D.operations self.new.engine.domain) self.new.engine.store self.new.book }
+        requires ready { IsReadyBy D.operations self.old }
+        ensures ready { IsReadyBy D.operations self.new }
         ensures domain { self.new.engine.domain ≡ self.old.engine.domain }
         ensures spare { self.new.engine.spare ≡ self.old.engine.spare }
         ensures bounded { IsBounded self.new.engine.spare self.new.engine.store }
         ensures next_ticket { self.new.book.tickets.next ≡ self.old.book.tickets.next }
-        ensures answers { (m : Machine) → Holds (D.operations self.old.engine.domain) self.old.engine.store self.old.book m →
-            Questions (D.operations self.old.engine.domain) m (Holds (D.operations self.new.engine.domain) self.new.engine.store self.new.book) at.now string.now result }
-        ensures sound { IfOk result (λ v. Covers (D.covers self.old.engine.domain) (routines_of self.old.book.history.now) at.now string.now (Some v)) }
+        ensures answers { FromEach D.operations self.old self.new
+            (λ dom m stands. Questions dom m stands at.now string.now result) }
+        ensures sound { IfOk result (λ v. Covers (D.covers self.old.engine.domain)
+            (routines_of self.old.book.history.now) at.now string.now (Some v)) }
         ensures least { steps.old ≤ steps.new }
         ensures unticked { IfErr result (IsUnticked steps.old steps.new) }
-        ensures ticked { (m : Machine) → Holds (D.operations self.old.engine.domain) self.old.engine.store self.old.book m →
-            IfOk result (λ _. steps.new ≤ steps.old + D.counted self.old.engine.domain * (length (missing_at (D.operations self.old.engine.domain) at.now string.now m) + 2 * length (targets_of m at.now string.now))) }
-        ensures most { (m : Machine) → Holds (D.operations self.old.engine.domain) self.old.engine.store self.old.book m →
-            steps.new ≤ steps.old + D.counted self.old.engine.domain * suc (cells_added self.old.engine.store self.new.engine.store + 2 * length (targets_of m at.now string.now)) }
+        ensures ticked { FromEach D.operations self.old self.new
+            (λ dom m _. IfOk result (λ _. TicksAtMost D.counted self.old steps.old steps.new
+            (length (missing_at dom at.now string.now m)
+            + 2 * length (targets_of m at.now string.now)))) }
+        ensures most { (m : Machine) → StandsFor D.operations self.old m →
+            TicksAtMost D.counted self.old steps.old steps.new
+            (suc (cells_filled self.old self.new + 2 * length (targets_of m at.now string.now))) }
     {
         let filled = self.fill_for(alloc, at, string, steps)?;
         let value = read_answer(alloc, &self.engine, &filled.going.walk, steps)?;
@@ -198,20 +226,23 @@ impl<D: Domain> Session<D> {
         string: &[u32],
         steps: &mut Steps<L>,
     ) -> Result<Items<StmtId>, QueryError>
-        requires ready { IsReady (D.operations self.old.engine.domain) self.old.engine.store self.old.book }
-        ensures ready { IsReady (D.operations self.new.engine.domain) self.new.engine.store self.new.book }
+        requires ready { IsReadyBy D.operations self.old }
+        ensures ready { IsReadyBy D.operations self.new }
         ensures domain { self.new.engine.domain ≡ self.old.engine.domain }
         ensures spare { self.new.engine.spare ≡ self.old.engine.spare }
         ensures bounded { IsBounded self.new.engine.spare self.new.engine.store }
         ensures next_ticket { self.new.book.tickets.next ≡ self.old.book.tickets.next }
-        ensures explains { (m : Machine) → Holds (D.operations self.old.engine.domain) self.old.engine.store self.old.book m →
-            Explains (D.operations self.old.engine.domain) m (Holds (D.operations self.new.engine.domain) self.new.engine.store self.new.book) at.now string.now result }
-        ensures stays { IfOk result (Suffices (D.operations self.old.engine.domain) self.old.book.setting.engine self.old.book.history.now at.now string.now) }
+        ensures explains { FromEach D.operations self.old self.new
+            (λ dom m stands. Explains dom m stands at.now string.now result) }
+        ensures stays { IfOk result (Suffices (D.operations self.old.engine.domain)
+            self.old.book.setting.engine self.old.book.history.now at.now string.now) }
         ensures least { steps.old ≤ steps.new }
         ensures unticked { IfErr result (IsUnticked steps.old steps.new) }
-        ensures ticked { (m : Machine) → Holds (D.operations self.old.engine.domain) self.old.engine.store self.old.book m →
-            IfOk result (λ _. steps.new ≤ steps.old + D.counted self.old.engine.domain * length (missing_at (D.operations self.old.engine.domain) at.now string.now m)) }
-        ensures most { steps.new ≤ steps.old + D.counted self.old.engine.domain * suc (cells_added self.old.engine.store self.new.engine.store) }
+        ensures ticked { FromEach D.operations self.old self.new
+            (λ dom m _. IfOk result (λ _. TicksAtMost D.counted self.old steps.old steps.new
+            (length (missing_at dom at.now string.now m)))) }
+        ensures most { TicksAtMost D.counted self.old steps.old steps.new
+            (suc (cells_filled self.old self.new)) }
     {
         answers_stay::<D>();
         let filled = self.fill_for(alloc, at, string, steps)?;

@@ -1,5 +1,6 @@
 //! Reports out of the cells, for `reports` and `sound` of `report`.
-ghost use Rattle.std.specs.Prelude.{◌≡◌, ◌+◌, ◌*◌, ◌≤◌, [], ◌++◌, Contains, IfOk, IsFalse, IsSome, IsTrue, OnOk, Some, length, suc};
+ghost use Rattle.std.specs.Prelude.{◌≡◌, ◌+◌, ◌*◌, ◌≤◌, [], ◌++◌, Contains, IfOk, IsFalse, IsSome};
+ghost use Rattle.std.specs.Prelude.{IsTrue, OnOk, Some, length, suc};
 ghost use Rattle.imp_syntax.specs.declared.edit.Location.TheVariants.{Before};
 ghost use Rattle.imp_slots.specs.ActionViews.{act_of};
 ghost use Rattle.imp_slots.specs.Plain.{Does, Effect};
@@ -13,12 +14,14 @@ ghost use Rattle.batch_meaning.specs.Report.{checked_one, checked_statements, ve
 ghost use Rattle.batch_sound.specs.Theorem.{IsFindingSound};
 ghost use Rattle.alarm_report.specs.Reporting.{verdict_for};
 ghost use Rattle.daig_query.specs.Answered.{Says};
-ghost use Rattle.daig_query.specs.Filled.{cells_added};
 ghost use Rattle.daig_query.specs.Swept.{IsBounded};
 ghost use Rattle.daig_machine.specs.Machine.{Machine};
 ghost use Rattle.daig_machine.specs.Turns.{answer_at, missing_for_report};
-ghost use Rattle.daig_session.specs.Holds.{Holds, IsReady};
-ghost use Rattle.daig_session.specs.Reports.{checked_act, checked_among, chain_count, checked_at, checked_chains, findings, work_on, HasCheck, HoldsAll, HoldsPart, Reports, Tells};
+ghost use Rattle.daig_session.specs.Sessions.{IsReadyBy, StandsFor, FromEach, TicksAtMost};
+ghost use Rattle.daig_session.specs.Sessions.{cells_filled};
+ghost use Rattle.daig_session.specs.Reports.{checked_act, checked_among, chain_count, checked_at};
+ghost use Rattle.daig_session.specs.Reports.{checked_chains, findings, work_on, HasCheck, HoldsAll};
+ghost use Rattle.daig_session.specs.Reports.{HoldsPart, Reports, Tells};
 
 use crate::checks::{all_statements, checked_stmt};
 use crate::error::QueryError;
@@ -36,7 +39,8 @@ use std::sync::ledger::Ledger;
 
 /// What a report makes of an answer.
 fn found_in<S>(value: &Value<S>) -> Found<'_, S>
-    ensures verdict { (dom : Operations S) (engine : LoopOptions) (a : Answer S) (e : Effect) → Says a (Some value.now) → verdict_for dom (Does e) result ≡ verdict_on dom engine e a }
+    ensures verdict { (dom : Operations S) (engine : LoopOptions) (a : Answer S) (e : Effect) →
+        Says a (Some value.now) → verdict_for dom (Does e) result ≡ verdict_on dom engine e a }
 {
     match value {
         Value::State(state) => Found::State(state),
@@ -47,7 +51,8 @@ fn found_in<S>(value: &Value<S>) -> Found<'_, S>
 /// What a report makes of an answer, or of a refusal: where no chain comes nothing is found, and any other refusal is told
 /// as an Over is.
 fn found_of<S>(known: &Result<Value<S>, QueryRefusal>) -> Found<'_, S>
-    ensures verdict { (dom : Operations S) (engine : LoopOptions) (a : Answer S) (e : Effect) → Tells a known.now → verdict_for dom (Does e) result ≡ verdict_on dom engine e a }
+    ensures verdict { (dom : Operations S) (engine : LoopOptions) (a : Answer S) (e : Effect) →
+        Tells a known.now → verdict_for dom (Does e) result ≡ verdict_on dom engine e a }
 {
     match known {
         Ok(value) => found_in(value),
@@ -68,8 +73,13 @@ fn finding<D: Domain>(
     known: &Result<Value<D::State>, QueryRefusal>,
 ) -> Result<Finding, Memory>
     requires asks { IsSome (kind_in (act_of stmt.now)) }
-    ensures is { (engine : LoopOptions) (a : Answer D.State) (e : Effect) (k : Check) → Tells a known.now → checked_act id (act_of stmt.now) ≡ checked_one id e (Some k) →
-        IfOk result (λ f. f ≡ record { id = id; check = kind_of k; verdict = verdict_on (D.operations dom.now) engine e a }) }
+    ensures is { (engine : LoopOptions) (a : Answer D.State) (e : Effect) (k : Check) →
+        Tells a known.now → checked_act id (act_of stmt.now) ≡ checked_one id e (Some k) →
+        IfOk result (λ f. f ≡ record {
+          id = id;
+          check = kind_of k;
+          verdict = verdict_on (D.operations dom.now) engine e a;
+        }) }
 {
     alarm_report::report(alloc, dom, id, stmt, found_of(known))
 }
@@ -92,8 +102,14 @@ impl<D: Domain> Session<D> {
         known: &Result<Value<D::State>, QueryRefusal>,
     ) -> Result<Finding, Memory>
         requires there { HasCheck self.now.book.history.now id }
-        ensures is { (engine : LoopOptions) (a : Answer D.State) (e : Effect) (k : Check) → Tells a known.now → checked_at self.now.book.history.now id ≡ checked_one id e (Some k) →
-            IfOk result (λ f. f ≡ record { id = id; check = kind_of k; verdict = verdict_on (D.operations self.now.engine.domain) engine e a }) }
+        ensures is { (engine : LoopOptions) (a : Answer D.State) (e : Effect) (k : Check) →
+            Tells a known.now →
+            checked_at self.now.book.history.now id ≡ checked_one id e (Some k) →
+            IfOk result (λ f. f ≡ record {
+              id = id;
+              check = kind_of k;
+              verdict = verdict_on (D.operations self.now.engine.domain) engine e a;
+            }) }
     {
         let view = self.book.history.table().view();
         match checked_stmt(&view, id) {
@@ -109,23 +125,30 @@ impl<D: Domain> Session<D> {
         id: StmtId,
         steps: &mut Steps<L>,
     ) -> Result<Result<Value<D::State>, QueryRefusal>, Memory>
-        requires ready { IsReady (D.operations self.old.engine.domain) self.old.engine.store self.old.book }
+        requires ready { IsReadyBy D.operations self.old }
         ensures bounded { IsBounded self.new.engine.spare self.new.engine.store }
-        ensures ready { IsReady (D.operations self.new.engine.domain) self.new.engine.store self.new.book }
+        ensures ready { IsReadyBy D.operations self.new }
         ensures domain { self.new.engine.domain ≡ self.old.engine.domain }
         ensures spare { self.new.engine.spare ≡ self.old.engine.spare }
         ensures program { self.new.book.history.now ≡ self.old.book.history.now }
-        ensures part { (m : Machine) (e : Effect) (k : Check) → Holds (D.operations self.old.engine.domain) self.old.engine.store self.old.book m →
-            HoldsPart (D.operations self.old.engine.domain) m self.new.engine.store self.new.book (checked_one id e (Some k)) }
-        ensures all { OnOk result ((m : Machine) (e : Effect) (k : Check) → Holds (D.operations self.old.engine.domain) self.old.engine.store self.old.book m →
-            HoldsAll (D.operations self.old.engine.domain) m self.new.engine.store self.new.book (checked_one id e (Some k))) }
-        ensures tells { IfOk result (λ known. (m : Machine) → Holds (D.operations self.old.engine.domain) self.old.engine.store self.old.book m →
-            Tells (answer_at (D.operations self.old.engine.domain) (Before id) [] m) known) }
+        ensures part { (m : Machine) (e : Effect) (k : Check) → StandsFor D.operations self.old m →
+            HoldsPart (D.operations self.old.engine.domain) m self.new.engine.store self.new.book
+            (checked_one id e (Some k)) }
+        ensures all { OnOk result ((m : Machine) (e : Effect) (k : Check) →
+            StandsFor D.operations self.old m →
+            HoldsAll (D.operations self.old.engine.domain) m self.new.engine.store self.new.book
+            (checked_one id e (Some k))) }
+        ensures tells { IfOk result (λ known. FromEach D.operations self.old self.new
+            (λ dom m _. Tells (answer_at dom (Before id) [] m) known)) }
         ensures least { steps.old ≤ steps.new }
-        ensures ticked { OnOk result ((m : Machine) (e : Effect) (k : Check) → Holds (D.operations self.old.engine.domain) self.old.engine.store self.old.book m →
-            steps.new ≤ steps.old + D.counted self.old.engine.domain * work_on (D.operations self.old.engine.domain) m (checked_one id e (Some k))) }
-        ensures most { (m : Machine) (e : Effect) (k : Check) → Holds (D.operations self.old.engine.domain) self.old.engine.store self.old.book m →
-            steps.new ≤ steps.old + D.counted self.old.engine.domain * suc (cells_added self.old.engine.store self.new.engine.store + 2 * chain_count (routines_of m.program) (checked_one id e (Some k))) }
+        ensures ticked { OnOk result ((m : Machine) (e : Effect) (k : Check) →
+            StandsFor D.operations self.old m →
+            TicksAtMost D.counted self.old steps.old steps.new
+            (work_on (D.operations self.old.engine.domain) m (checked_one id e (Some k)))) }
+        ensures most { (m : Machine) (e : Effect) (k : Check) → StandsFor D.operations self.old m →
+            TicksAtMost D.counted self.old steps.old steps.new
+            (suc (cells_filled self.old self.new + 2 * chain_count (routines_of m.program)
+            (checked_one id e (Some k)))) }
     {
         match self.query(alloc, &Location::Before(id), &[], steps) {
             Ok(value) => Ok(Ok(value)),
@@ -142,22 +165,28 @@ impl<D: Domain> Session<D> {
         found: &mut Findings,
         steps: &mut Steps<L>,
     ) -> Result<(), Memory>
-        requires ready { IsReady (D.operations self.old.engine.domain) self.old.engine.store self.old.book }
-        ensures stays_bounded { IsBounded self.old.engine.spare self.old.engine.store → IsBounded self.new.engine.spare self.new.engine.store }
-        ensures ready { IsReady (D.operations self.new.engine.domain) self.new.engine.store self.new.book }
+        requires ready { IsReadyBy D.operations self.old }
+        ensures stays_bounded { IsBounded self.old.engine.spare self.old.engine.store →
+            IsBounded self.new.engine.spare self.new.engine.store }
+        ensures ready { IsReadyBy D.operations self.new }
         ensures domain { self.new.engine.domain ≡ self.old.engine.domain }
         ensures spare { self.new.engine.spare ≡ self.old.engine.spare }
-        ensures part { (m : Machine) → Holds (D.operations self.old.engine.domain) self.old.engine.store self.old.book m →
-            HoldsPart (D.operations self.old.engine.domain) m self.new.engine.store self.new.book (checked_at m.program id) }
-        ensures all { OnOk result ((m : Machine) → Holds (D.operations self.old.engine.domain) self.old.engine.store self.old.book m →
-            HoldsAll (D.operations self.old.engine.domain) m self.new.engine.store self.new.book (checked_at m.program id)) }
-        ensures found { OnOk result ((m : Machine) → Holds (D.operations self.old.engine.domain) self.old.engine.store self.old.book m →
-            found.new ≡ found.old ++ findings (D.operations self.old.engine.domain) m (checked_at m.program id)) }
+        ensures part { FromEach D.operations self.old self.new
+            (λ dom m _. HoldsPart dom m self.new.engine.store self.new.book
+            (checked_at m.program id)) }
+        ensures all { OnOk result (FromEach D.operations self.old self.new
+            (λ dom m _. HoldsAll dom m self.new.engine.store self.new.book
+            (checked_at m.program id))) }
+        ensures found { OnOk result (FromEach D.operations self.old self.new
+            (λ dom m _. found.new ≡ found.old ++ findings dom m (checked_at m.program id))) }
         ensures least { steps.old ≤ steps.new }
-        ensures ticked { OnOk result ((m : Machine) → Holds (D.operations self.old.engine.domain) self.old.engine.store self.old.book m →
-            steps.new ≤ steps.old + D.counted self.old.engine.domain * work_on (D.operations self.old.engine.domain) m (checked_at m.program id)) }
-        ensures most { (m : Machine) → Holds (D.operations self.old.engine.domain) self.old.engine.store self.old.book m →
-            steps.new ≤ steps.old + D.counted self.old.engine.domain * suc (cells_added self.old.engine.store self.new.engine.store + 2 * chain_count (routines_of m.program) (checked_at m.program id)) }
+        ensures ticked { OnOk result (FromEach D.operations self.old self.new
+            (λ dom m _. TicksAtMost D.counted self.old steps.old steps.new
+            (work_on dom m (checked_at m.program id)))) }
+        ensures most { (m : Machine) → StandsFor D.operations self.old m →
+            TicksAtMost D.counted self.old steps.old steps.new
+            (suc (cells_filled self.old self.new + 2 * chain_count (routines_of m.program)
+            (checked_at m.program id))) }
     {
         if !self.has_check(id) {
             return Ok(());
@@ -175,22 +204,29 @@ impl<D: Domain> Session<D> {
         found: &mut Findings,
         steps: &mut Steps<L>,
     ) -> Result<(), Memory>
-        requires ready { IsReady (D.operations self.old.engine.domain) self.old.engine.store self.old.book }
-        ensures stays_bounded { IsBounded self.old.engine.spare self.old.engine.store → IsBounded self.new.engine.spare self.new.engine.store }
-        ensures ready { IsReady (D.operations self.new.engine.domain) self.new.engine.store self.new.book }
+        requires ready { IsReadyBy D.operations self.old }
+        ensures stays_bounded { IsBounded self.old.engine.spare self.old.engine.store →
+            IsBounded self.new.engine.spare self.new.engine.store }
+        ensures ready { IsReadyBy D.operations self.new }
         ensures domain { self.new.engine.domain ≡ self.old.engine.domain }
         ensures spare { self.new.engine.spare ≡ self.old.engine.spare }
-        ensures part { (m : Machine) → Holds (D.operations self.old.engine.domain) self.old.engine.store self.old.book m →
-            HoldsPart (D.operations self.old.engine.domain) m self.new.engine.store self.new.book (checked_among m.program stmts.now) }
-        ensures all { OnOk result ((m : Machine) → Holds (D.operations self.old.engine.domain) self.old.engine.store self.old.book m →
-            HoldsAll (D.operations self.old.engine.domain) m self.new.engine.store self.new.book (checked_among m.program stmts.now)) }
-        ensures found { OnOk result ((m : Machine) → Holds (D.operations self.old.engine.domain) self.old.engine.store self.old.book m →
-            found.new ≡ found.old ++ findings (D.operations self.old.engine.domain) m (checked_among m.program stmts.now)) }
+        ensures part { FromEach D.operations self.old self.new
+            (λ dom m _. HoldsPart dom m self.new.engine.store self.new.book
+            (checked_among m.program stmts.now)) }
+        ensures all { OnOk result (FromEach D.operations self.old self.new
+            (λ dom m _. HoldsAll dom m self.new.engine.store self.new.book
+            (checked_among m.program stmts.now))) }
+        ensures found { OnOk result (FromEach D.operations self.old self.new
+            (λ dom m _. found.new ≡ found.old ++ findings dom m
+            (checked_among m.program stmts.now))) }
         ensures least { steps.old ≤ steps.new }
-        ensures ticked { OnOk result ((m : Machine) → Holds (D.operations self.old.engine.domain) self.old.engine.store self.old.book m →
-            steps.new ≤ steps.old + D.counted self.old.engine.domain * work_on (D.operations self.old.engine.domain) m (checked_among m.program stmts.now)) }
-        ensures most { (m : Machine) → Holds (D.operations self.old.engine.domain) self.old.engine.store self.old.book m →
-            steps.new ≤ steps.old + D.counted self.old.engine.domain * suc (cells_added self.old.engine.store self.new.engine.store + 2 * chain_count (routines_of m.program) (checked_among m.program stmts.now)) }
+        ensures ticked { OnOk result (FromEach D.operations self.old self.new
+            (λ dom m _. TicksAtMost D.counted self.old steps.old steps.new
+            (work_on dom m (checked_among m.program stmts.now)))) }
+        ensures most { (m : Machine) → StandsFor D.operations self.old m →
+            TicksAtMost D.counted self.old steps.old steps.new
+            (suc (cells_filled self.old self.new + 2 * chain_count (routines_of m.program)
+            (checked_among m.program stmts.now))) }
     {
         for stmt in stmts {
             self.add_finding(alloc, *stmt, found, steps)?;
@@ -204,22 +240,27 @@ impl<D: Domain> Session<D> {
         alloc: Global,
         steps: &mut Steps<L>,
     ) -> Result<Findings, Memory>
-        requires ready { IsReady (D.operations self.old.engine.domain) self.old.engine.store self.old.book }
-        ensures stays_bounded { IsBounded self.old.engine.spare self.old.engine.store → IsBounded self.new.engine.spare self.new.engine.store }
-        ensures ready { IsReady (D.operations self.new.engine.domain) self.new.engine.store self.new.book }
+        requires ready { IsReadyBy D.operations self.old }
+        ensures stays_bounded { IsBounded self.old.engine.spare self.old.engine.store →
+            IsBounded self.new.engine.spare self.new.engine.store }
+        ensures ready { IsReadyBy D.operations self.new }
         ensures domain { self.new.engine.domain ≡ self.old.engine.domain }
         ensures spare { self.new.engine.spare ≡ self.old.engine.spare }
-        ensures part { (m : Machine) → Holds (D.operations self.old.engine.domain) self.old.engine.store self.old.book m →
-            HoldsPart (D.operations self.old.engine.domain) m self.new.engine.store self.new.book (checked_statements (routines_of m.program)) }
-        ensures all { OnOk result ((m : Machine) → Holds (D.operations self.old.engine.domain) self.old.engine.store self.old.book m →
-            HoldsAll (D.operations self.old.engine.domain) m self.new.engine.store self.new.book (checked_statements (routines_of m.program))) }
-        ensures found { IfOk result (λ found. (m : Machine) → Holds (D.operations self.old.engine.domain) self.old.engine.store self.old.book m →
-            found ≡ findings (D.operations self.old.engine.domain) m (checked_statements (routines_of m.program))) }
+        ensures part { FromEach D.operations self.old self.new
+            (λ dom m _. HoldsPart dom m self.new.engine.store self.new.book
+            (checked_statements (routines_of m.program))) }
+        ensures all { OnOk result (FromEach D.operations self.old self.new
+            (λ dom m _. HoldsAll dom m self.new.engine.store self.new.book
+            (checked_statements (routines_of m.program)))) }
+        ensures found { IfOk result (λ found. FromEach D.operations self.old self.new
+            (λ dom m _. found ≡ findings dom m (checked_statements (routines_of m.program)))) }
         ensures least { steps.old ≤ steps.new }
-        ensures ticked { OnOk result ((m : Machine) → Holds (D.operations self.old.engine.domain) self.old.engine.store self.old.book m →
-            steps.new ≤ steps.old + D.counted self.old.engine.domain * work_on (D.operations self.old.engine.domain) m (checked_statements (routines_of m.program))) }
-        ensures most { (m : Machine) → Holds (D.operations self.old.engine.domain) self.old.engine.store self.old.book m →
-            steps.new ≤ steps.old + D.counted self.old.engine.domain * suc (cells_added self.old.engine.store self.new.engine.store + 2 * checked_chains m) }
+        ensures ticked { OnOk result (FromEach D.operations self.old self.new
+            (λ dom m _. TicksAtMost D.counted self.old steps.old steps.new
+            (work_on dom m (checked_statements (routines_of m.program))))) }
+        ensures most { (m : Machine) → StandsFor D.operations self.old m →
+            TicksAtMost D.counted self.old steps.old steps.new
+            (suc (cells_filled self.old self.new + 2 * checked_chains m)) }
     {
         let stmts = all_statements(alloc, &self.book.history.table().view())?;
         let mut found = Items::new(alloc);
@@ -233,20 +274,24 @@ impl<D: Domain> Session<D> {
         alloc: Global,
         steps: &mut Steps<L>,
     ) -> Result<Findings, Memory>
-        requires ready { IsReady (D.operations self.old.engine.domain) self.old.engine.store self.old.book }
-        ensures ready { IsReady (D.operations self.new.engine.domain) self.new.engine.store self.new.book }
+        requires ready { IsReadyBy D.operations self.old }
+        ensures ready { IsReadyBy D.operations self.new }
         ensures domain { self.new.engine.domain ≡ self.old.engine.domain }
         ensures spare { self.new.engine.spare ≡ self.old.engine.spare }
-        ensures stays_bounded { IsBounded self.old.engine.spare self.old.engine.store → IsBounded self.new.engine.spare self.new.engine.store }
+        ensures stays_bounded { IsBounded self.old.engine.spare self.old.engine.store →
+            IsBounded self.new.engine.spare self.new.engine.store }
         ensures next_ticket { self.new.book.tickets.next ≡ self.old.book.tickets.next }
-        ensures reports { (m : Machine) → Holds (D.operations self.old.engine.domain) self.old.engine.store self.old.book m →
-            Reports (D.operations self.old.engine.domain) m (Holds (D.operations self.new.engine.domain) self.new.engine.store self.new.book) result }
-        ensures sound { IfOk result (λ found. (f : AnyFinding) → Contains found f → IsFindingSound (routines_of self.old.book.history.now) f) }
+        ensures reports { FromEach D.operations self.old self.new
+            (λ dom m stands. Reports dom m stands result) }
+        ensures sound { IfOk result (λ found. (f : AnyFinding) → Contains found f →
+            IsFindingSound (routines_of self.old.book.history.now) f) }
         ensures least { steps.old ≤ steps.new }
-        ensures ticked { (m : Machine) → Holds (D.operations self.old.engine.domain) self.old.engine.store self.old.book m →
-            OnOk result (steps.new ≤ steps.old + D.counted self.old.engine.domain * (length (missing_for_report (D.operations self.old.engine.domain) m) + 2 * checked_chains m)) }
-        ensures most { (m : Machine) → Holds (D.operations self.old.engine.domain) self.old.engine.store self.old.book m →
-            steps.new ≤ steps.old + D.counted self.old.engine.domain * suc (cells_added self.old.engine.store self.new.engine.store + 2 * checked_chains m) }
+        ensures ticked { FromEach D.operations self.old self.new
+            (λ dom m _. OnOk result (TicksAtMost D.counted self.old steps.old steps.new
+            (length (missing_for_report dom m) + 2 * checked_chains m))) }
+        ensures most { (m : Machine) → StandsFor D.operations self.old m →
+            TicksAtMost D.counted self.old steps.old steps.new
+            (suc (cells_filled self.old self.new + 2 * checked_chains m)) }
     {
         reports_are_sound::<D>();
         let cost = self.book.cost;
@@ -279,20 +324,23 @@ impl<D: Domain> Session<D> {
         alloc: Global,
         steps: &mut Steps<L>,
     ) -> Result<Findings, Memory>
-        requires ready { IsReady (D.operations self.old.engine.domain) self.old.engine.store self.old.book }
-        ensures ready { IsReady (D.operations self.new.engine.domain) self.new.engine.store self.new.book }
+        requires ready { IsReadyBy D.operations self.old }
+        ensures ready { IsReadyBy D.operations self.new }
         ensures domain { self.new.engine.domain ≡ self.old.engine.domain }
         ensures spare { self.new.engine.spare ≡ self.old.engine.spare }
         ensures bounded { IsBounded self.new.engine.spare self.new.engine.store }
         ensures next_ticket { self.new.book.tickets.next ≡ self.old.book.tickets.next }
-        ensures reports { (m : Machine) → Holds (D.operations self.old.engine.domain) self.old.engine.store self.old.book m →
-            Reports (D.operations self.old.engine.domain) m (Holds (D.operations self.new.engine.domain) self.new.engine.store self.new.book) result }
-        ensures sound { IfOk result (λ found. (f : AnyFinding) → Contains found f → IsFindingSound (routines_of self.old.book.history.now) f) }
+        ensures reports { FromEach D.operations self.old self.new
+            (λ dom m stands. Reports dom m stands result) }
+        ensures sound { IfOk result (λ found. (f : AnyFinding) → Contains found f →
+            IsFindingSound (routines_of self.old.book.history.now) f) }
         ensures least { steps.old ≤ steps.new }
-        ensures ticked { (m : Machine) → Holds (D.operations self.old.engine.domain) self.old.engine.store self.old.book m →
-            OnOk result (steps.new ≤ steps.old + D.counted self.old.engine.domain * (length (missing_for_report (D.operations self.old.engine.domain) m) + 2 * checked_chains m)) }
-        ensures most { (m : Machine) → Holds (D.operations self.old.engine.domain) self.old.engine.store self.old.book m →
-            steps.new ≤ steps.old + D.counted self.old.engine.domain * suc (cells_added self.old.engine.store self.new.engine.store + 2 * checked_chains m) }
+        ensures ticked { FromEach D.operations self.old self.new
+            (λ dom m _. OnOk result (TicksAtMost D.counted self.old steps.old steps.new
+            (length (missing_for_report dom m) + 2 * checked_chains m))) }
+        ensures most { (m : Machine) → StandsFor D.operations self.old m →
+            TicksAtMost D.counted self.old steps.old steps.new
+            (suc (cells_filled self.old self.new + 2 * checked_chains m)) }
     {
         self.engine.sweep();
         self.report_now(alloc, steps)

@@ -1,10 +1,11 @@
 //! A session: what it is begun with, for `begins` of `start`, and what is read of it.
-ghost use Rattle.std.specs.Prelude.{◌≡◌, ◌+◌, ◌*◌, ◌<◌, ◌≤◌, length, IfOk, option_copied, option_map};
+ghost use Rattle.std.specs.Prelude.{◌≡◌, ◌+◌, ◌*◌, ◌<◌, ◌≤◌, length, IfOk, option_copied};
+ghost use Rattle.std.specs.Prelude.{option_map};
 ghost use Rattle.call_contexts.specs.Settings.{engine_of};
 ghost use Rattle.daig_query.specs.Swept.{IsBounded};
 ghost use Rattle.daig_machine.specs.Machine.{first_machine, ticket_of, Machine, Ticket};
 ghost use Rattle.daig_session.specs.Books.{AreBelow};
-ghost use Rattle.daig_session.specs.Holds.{Holds, IsReady};
+ghost use Rattle.daig_session.specs.Sessions.{IsReadyBy, StandsFor};
 
 use crate::book::Book;
 use base_values::Memory;
@@ -44,11 +45,12 @@ impl<D: Domain + Drop> Session<D> {
         requires low { next ≤ 1000001 }
         requires below { AreBelow next table.program }
         requires memo { 0 < memo }
-        ensures ready { IfOk result (λ s. IsReady (D.operations s.engine.domain) s.engine.store s.book) }
+        ensures ready { IfOk result (λ s. IsReadyBy D.operations s) }
         ensures domain { IfOk result (λ s. s.engine.domain ≡ domain) }
         ensures spare { IfOk result (λ s. s.engine.spare ≤ 4 * memo + 4096) }
         ensures bounded { IfOk result (λ s. IsBounded s.engine.spare s.engine.store) }
-        ensures begins { IfOk result (λ s. Holds (D.operations s.engine.domain) s.engine.store s.book (first_machine table.program (engine_of budget widening) next)) }
+        ensures begins { IfOk result (λ s. StandsFor D.operations s
+            (first_machine table.program (engine_of budget widening) next)) }
     {
         let book = Book::begun(alloc, table, next, budget, widening)?;
         let engine = Engine::new(alloc, domain, memo)?;
@@ -66,14 +68,15 @@ impl<D: Domain> Session<D> {
 
     /// The present program.
     pub fn program(&self) -> &Table
-        ensures is { (m : Machine) → Holds (D.operations self.now.engine.domain) self.now.engine.store self.now.book m → result.now.program ≡ m.program }
+        ensures is { (m : Machine) → StandsFor D.operations self.now m →
+            result.now.program ≡ m.program }
     {
         self.book.history.table()
     }
 
     /// The number of the next new statement.
     pub fn next(&self) -> u32
-        ensures is { (m : Machine) → Holds (D.operations self.now.engine.domain) self.now.engine.store self.now.book m → result ≡ m.next }
+        ensures is { (m : Machine) → StandsFor D.operations self.now m → result ≡ m.next }
         ensures same { result ≡ self.now.book.next }
     {
         self.book.next
@@ -81,22 +84,22 @@ impl<D: Domain> Session<D> {
 
     /// How many cells the last answered query, report, step or `why` filled.
     pub fn cost(&self) -> u64
-        ensures is { (m : Machine) → Holds (D.operations self.now.engine.domain) self.now.engine.store self.now.book m → result ≡ m.cost }
+        ensures is { (m : Machine) → StandsFor D.operations self.now m → result ≡ m.cost }
     {
         self.book.cost
     }
 
     /// How many cells are kept.
     pub fn kept_count(&self) -> usize
-        requires ready { IsReady (D.operations self.now.engine.domain) self.now.engine.store self.now.book }
-        ensures is { (m : Machine) → Holds (D.operations self.now.engine.domain) self.now.engine.store self.now.book m → result ≡ length m.kept }
+        requires ready { IsReadyBy D.operations self.now }
+        ensures is { (m : Machine) → StandsFor D.operations self.now m → result ≡ length m.kept }
     {
         self.engine.kept_count()
     }
 
     /// The number of the next ticket.
     pub fn next_ticket(&self) -> u64
-        ensures is { (m : Machine) → Holds (D.operations self.now.engine.domain) self.now.engine.store self.now.book m → result ≡ m.next_ticket }
+        ensures is { (m : Machine) → StandsFor D.operations self.now m → result ≡ m.next_ticket }
         ensures same { result ≡ self.now.book.tickets.next }
     {
         self.book.tickets.next
@@ -105,8 +108,9 @@ impl<D: Domain> Session<D> {
     /// Where an open ticket asks; `None` where no ticket of this number is open. It takes time linear in the open tickets,
     /// which are few.
     pub fn ticket_at(&self, ticket: u64) -> Option<&Location>
-        requires ready { IsReady (D.operations self.now.engine.domain) self.now.engine.store self.now.book }
-        ensures is { (m : Machine) → Holds (D.operations self.now.engine.domain) self.now.engine.store self.now.book m → option_copied result ≡ option_map (λ (t : Ticket). t.at) (ticket_of ticket m.tickets) }
+        requires ready { IsReadyBy D.operations self.now }
+        ensures is { (m : Machine) → StandsFor D.operations self.now m →
+            option_copied result ≡ option_map (λ (t : Ticket). t.at) (ticket_of ticket m.tickets) }
     {
         match self.book.tickets.place_of(ticket) {
             None => None,

@@ -1,5 +1,6 @@
 //! Steps of tickets.
-ghost use Rattle.std.specs.Prelude.{◌≡◌, ◌+◌, ◌*◌, ◌<◌, ◌≤◌, ◌↔◌, ℕ, suc, List, length, map, min, Some, IfOk, IfErr, IfSome, IsTrue, MatchOption, slice_get};
+ghost use Rattle.std.specs.Prelude.{◌≡◌, ◌+◌, ◌*◌, ◌<◌, ◌≤◌, ◌↔◌, ℕ, suc, List, length, map, min};
+ghost use Rattle.std.specs.Prelude.{Some, IfOk, IfErr, IfSome, IsTrue, MatchOption, slice_get};
 ghost use Rattle.imp_syntax.specs.declared.edit.Location.{Location};
 ghost use Rattle.batch_meaning.specs.Answers.{answer};
 ghost use Rattle.imp_check.specs.Slots.{routines_of};
@@ -14,7 +15,9 @@ ghost use Rattle.daig_session.specs.declared.book.Going.{Going as AnyGoing};
 ghost use Rattle.daig_session.specs.Books.{flow_in, IsWithout};
 ghost use Rattle.daig_session.specs.Going.{IsGoing, IsRefused};
 ghost use Rattle.daig_tickets.specs.Tickets.{ticket};
-ghost use Rattle.daig_session.specs.Holds.{Holds, IsAtPlace, IsReady};
+ghost use Rattle.daig_session.specs.Holds.{IsAtPlace, IsReady};
+ghost use Rattle.daig_session.specs.Sessions.{IsReadyBy, StandsFor, FromEach, TicksAtMost};
+ghost use Rattle.daig_session.specs.Sessions.{cells_filled};
 ghost use Rattle.daig_session.specs.Turns.{work_of, CoversDone, IsStep, IsStepOf};
 
 use crate::asking::{begun, read_answer};
@@ -49,10 +52,14 @@ fn resumed<D: Domain>(
     requires ready { IsReady (D.operations engine.now.domain) engine.now.store book.old }
     requires there { place < length book.old.tickets.open_ones.items }
     ensures left { IsWithout place book.old book.new }
-    ensures going { (o : OpenTicket AnyGoing) → slice_get book.old.tickets.open_ones.items place ≡ Some o →
-        IfOk result (IsGoing (D.operations engine.now.domain) (flow_in book.old) engine.now.store o.at o.string) }
-    ensures refused { (o : OpenTicket AnyGoing) → slice_get book.old.tickets.open_ones.items place ≡ Some o →
-        IfErr result (IsRefused (answer (D.operations engine.now.domain) book.old.setting.engine (routines_of book.old.history.now) o.at o.string)) }
+    ensures going { (o : OpenTicket AnyGoing) →
+        slice_get book.old.tickets.open_ones.items place ≡ Some o →
+        IfOk result (IsGoing (D.operations engine.now.domain) (flow_in book.old) engine.now.store
+        o.at o.string) }
+    ensures refused { (o : OpenTicket AnyGoing) →
+        slice_get book.old.tickets.open_ones.items place ≡ Some o →
+        IfErr result (IsRefused (answer (D.operations engine.now.domain) book.old.setting.engine
+        (routines_of book.old.history.now) o.at o.string)) }
 {
     match take_going(&mut book.tickets.open_ones, place) {
         Some(going) => Ok(going),
@@ -74,19 +81,33 @@ fn fill_some<D: Domain, L: Ledger>(
     steps: &mut Steps<L>,
 ) -> Result<Progress, Memory>
     requires ready { IsReady (D.operations engine.old.domain) engine.old.store book.now }
-    requires going { (l : Location) × (string : List ℕ) × IsGoing (D.operations engine.old.domain) (flow_in book.now) engine.old.store l string going.old }
+    requires going { (l : Location) × (string : List ℕ) × IsGoing (D.operations engine.old.domain)
+        (flow_in book.now) engine.old.store l string going.old }
     ensures domain { engine.new.domain ≡ engine.old.domain }
     ensures spare { engine.new.spare ≡ engine.old.spare }
-    ensures fills { Fills (D.operations engine.old.domain) (flow_in book.now) (map target_of going.old.targets) engine.old.store engine.new.store (cells_added engine.old.store engine.new.store) }
+    ensures fills { Fills (D.operations engine.old.domain) (flow_in book.now)
+        (map target_of going.old.targets) engine.old.store engine.new.store
+        (cells_added engine.old.store engine.new.store) }
     ensures few { FillsFew engine.old.store engine.new.store }
-    ensures going { (l : Location) (string : List ℕ) → IsGoing (D.operations engine.old.domain) (flow_in book.now) engine.old.store l string going.old → IsGoing (D.operations engine.old.domain) (flow_in book.now) engine.new.store l string going.new }
+    ensures going { (l : Location) (string : List ℕ) →
+        IsGoing (D.operations engine.old.domain) (flow_in book.now) engine.old.store
+        l string going.old → IsGoing (D.operations engine.old.domain) (flow_in book.now)
+        engine.new.store l string going.new }
     ensures counted { IfOk result (λ p. p.filled ≡ cells_added engine.old.store engine.new.store) }
-    ensures first { IfOk result (λ p. p.filled ≡ min most (length (missing (D.operations engine.old.domain) (flow_in book.now) (map target_of going.old.targets) engine.old.store))) }
-    ensures all { IfOk result (λ p. IsTrue p.done ↔ (length (missing (D.operations engine.old.domain) (flow_in book.now) (map target_of going.old.targets) engine.old.store) ≤ most)) }
-    ensures filled { IfOk result (λ p. IsTrue p.done → AreFilled (D.operations engine.old.domain) engine.new.store going.new.walk (flow_in book.now) (map target_of going.old.targets)) }
+    ensures first { IfOk result (λ p. p.filled ≡ min most
+        (length (missing (D.operations engine.old.domain) (flow_in book.now)
+        (map target_of going.old.targets) engine.old.store))) }
+    ensures all { IfOk result (λ p. IsTrue p.done ↔
+        (length (missing (D.operations engine.old.domain) (flow_in book.now)
+        (map target_of going.old.targets) engine.old.store) ≤ most)) }
+    ensures filled { IfOk result (λ p. IsTrue p.done →
+        AreFilled (D.operations engine.old.domain) engine.new.store going.new.walk
+        (flow_in book.now) (map target_of going.old.targets)) }
     ensures least { steps.old ≤ steps.new }
-    ensures ticked { IfOk result (λ p. steps.new ≤ steps.old + D.counted engine.old.domain * p.filled) }
-    ensures most { steps.new ≤ steps.old + D.counted engine.old.domain * suc (cells_added engine.old.store engine.new.store) }
+    ensures ticked { IfOk result (λ p.
+        steps.new ≤ steps.old + D.counted engine.old.domain * p.filled) }
+    ensures most { steps.new ≤ steps.old
+        + D.counted engine.old.domain * suc (cells_added engine.old.store engine.new.store) }
 {
     let flow = book.flow();
     let Going { targets, walk } = going;
@@ -103,22 +124,33 @@ impl<D: Domain> Session<D> {
         most: usize,
         steps: &mut Steps<L>,
     ) -> Result<StepResult<D::State>, StepError>
-        requires ready { IsReady (D.operations self.old.engine.domain) self.old.engine.store self.old.book }
-        requires there { IsAtPlace (D.operations self.old.engine.domain) self.old.engine.store self.old.book place going }
-        ensures ready { IsReady (D.operations self.new.engine.domain) self.new.engine.store self.new.book }
+        requires ready { IsReadyBy D.operations self.old }
+        requires there { IsAtPlace (D.operations self.old.engine.domain) self.old.engine.store
+            self.old.book place going }
+        ensures ready { IsReadyBy D.operations self.new }
         ensures domain { self.new.engine.domain ≡ self.old.engine.domain }
         ensures spare { self.new.engine.spare ≡ self.old.engine.spare }
         ensures few { FillsFew self.old.engine.store self.new.engine.store }
         ensures next_ticket { self.new.book.tickets.next ≡ self.old.book.tickets.next }
-        ensures steps { (m : Machine) (o : OpenTicket AnyGoing) → Holds (D.operations self.old.engine.domain) self.old.engine.store self.old.book m → slice_get self.old.book.tickets.open_ones.items place ≡ Some o →
-            IsStep (D.operations self.old.engine.domain) m (Holds (D.operations self.new.engine.domain) self.new.engine.store self.new.book) (ticket o) most result }
-        ensures sound { (o : OpenTicket AnyGoing) → slice_get self.old.book.tickets.open_ones.items place ≡ Some o →
-            IfOk result (CoversDone (D.covers self.old.engine.domain) (routines_of self.old.book.history.now) (ticket o)) }
+        ensures steps { (m : Machine) (o : OpenTicket AnyGoing) →
+            StandsFor D.operations self.old m →
+            slice_get self.old.book.tickets.open_ones.items place ≡ Some o →
+            IsStep (D.operations self.old.engine.domain) m (StandsFor D.operations self.new)
+            (ticket o) most result }
+        ensures sound { (o : OpenTicket AnyGoing) →
+            slice_get self.old.book.tickets.open_ones.items place ≡ Some o →
+            IfOk result (CoversDone (D.covers self.old.engine.domain)
+            (routines_of self.old.book.history.now) (ticket o)) }
         ensures least { steps.old ≤ steps.new }
-        ensures ticked { (m : Machine) (o : OpenTicket AnyGoing) → Holds (D.operations self.old.engine.domain) self.old.engine.store self.old.book m → slice_get self.old.book.tickets.open_ones.items place ≡ Some o →
-            IfOk result (λ turn. steps.new ≤ steps.old + D.counted self.old.engine.domain * work_of (D.operations self.old.engine.domain) m (ticket o) turn) }
-        ensures most { (m : Machine) (o : OpenTicket AnyGoing) → Holds (D.operations self.old.engine.domain) self.old.engine.store self.old.book m → slice_get self.old.book.tickets.open_ones.items place ≡ Some o →
-            steps.new ≤ steps.old + D.counted self.old.engine.domain * suc (cells_added self.old.engine.store self.new.engine.store + 2 * length (targets_of m o.at o.string)) }
+        ensures ticked { (m : Machine) (o : OpenTicket AnyGoing) →
+            StandsFor D.operations self.old m →
+            slice_get self.old.book.tickets.open_ones.items place ≡ Some o →
+            IfOk result (λ turn. TicksAtMost D.counted self.old steps.old steps.new
+            (work_of (D.operations self.old.engine.domain) m (ticket o) turn)) }
+        ensures most { (m : Machine) (o : OpenTicket AnyGoing) → StandsFor D.operations self.old m →
+            slice_get self.old.book.tickets.open_ones.items place ≡ Some o →
+            TicksAtMost D.counted self.old steps.old steps.new
+            (suc (cells_filled self.old self.new + 2 * length (targets_of m o.at o.string))) }
     {
         questions_keep_cells::<D>();
         let progress = fill_some(alloc, &mut self.engine, &self.book, &mut going, most, steps)?;
@@ -142,21 +174,26 @@ impl<D: Domain> Session<D> {
         most: u32,
         steps: &mut Steps<L>,
     ) -> Result<StepResult<D::State>, StepError>
-        requires ready { IsReady (D.operations self.old.engine.domain) self.old.engine.store self.old.book }
-        ensures ready { IsReady (D.operations self.new.engine.domain) self.new.engine.store self.new.book }
+        requires ready { IsReadyBy D.operations self.old }
+        ensures ready { IsReadyBy D.operations self.new }
         ensures domain { self.new.engine.domain ≡ self.old.engine.domain }
         ensures spare { self.new.engine.spare ≡ self.old.engine.spare }
         ensures few { FillsFew self.old.engine.store self.new.engine.store }
         ensures next_ticket { self.new.book.tickets.next ≡ self.old.book.tickets.next }
-        ensures steps { (m : Machine) → Holds (D.operations self.old.engine.domain) self.old.engine.store self.old.book m →
-            IsStepOf (D.operations self.old.engine.domain) m (Holds (D.operations self.new.engine.domain) self.new.engine.store self.new.book) most (ticket_of ticket m.tickets) result }
-        ensures sound { (m : Machine) → Holds (D.operations self.old.engine.domain) self.old.engine.store self.old.book m →
-            IfOk result (λ turn. IfSome (ticket_of ticket m.tickets) (λ t. CoversDone (D.covers self.old.engine.domain) (routines_of self.old.book.history.now) t turn)) }
+        ensures steps { FromEach D.operations self.old self.new
+            (λ dom m stands. IsStepOf dom m stands most (ticket_of ticket m.tickets) result) }
+        ensures sound { (m : Machine) → StandsFor D.operations self.old m →
+            IfOk result (λ turn. IfSome (ticket_of ticket m.tickets)
+            (λ t. CoversDone (D.covers self.old.engine.domain)
+            (routines_of self.old.book.history.now) t turn)) }
         ensures least { steps.old ≤ steps.new }
-        ensures ticked { (m : Machine) → Holds (D.operations self.old.engine.domain) self.old.engine.store self.old.book m →
-            IfOk result (λ turn. IfSome (ticket_of ticket m.tickets) (λ t. steps.new ≤ steps.old + D.counted self.old.engine.domain * work_of (D.operations self.old.engine.domain) m t turn)) }
-        ensures most { (m : Machine) → Holds (D.operations self.old.engine.domain) self.old.engine.store self.old.book m →
-            MatchOption (ticket_of ticket m.tickets) (steps.new ≡ steps.old) (λ t. steps.new ≤ steps.old + D.counted self.old.engine.domain * suc (cells_added self.old.engine.store self.new.engine.store + 2 * length (targets_of m t.at t.string))) }
+        ensures ticked { FromEach D.operations self.old self.new
+            (λ dom m _. IfOk result (λ turn. IfSome (ticket_of ticket m.tickets)
+            (λ t. TicksAtMost D.counted self.old steps.old steps.new (work_of dom m t turn)))) }
+        ensures most { (m : Machine) → StandsFor D.operations self.old m →
+            MatchOption (ticket_of ticket m.tickets) (steps.new ≡ steps.old)
+            (λ t. TicksAtMost D.counted self.old steps.old steps.new
+            (suc (cells_filled self.old self.new + 2 * length (targets_of m t.at t.string)))) }
     {
         let Some(place) = self.book.tickets.place_of(ticket) else {
             return Err(StepError::NoTicket);
@@ -187,21 +224,26 @@ impl<D: Domain> Session<D> {
         most: u32,
         steps: &mut Steps<L>,
     ) -> Result<StepResult<D::State>, StepError>
-        requires ready { IsReady (D.operations self.old.engine.domain) self.old.engine.store self.old.book }
-        ensures ready { IsReady (D.operations self.new.engine.domain) self.new.engine.store self.new.book }
+        requires ready { IsReadyBy D.operations self.old }
+        ensures ready { IsReadyBy D.operations self.new }
         ensures domain { self.new.engine.domain ≡ self.old.engine.domain }
         ensures spare { self.new.engine.spare ≡ self.old.engine.spare }
         ensures bounded { IsBounded self.new.engine.spare self.new.engine.store }
         ensures next_ticket { self.new.book.tickets.next ≡ self.old.book.tickets.next }
-        ensures steps { (m : Machine) → Holds (D.operations self.old.engine.domain) self.old.engine.store self.old.book m →
-            IsStepOf (D.operations self.old.engine.domain) m (Holds (D.operations self.new.engine.domain) self.new.engine.store self.new.book) most (ticket_of ticket m.tickets) result }
-        ensures sound { (m : Machine) → Holds (D.operations self.old.engine.domain) self.old.engine.store self.old.book m →
-            IfOk result (λ turn. IfSome (ticket_of ticket m.tickets) (λ t. CoversDone (D.covers self.old.engine.domain) (routines_of self.old.book.history.now) t turn)) }
+        ensures steps { FromEach D.operations self.old self.new
+            (λ dom m stands. IsStepOf dom m stands most (ticket_of ticket m.tickets) result) }
+        ensures sound { (m : Machine) → StandsFor D.operations self.old m →
+            IfOk result (λ turn. IfSome (ticket_of ticket m.tickets)
+            (λ t. CoversDone (D.covers self.old.engine.domain)
+            (routines_of self.old.book.history.now) t turn)) }
         ensures least { steps.old ≤ steps.new }
-        ensures ticked { (m : Machine) → Holds (D.operations self.old.engine.domain) self.old.engine.store self.old.book m →
-            IfOk result (λ turn. IfSome (ticket_of ticket m.tickets) (λ t. steps.new ≤ steps.old + D.counted self.old.engine.domain * work_of (D.operations self.old.engine.domain) m t turn)) }
-        ensures most { (m : Machine) → Holds (D.operations self.old.engine.domain) self.old.engine.store self.old.book m →
-            MatchOption (ticket_of ticket m.tickets) (steps.new ≡ steps.old) (λ t. steps.new ≤ steps.old + D.counted self.old.engine.domain * suc (cells_added self.old.engine.store self.new.engine.store + 2 * length (targets_of m t.at t.string))) }
+        ensures ticked { FromEach D.operations self.old self.new
+            (λ dom m _. IfOk result (λ turn. IfSome (ticket_of ticket m.tickets)
+            (λ t. TicksAtMost D.counted self.old steps.old steps.new (work_of dom m t turn)))) }
+        ensures most { (m : Machine) → StandsFor D.operations self.old m →
+            MatchOption (ticket_of ticket m.tickets) (steps.new ≡ steps.old)
+            (λ t. TicksAtMost D.counted self.old steps.old steps.new
+            (suc (cells_filled self.old self.new + 2 * length (targets_of m t.at t.string)))) }
     {
         self.engine.sweep();
         self.step_now(alloc, ticket, most, steps)

@@ -1,12 +1,13 @@
 //! Tickets: questions that are answered in steps.
-ghost use Rattle.std.specs.Prelude.{◌≡◌, ◌+◌, ◌<◌, ◌≤◌, ◌^◌, length, Err, IfErr, IfOk, OnOk, Some, slice_get, slice_set};
+ghost use Rattle.std.specs.Prelude.{◌≡◌, ◌+◌, ◌<◌, ◌≤◌, ◌^◌, length, Err, IfErr, IfOk, OnOk, Some};
+ghost use Rattle.std.specs.Prelude.{slice_get, slice_set};
 ghost use Rattle.daig_machine.specs.Machine.{Machine, ticket_of};
 ghost use Rattle.daig_tickets.specs.declared.tickets.OpenTicket.{OpenTicket as AnyOpen};
 ghost use Rattle.daig_tickets.specs.Tickets.{anew};
 ghost use Rattle.daig_session.specs.declared.book.Going.{Going as AnyGoing};
 ghost use Rattle.daig_session.specs.Books.{flow_in};
 ghost use Rattle.daig_session.specs.Going.{IsGoing};
-ghost use Rattle.daig_session.specs.Holds.{Holds, IsReady};
+ghost use Rattle.daig_session.specs.Sessions.{IsReadyBy, StandsFor, FromEach};
 ghost use Rattle.daig_session.specs.Turns.{Cancels, Opens};
 
 use crate::asking::begun;
@@ -23,8 +24,10 @@ use std::alloc::Global;
 /// Takes what a ticket has come to: it is to begin anew.
 pub(crate) fn take_going(open_ones: &mut Vec<OpenTicket<Going>>, place: usize) -> Option<Going>
     requires there { place < length open_ones.old.items }
-    ensures taken { (o : AnyOpen AnyGoing) → slice_get open_ones.old.items place ≡ Some o → result ≡ o.going }
-    ensures left { (o : AnyOpen AnyGoing) → slice_get open_ones.old.items place ≡ Some o → open_ones.new.items ≡ slice_set open_ones.old.items place (anew o) }
+    ensures taken { (o : AnyOpen AnyGoing) → slice_get open_ones.old.items place ≡ Some o →
+        result ≡ o.going }
+    ensures left { (o : AnyOpen AnyGoing) → slice_get open_ones.old.items place ≡ Some o →
+        open_ones.new.items ≡ slice_set open_ones.old.items place (anew o) }
 {
     let one = &mut open_ones[place];
     one.going.take()
@@ -33,7 +36,9 @@ pub(crate) fn take_going(open_ones: &mut Vec<OpenTicket<Going>>, place: usize) -
 /// Puts back what a ticket has come to.
 pub(crate) fn put_going(open_ones: &mut Vec<OpenTicket<Going>>, place: usize, going: Going)
     requires there { place < length open_ones.old.items }
-    ensures put { (o : AnyOpen AnyGoing) → slice_get open_ones.old.items place ≡ Some o → open_ones.new.items ≡ slice_set open_ones.old.items place (record o { going = Some going }) }
+    ensures put { (o : AnyOpen AnyGoing) → slice_get open_ones.old.items place ≡ Some o →
+        open_ones.new.items ≡ slice_set open_ones.old.items place
+        (record o { going = Some going }) }
 {
     let one = &mut open_ones[place];
     one.going = Some(going);
@@ -56,11 +61,13 @@ impl From<QueryError> for AskError {
 impl<D: Domain> Session<D> {
     /// A question that a ticket is to be opened for, or why none is opened.
     fn asked_going(&self, alloc: Global, at: &Location, string: &[u32]) -> Result<Going, AskError>
-        requires ready { IsReady (D.operations self.now.engine.domain) self.now.engine.store self.now.book }
+        requires ready { IsReadyBy D.operations self.now }
         ensures few { OnOk result (length self.now.book.tickets.open_ones.items < 16) }
-        ensures going { IfOk result (IsGoing (D.operations self.now.engine.domain) (flow_in self.now.book) self.now.engine.store at.now string.now) }
-        ensures unopened { (m : Machine) → Holds (D.operations self.now.engine.domain) self.now.engine.store self.now.book m →
-            IfErr result (λ e. Opens (D.operations self.now.engine.domain) m (Holds (D.operations self.now.engine.domain) self.now.engine.store self.now.book) at.now string.now (Err e)) }
+        ensures going { IfOk result (IsGoing (D.operations self.now.engine.domain)
+            (flow_in self.now.book) self.now.engine.store at.now string.now) }
+        ensures unopened { (m : Machine) → StandsFor D.operations self.now m →
+            IfErr result (λ e. Opens (D.operations self.now.engine.domain) m
+            (StandsFor D.operations self.now) at.now string.now (Err e)) }
     {
         if string.len() > 2 {
             return Err(AskError::Refused(QueryRefusal::LongString));
@@ -81,15 +88,15 @@ impl<D: Domain> Session<D> {
     /// open; the program refuses the question, as [`Session::query`] says. [`AskError::Memory`] when memory runs out. The
     /// session is then as it was.
     pub fn ask(&mut self, alloc: Global, at: Location, string: Items<u32>) -> Result<u64, AskError>
-        requires ready { IsReady (D.operations self.old.engine.domain) self.old.engine.store self.old.book }
+        requires ready { IsReadyBy D.operations self.old }
         requires room { self.old.book.tickets.next < 2 ^ 63 }
-        ensures ready { IsReady (D.operations self.new.engine.domain) self.new.engine.store self.new.book }
+        ensures ready { IsReadyBy D.operations self.new }
         ensures domain { self.new.engine.domain ≡ self.old.engine.domain }
         ensures spare { self.new.engine.spare ≡ self.old.engine.spare }
         ensures unmoved { self.new.engine.store ≡ self.old.engine.store }
         ensures rises { self.new.book.tickets.next ≤ self.old.book.tickets.next + 1 }
-        ensures opens { (m : Machine) → Holds (D.operations self.old.engine.domain) self.old.engine.store self.old.book m →
-            Opens (D.operations self.old.engine.domain) m (Holds (D.operations self.new.engine.domain) self.new.engine.store self.new.book) at string result }
+        ensures opens { FromEach D.operations self.old self.new
+            (λ dom m stands. Opens dom m stands at string result) }
     {
         let going = self.asked_going(alloc, &at, string.as_slice())?;
         let number = self.book.tickets.add(at, string, going)?;
@@ -102,14 +109,14 @@ impl<D: Domain> Session<D> {
     ///
     /// [`NoTicket`] exactly where no ticket of this number is open.
     pub fn cancel(&mut self, ticket: u64) -> Result<(), NoTicket>
-        requires ready { IsReady (D.operations self.old.engine.domain) self.old.engine.store self.old.book }
-        ensures ready { IsReady (D.operations self.new.engine.domain) self.new.engine.store self.new.book }
+        requires ready { IsReadyBy D.operations self.old }
+        ensures ready { IsReadyBy D.operations self.new }
         ensures domain { self.new.engine.domain ≡ self.old.engine.domain }
         ensures spare { self.new.engine.spare ≡ self.old.engine.spare }
         ensures unmoved { self.new.engine.store ≡ self.old.engine.store }
         ensures next_ticket { self.new.book.tickets.next ≡ self.old.book.tickets.next }
-        ensures cancels { (m : Machine) → Holds (D.operations self.old.engine.domain) self.old.engine.store self.old.book m →
-            Cancels m (Holds (D.operations self.new.engine.domain) self.new.engine.store self.new.book) ticket (ticket_of ticket m.tickets) result }
+        ensures cancels { FromEach D.operations self.old self.new
+            (λ _ m stands. Cancels m stands ticket (ticket_of ticket m.tickets) result) }
     {
         match self.book.tickets.place_of(ticket) {
             None => Err(NoTicket),

@@ -2,9 +2,8 @@
 ghost use Rattle.std.specs.Prelude.{◌≡◌, IfOk, IfErr, OnErr, OnOk, List};
 ghost use Rattle.imp_syntax.specs.Plain.{Procedure};
 ghost use Rattle.daig_query.specs.Swept.{IsBounded};
-ghost use Rattle.daig_machine.specs.Machine.{Machine};
 ghost use Rattle.daig_machine.specs.Turns.{redone, undone};
-ghost use Rattle.daig_session.specs.Holds.{Holds, IsReady};
+ghost use Rattle.daig_session.specs.Sessions.{IsReadyBy, FromEach};
 ghost use Rattle.daig_session.specs.Moves.{IsMovingTo, IsNearest};
 ghost use Rattle.daig_session.specs.Turns.{Goes, IsStopped};
 
@@ -18,11 +17,15 @@ use std::alloc::Global;
 impl<D: Domain> Session<D> {
     /// The move to the nearest program of a side, to which this change leads, if there is one.
     fn nearest_move(&self, alloc: Global, change: Option<&Change>) -> Result<Moving, UndoError>
-        requires ready { IsReady (D.operations self.now.engine.domain) self.now.engine.store self.now.book }
-        requires leads { (side : List (List Procedure)) × IsNearest self.now.book change (λ c. c.now) side }
-        ensures moving { (side : List (List Procedure)) → IsNearest self.now.book change.entry (λ c. c.now) side →
-            IfOk result (IsMovingTo self.now.engine.store self.now.book.setting.engine self.now.book.history.now side) }
-        ensures stopped { (side : List (List Procedure)) → IsNearest self.now.book change.entry (λ c. c.now) side → IfErr result (IsStopped side) }
+        requires ready { IsReadyBy D.operations self.now }
+        requires leads { (side : List (List Procedure)) × IsNearest self.now.book change
+            (λ c. c.now) side }
+        ensures moving { (side : List (List Procedure)) →
+            IsNearest self.now.book change.entry (λ c. c.now) side →
+            IfOk result (IsMovingTo self.now.engine.store self.now.book.setting.engine
+            self.now.book.history.now side) }
+        ensures stopped { (side : List (List Procedure)) →
+            IsNearest self.now.book change.entry (λ c. c.now) side → IfErr result (IsStopped side) }
     {
         let Some(change) = change else {
             return Err(UndoError::Nothing);
@@ -40,15 +43,15 @@ impl<D: Domain> Session<D> {
     /// [`UndoError::Nothing`] exactly where no program is after, and [`UndoError::Memory`] when memory runs out. The session
     /// is then as it was.
     pub fn undo(&mut self, alloc: Global) -> Result<u32, UndoError>
-        requires ready { IsReady (D.operations self.old.engine.domain) self.old.engine.store self.old.book }
-        ensures ready { IsReady (D.operations self.new.engine.domain) self.new.engine.store self.new.book }
+        requires ready { IsReadyBy D.operations self.old }
+        ensures ready { IsReadyBy D.operations self.new }
         ensures domain { self.new.engine.domain ≡ self.old.engine.domain }
         ensures spare { self.new.engine.spare ≡ self.old.engine.spare }
         ensures bounded { OnOk result (IsBounded self.new.engine.spare self.new.engine.store) }
         ensures unmoved { OnErr result (self.new.engine.store ≡ self.old.engine.store) }
         ensures next_ticket { self.new.book.tickets.next ≡ self.old.book.tickets.next }
-        ensures goes { (m : Machine) → Holds (D.operations self.old.engine.domain) self.old.engine.store self.old.book m →
-            Goes m (Holds (D.operations self.new.engine.domain) self.new.engine.store self.new.book) m.past (undone (D.operations self.old.engine.domain) m) result }
+        ensures goes { FromEach D.operations self.old self.new
+            (λ dom m stands. Goes m stands m.past (undone dom m) result) }
     {
         let Moving { setting, plan } = self.nearest_move(alloc, self.book.history.behind())?;
         leave(&mut self.engine, plan);
@@ -63,15 +66,15 @@ impl<D: Domain> Session<D> {
     /// [`UndoError::Nothing`] exactly where no program is ahead, and [`UndoError::Memory`] when memory runs out. The session
     /// is then as it was.
     pub fn redo(&mut self, alloc: Global) -> Result<u32, UndoError>
-        requires ready { IsReady (D.operations self.old.engine.domain) self.old.engine.store self.old.book }
-        ensures ready { IsReady (D.operations self.new.engine.domain) self.new.engine.store self.new.book }
+        requires ready { IsReadyBy D.operations self.old }
+        ensures ready { IsReadyBy D.operations self.new }
         ensures domain { self.new.engine.domain ≡ self.old.engine.domain }
         ensures spare { self.new.engine.spare ≡ self.old.engine.spare }
         ensures bounded { OnOk result (IsBounded self.new.engine.spare self.new.engine.store) }
         ensures unmoved { OnErr result (self.new.engine.store ≡ self.old.engine.store) }
         ensures next_ticket { self.new.book.tickets.next ≡ self.old.book.tickets.next }
-        ensures goes { (m : Machine) → Holds (D.operations self.old.engine.domain) self.old.engine.store self.old.book m →
-            Goes m (Holds (D.operations self.new.engine.domain) self.new.engine.store self.new.book) m.future (redone (D.operations self.old.engine.domain) m) result }
+        ensures goes { FromEach D.operations self.old self.new
+            (λ dom m stands. Goes m stands m.future (redone dom m) result) }
     {
         let Moving { setting, plan } = self.nearest_move(alloc, self.book.history.ahead())?;
         leave(&mut self.engine, plan);

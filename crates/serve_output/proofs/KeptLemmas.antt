@@ -12,6 +12,8 @@ use Rattle.serve_command.specs.declared.job.SingleDomain.{SingleDomain}
 use Rattle.serve_command.specs.declared.job.SingleDomain.TheVariants as single
 use Rattle.dom_interval_meaning.specs.Domain.{intervals}
 use Rattle.dom_interval_words.specs.Words.{interval_port}
+use Rattle.dom_octagon_meaning.specs.Domain.{octagons}
+use Rattle.dom_octagon_words.specs.Words.{octagon_port}
 use Rattle.dom_listseg_meaning.specs.Domain.{segments}
 use Rattle.dom_listseg_words.specs.Words.{segment_port}
 use Rattle.cert_lines.specs.Verify.{verified_line, Yes}
@@ -21,7 +23,7 @@ use Rattle.serve_answers.specs.Readings.{Readings}
 use Rattle.serve_answers.proofs.Sources.{source_numbers, sources_fine}
 use Rattle.serve_output.specs.declared.task.CertTask.TheVariants.{Check, Write}
 use Rattle.serve_output.specs.Domains.{carried_of}
-use Rattle.serve_output.specs.Kept.{AcceptsWritten, HasCertificate, IsWritten, WrittenAreAccepted}
+use Rattle.serve_output.specs.Kept.{HasCertificate, IsWritten, WrittenAreAccepted}
 use Rattle.serve_output.specs.Output.{Output, cert_bytes, cert_output, done, most_certificate, of_file, verify_bytes}
 use Rattle.serve_output.proofs.OutputLemmas.{file_read, of_program}
 
@@ -38,16 +40,16 @@ short_file bytes give file there short =
     subst (λ (f : Option (List ℕ)). of_file most_certificate f give ≡ give bytes) (sym there)
     (subst (λ (b : Bool). (if b then give bytes else record { status = 9; bytes = [] }) ≡ give bytes) (sym (le-leb (length bytes) most_certificate short)) refl)
 
-module _ (lines : CheckedHaveLines) (accepted : (domain : SingleDomain) → AcceptsWritten domain → AreAccepted (carried_of domain).meaning.operations (carried_of domain).port) where
-  yes_of : (domain : SingleDomain) (engine : LoopOptions) (readings : Readings) (source : List ℕ) (program : List Procedure) → AcceptsWritten domain → IsProgramOf readings source program →
+module _ (lines : CheckedHaveLines) (accepted : (domain : SingleDomain) → AreAccepted (carried_of domain).meaning.operations (carried_of domain).port) where
+  yes_of : (domain : SingleDomain) (engine : LoopOptions) (readings : Readings) (source : List ℕ) (program : List Procedure) → IsProgramOf readings source program →
       HasCertificate domain engine program → length (cert_bytes domain engine program) ≤ most_certificate → verify_bytes domain program (cert_bytes domain engine program) ≡ verified_line Yes
   unfolding cert_bytes verify_bytes
-  yes_of domain engine readings source program keeps is whole short =
+  yes_of domain engine readings source program is whole short =
       let fine = (sources_fine readings engine source program is).present.fine in
-      ap verified_line (accepted domain keeps engine (routines_of program) fine.fit (lines program is.faultless fine.fit (small_numbers readings source program is)) whole (omega (arith, short)))
+      ap verified_line (accepted domain engine (routines_of program) fine.fit (lines program is.faultless fine.fit (small_numbers readings source program is)) whole (omega (arith, short)))
 
   pub written_accepted : WrittenAreAccepted
-  written_accepted readings domain widening budget folder file cert script keeps written =
+  written_accepted readings domain widening budget folder file cert script written =
       let program = written.program in
       let engine : LoopOptions = record { budget = budget; widening = widening } in
       let read = file_read readings (folder file) program written.read in
@@ -56,11 +58,11 @@ module _ (lines : CheckedHaveLines) (accepted : (domain : SingleDomain) → Acce
       let short = subst (λ (bytes : List ℕ). length bytes ≤ most_certificate) wrote written.short in
       of_program readings (folder file) program (cert_output domain (Check cert) folder) written.read
       ∙ short_file (cert_bytes domain engine program) (λ text. done (verify_bytes domain program text)) (folder cert) kept short
-      ∙ ap done (yes_of domain engine readings read.0 program keeps read.1 written.whole short)
+      ∙ ap done (yes_of domain engine readings read.0 program read.1 written.whole short)
 
--- by each domain of which it is proved
-pub accepted_by : AreAccepted intervals interval_port → AreAccepted segments segment_port →
-    (domain : SingleDomain) → AcceptsWritten domain → AreAccepted (carried_of domain).meaning.operations (carried_of domain).port
-accepted_by by_ranges by_graphs single.Interval keeps = by_ranges
-accepted_by by_ranges by_graphs single.Octagon keeps = absurd keeps
-accepted_by by_ranges by_graphs single.ListSeg keeps = by_graphs
+-- by each domain
+pub accepted_by : AreAccepted intervals interval_port → AreAccepted octagons octagon_port → AreAccepted segments segment_port →
+    (domain : SingleDomain) → AreAccepted (carried_of domain).meaning.operations (carried_of domain).port
+accepted_by by_ranges by_matrices by_graphs single.Interval = by_ranges
+accepted_by by_ranges by_matrices by_graphs single.Octagon = by_matrices
+accepted_by by_ranges by_matrices by_graphs single.ListSeg = by_graphs

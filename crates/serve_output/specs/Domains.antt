@@ -15,6 +15,7 @@ use Rattle.dom_listseg_meaning.specs.Covers.{covers as covered_by_segments}
 use Rattle.dom_listseg_meaning.specs.Domain.{segments}
 use Rattle.dom_listseg_words.specs.Words.{segment_port}
 use Rattle.cert_meaning.specs.Portable.{Portable}
+use Rattle.cert_lines.specs.Theorem.{IsYesSound}
 use Rattle.dom_product_meaning.specs.Product.{product, covered_by_both}
 use Rattle.daig_machine.specs.Machine.{Machine}
 use Rattle.serve_answers.specs.Readings.{Readings}
@@ -67,3 +68,7 @@ carried_of single.ListSeg = record { meaning = by_segments; port = segment_port 
 pub record AnswersAs {S : Type 0} (name : DomainName) (dom : Operations S) : Type 0 where
   pub turns : (readings : Readings) (line : List ℕ) (m : Machine) → line_turn readings dom line m ≡ line_turn readings (meaning_of name).operations line m
   pub reports : (engine : LoopOptions) (program : List Routine) → report dom engine program ≡ report (meaning_of name).operations engine program
+
+-- What a yes says of a certificate holds by the domain of this name.
+abbrev pub IsYesSoundBy : SingleDomain → Type 0
+IsYesSoundBy name = IsYesSound (carried_of name).meaning.operations (carried_of name).meaning.covers (carried_of name).port

@@ -78,3 +78,30 @@ Wrote Memory output script taken rest written = WroteWholeLines output.bytes tak
 Wrote Files output script taken rest written = written ≡ Some taken
 Wrote LongScript output script taken rest written = WroteRead output script taken rest written
 Wrote LongFile output script taken rest written = written ≡ Some taken
+
+-- The output of a job, where its files are told, and what is written of it. A prime marks what is told after the job.
+abbrev pub FitsIn : (files : Option (List ℕ → Option (List ℕ))) → Status → ((List ℕ → Option (List ℕ)) → Output) → Type 0
+FitsIn files status output = (folder : List ℕ → Option (List ℕ)) → files ≡ Some folder → Fits status (output folder).status
+
+abbrev pub WritesIn : (files : Option (List ℕ → Option (List ℕ))) → Status → ((List ℕ → Option (List ℕ)) → Output) → (sink sink' : Option (List ℕ)) → Type 0
+WritesIn files status output sink sink' =
+    (folder : List ℕ → Option (List ℕ)) (text taken : List ℕ) (rest : Option (List ℕ)) →
+    files ≡ Some folder → sink ≡ Some taken → Wrote status (output folder) text taken rest sink'
+
+-- What is written of an output that no script gives.
+abbrev pub WritesOutput : Status → Output → (sink sink' : Option (List ℕ)) → Type 0
+WritesOutput status output sink sink' =
+    (text taken : List ℕ) (rest : Option (List ℕ)) → sink ≡ Some taken → Wrote status output text taken rest sink'
+
+-- What is written of the output that a script gives, where the script is told so far as is needed.
+abbrev pub WritesFor : (tells : List ℕ → Type 0) → Status → (List ℕ → Output) → (script' sink sink' : Option (List ℕ)) → Type 0
+WritesFor tells status output script' sink sink' =
+    (text taken : List ℕ) → tells text → sink ≡ Some taken → Wrote status (output text) text taken script' sink'
+
+-- It ends so, unless a write fails or memory runs out.
+abbrev pub EndsBy : (wanted status : Status) → Type 0
+EndsBy wanted status = (status ≡ wanted) ⊎ ((status ≡ Sink) ⊎ (status ≡ Memory))
+
+-- A file is at fault, and nothing is written.
+abbrev pub EndsByFile : Status → Type 0
+EndsByFile status = (status ≡ Files) ⊎ (status ≡ LongFile)

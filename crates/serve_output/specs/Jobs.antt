@@ -1,5 +1,5 @@
 -- What the words ask for.
-use Rattle.std.specs.Prelude.{Option, Some, None, true, false}
+use Rattle.std.specs.Prelude.{◌≡◌, ℕ, List, Option, Some, None, true, false}
 use Rattle.serve_command.specs.declared.job.DomainName.{DomainName}
 use Rattle.serve_command.specs.declared.job.DomainName.TheVariants.{Interval, Octagon, ListSeg}
 use Rattle.serve_command.specs.declared.job.SingleDomain.{SingleDomain}
@@ -38,6 +38,10 @@ abbrev pub Serves : Task → Type 0
 Serves (Serve memo) = Unit {0}
 Serves Batch = ⊥
 Serves (Gen drawn) = ⊥
+
+-- the script is told to be this text, where its lines are answered
+abbrev pub TellsServed : Task → (script : Option (List ℕ)) → (text : List ℕ) → Type 0
+TellsServed task script text = Serves task → script ≡ Some text
 
 -- the words name a job that does so
 abbrev pub AsksToServe : Option Job → Type 0

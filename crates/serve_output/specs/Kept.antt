@@ -6,19 +6,12 @@ use Rattle.imp_chains.specs.declared.widening.Widening.{Widening}
 use Rattle.batch_meaning.specs.Batch.{LoopOptions}
 use Rattle.serve_command.specs.declared.job.Job.TheVariants as job
 use Rattle.serve_command.specs.declared.job.SingleDomain.{SingleDomain}
-use Rattle.serve_command.specs.declared.job.SingleDomain.TheVariants as single
 use Rattle.cert_lines.specs.Certificate.{certificate}
 use Rattle.cert_lines.specs.Verify.{verified_line, Yes}
 use Rattle.cert_accepted.specs.Accepted.{IsWhole}
 use Rattle.serve_answers.specs.Readings.{Readings}
 use Rattle.serve_output.specs.Domains.{carried_of}
 use Rattle.serve_output.specs.Output.{done, most_certificate, output, IsProgram}
-
--- the domains by which this is proved: their joins and widenings are above both sides
-abbrev pub AcceptsWritten : SingleDomain → Type 0
-AcceptsWritten single.Interval = Unit {0}
-AcceptsWritten single.Octagon = ⊥
-AcceptsWritten single.ListSeg = Unit {0}
 
 -- the certificate of a program has lines, and no over in place of them
 abbrev pub HasCertificate : SingleDomain → LoopOptions → List Procedure → Type 0
@@ -37,5 +30,5 @@ pub record IsWritten (readings : Readings) (domain : SingleDomain) (widening : W
 abbrev pub WrittenAreAccepted : Type 0
 WrittenAreAccepted =
     (readings : Readings) (domain : SingleDomain) (widening : Widening) (budget : ℕ) (folder : List ℕ → Option (List ℕ)) (file cert script : List ℕ) →
-    AcceptsWritten domain → IsWritten readings domain widening budget folder file cert →
+    IsWritten readings domain widening budget folder file cert →
     output readings (Some (job.Verify domain file cert)) folder script ≡ done (verified_line Yes)

@@ -56,9 +56,13 @@ pub record Output : Type 0 where
 abbrev pub served_bytes : DomainName → Served → List ℕ → List ℕ
 served_bytes domain first script = replies (server (meaning_of domain).operations) first (all_lines script)
 
+-- the line of the report
+abbrev pub report_bytes : DomainName → LoopOptions → List Procedure → List ℕ
+report_bytes domain engine program = reply_text (r.Report (report (meaning_of domain).operations engine (routines_of program)))
+
 -- the listing, then the line of the report
 unfoldable pub batch_bytes : DomainName → LoopOptions → List Procedure → List ℕ
-batch_bytes domain engine program = listing program ++ reply_text (r.Report (report (meaning_of domain).operations engine (routines_of program)))
+batch_bytes domain engine program = listing program ++ report_bytes domain engine program
 
 -- what serves after lines
 abbrev pub served_after : {S : Type 0} → Operations S → List (List ℕ) → Served → Served

@@ -23,7 +23,18 @@ checked (Ok ps) = unless_faulty ps (check_fault ps)
 abbrev pub source_of : Readings → List ℕ → Result (List Procedure) Refusal
 source_of readings source = checked (readings.program.answer source)
 
+-- the source is a program without faults
+abbrev pub IsProgramText : List ℕ → Type 0
+IsProgramText source = (readings : Readings) → (program : List Procedure) × (source_of readings source ≡ Ok program)
+
 -- the error is why the source is refused, or out of memory
 abbrev pub IsSourceError : Result (List Procedure) Refusal → SourceError → Type 0
 IsSourceError source (s.Refused why) = source ≡ Err why
 IsSourceError source s.Memory = Unit {0}
+
+-- The source is the text of this program without faults; or this is why it is refused, or out of memory.
+abbrev pub IsTextOf : (source : List ℕ) → List Procedure → Type 0
+IsTextOf source program = (readings : Readings) → source_of readings source ≡ Ok program
+
+abbrev pub IsErrorOf : (source : List ℕ) → SourceError → Type 0
+IsErrorOf source error = (readings : Readings) → IsSourceError (source_of readings source) error

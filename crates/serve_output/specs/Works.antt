@@ -6,6 +6,10 @@ use Rattle.serve_output.specs.declared.task.Task.TheVariants as task
 use Rattle.serve_output.specs.declared.task.Work.{Work}
 use Rattle.serve_output.specs.declared.task.Work.TheVariants.{Serve, Batch, Gen}
 use Rattle.serve_answers.specs.Fine.{next_number}
+use Rattle.serve_answers.specs.Readings.{Readings}
+use Rattle.serve_command.specs.declared.job.AnalysisOptions.{AnalysisOptions}
+use Rattle.serve_output.specs.Jobs.{engine_of}
+use Rattle.serve_output.specs.Output.{done, program_bytes, Output}
 
 -- the task, and the program
 abbrev pub task_in : Work → Task
@@ -17,6 +21,11 @@ abbrev pub program_in : Work → List Procedure
 program_in (Serve table memo) = table.program
 program_in (Batch program) = program
 program_in (Gen table drawn) = table.program
+
+-- what the work gives
+abbrev pub work_output : Readings → AnalysisOptions → Work → (script : List ℕ) → Output
+work_output readings settings work script =
+    done (program_bytes readings settings.domain (engine_of settings) (task_in work) (program_in work) script)
 
 -- one result is remembered, or more
 abbrev pub Remembers : Task → Type 0

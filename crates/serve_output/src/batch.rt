@@ -1,13 +1,9 @@
 //! The listing and the report of a program, by batch interpretation.
 ghost use Rattle.std.specs.Prelude.{◌≡◌, ◌++◌, IfOk};
 ghost use Rattle.imp_check.specs.Slots.{routines_of};
-ghost use Rattle.batch_meaning.specs.Report.{report};
 ghost use Rattle.call_contexts.specs.Settings.{setting_of};
-ghost use Rattle.request_json.specs.declared.reply.Reply.TheVariants as r;
-ghost use Rattle.request_json.specs.Replies.{reply_text};
-ghost use Rattle.serve_output.specs.Domains.{meaning_of};
 ghost use Rattle.serve_output.specs.Jobs.{engine_of};
-ghost use Rattle.serve_output.specs.Output.{batch_bytes};
+ghost use Rattle.serve_output.specs.Output.{batch_bytes, report_bytes};
 
 use crate::domains::Named;
 use base_counter::Steps;
@@ -30,7 +26,8 @@ fn line_by<D: Named, L: Ledger>(
     steps: &mut Steps<L>,
 ) -> Result<Vec<u8>, Memory>
     requires setting { setting.now ≡ setting_of setting.now.engine (routines_of program.now) }
-    ensures bytes { IfOk result (λ v. v.items ≡ reply_text (r.Report (report (meaning_of D.name).operations setting.now.engine (routines_of program.now)))) }
+    ensures bytes { IfOk result (λ v.
+        v.items ≡ report_bytes D.name setting.now.engine program.now) }
 {
     let findings = batch_report(alloc, domain, program, setting, steps)?;
     reply_line(alloc, &Reply::Report(findings))
@@ -44,7 +41,8 @@ fn report_line<D: Named, L: Ledger>(
     program: &Checked,
     steps: &mut Steps<L>,
 ) -> Result<Vec<u8>, Memory>
-    ensures bytes { IfOk result (λ v. v.items ≡ reply_text (r.Report (report (meaning_of D.name).operations (engine_of settings.now) (routines_of program.now)))) }
+    ensures bytes { IfOk result (λ v.
+        v.items ≡ report_bytes D.name (engine_of settings.now) program.now) }
 {
     let setting = Setting::new(alloc, &program.view(), settings.budget, settings.widening)?;
     line_by(alloc, domain, &setting, program, steps)
@@ -68,7 +66,8 @@ pub fn listed<D: Named, L: Ledger>(
     program: &Checked,
     steps: &mut Steps<L>,
 ) -> Result<Vec<u8>, Memory>
-    ensures bytes { IfOk result (λ v. v.items ≡ batch_bytes D.name (engine_of settings.now) program.now) }
+    ensures bytes { IfOk result (λ v.
+        v.items ≡ batch_bytes D.name (engine_of settings.now) program.now) }
 {
     let line = report_line(alloc, domain, settings, program, steps)?;
     let listing = listing(alloc, program.program())?;

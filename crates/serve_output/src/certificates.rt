@@ -1,15 +1,17 @@
 //! Certificates: from a program to its lines, or to whether those of a file hold; the jobs `cert` and `verify`.
-ghost use Rattle.std.specs.Prelude.{◌≡◌, ◌<◌, ◌^◌, ◌⊎◌, ℕ, List, length, Option, Some, Ok, IfOk};
+ghost use Rattle.std.specs.Prelude.{◌≡◌, ◌<◌, ◌^◌, ◌⊎◌, ℕ, List, length, Option, Some, IfOk};
 ghost use Rattle.io_edge.specs.Outside.{Rose, Lacks};
-ghost use Rattle.imp_syntax.specs.Plain.{Procedure};
 ghost use Rattle.serve_command.specs.declared.job.SingleDomain.{SingleDomain as Single};
 ghost use Rattle.cert_lines.specs.Theorem.{IsYesSound};
 ghost use Rattle.serve_answers.specs.Readings.{Readings};
-ghost use Rattle.serve_output.specs.Domains.{carried_of};
-ghost use Rattle.serve_output.specs.Ends.{Fits, Wrote};
+ghost use Rattle.serve_output.specs.declared.task.CertTask.TheVariants.{Check};
+ghost use Rattle.serve_output.specs.Domains.{IsYesSoundBy};
+ghost use Rattle.serve_output.specs.Ends.{EndsBy, EndsByFile, Fits, FitsIn, WritesIn, Wrote};
 ghost use Rattle.serve_output.specs.Kept.{WrittenAreAccepted};
-ghost use Rattle.serve_output.specs.Sources.{source_of};
-ghost use Rattle.serve_output.specs.Output.{cert_bytes, cert_output, done, most_certificate, of_file, of_source, program_output, verify_bytes, LacksCertificate, LacksEither};
+ghost use Rattle.serve_output.specs.Sources.{source_of, IsProgramText};
+ghost use Rattle.serve_output.specs.Output.{cert_bytes, cert_output, done, of_source};
+ghost use Rattle.serve_output.specs.Output.{program_output, verify_bytes};
+ghost use Rattle.serve_output.specs.Output.{LacksCertificate, LacksEither};
 
 use crate::refusing::refuse_source;
 use crate::source::{MOST_SOURCE, SourceError, read_checked};
@@ -19,7 +21,7 @@ use base_counter::Steps;
 use base_values::Memory;
 use cert_accepted::{
     checked_programs_have_lines, interval_certificates_are_accepted,
-    segment_certificates_are_accepted,
+    octagon_certificates_are_accepted, segment_certificates_are_accepted,
 };
 use cert_check::verify;
 use cert_lines::a_yes_is_sound;
@@ -48,20 +50,20 @@ fn yes_is_sound_by<D: Portable>()
 
 /// What a yes says holds by each domain that the words name.
 pub fn each_yes_is_sound()
-    ensures sound { (name : Single) → IsYesSound (carried_of name).meaning.operations (carried_of name).meaning.covers (carried_of name).port }
+    ensures sound { (name : Single) → IsYesSoundBy name }
 {
     yes_is_sound_by::<Interval>();
     yes_is_sound_by::<Octagon>();
     yes_is_sound_by::<ListSeg>();
 }
 
-/// What `cert` wrote of a program, without an over and within the limit of `verify`, `verify` finds to hold by the same domain:
-/// by intervals and by list segments.
+/// What `cert` wrote of a program, without an over and within the limit of `verify`, `verify` finds to hold by the same domain.
 pub fn written_certificates_are_accepted()
     ensures accepted { WrittenAreAccepted }
 {
     checked_programs_have_lines();
     interval_certificates_are_accepted();
+    octagon_certificates_are_accepted();
     segment_certificates_are_accepted();
 }
 
@@ -75,7 +77,8 @@ fn cert_lines<L: Ledger>(
     program: &Checked,
     steps: &mut Steps<L>,
 ) -> Result<Vec<u8>, Memory>
-    ensures bytes { IfOk result (λ v. v.items ≡ cert_bytes domain (record { budget = budget; widening = widening }) program.now) }
+    ensures bytes { IfOk result (λ v. v.items ≡
+        cert_bytes domain (record { budget = budget; widening = widening }) program.now) }
 {
     match domain {
         SingleDomain::Interval => certificate(alloc, &Interval, program, budget, widening, steps),
@@ -105,9 +108,11 @@ fn verify_line<L: Ledger>(
 
 /// Writes all that is to be written.
 fn write_done<O: Sink>(bytes: Result<Vec<u8>, Memory>, out: &mut O) -> Status
-    ensures status { (result ≡ Status.Done) ⊎ ((result ≡ Status.Sink) ⊎ (result ≡ Status.Memory)) }
+    ensures status { EndsBy Status.Done result }
     ensures fits { Fits result 0 }
-    ensures wrote { (all text taken : List ℕ) (rest : Option (List ℕ)) → IfOk bytes (λ v. v.items ≡ all) → O.told out.old ≡ Some taken → Wrote result (done all) text taken rest (O.told out.new) }
+    ensures wrote { (all text taken : List ℕ) (rest : Option (List ℕ)) →
+        IfOk bytes (λ v. v.items ≡ all) → O.told out.old ≡ Some taken →
+        Wrote result (done all) text taken rest (O.told out.new) }
     ensures sink_failed { result ≡ Status.Sink → Rose (O.faults out.old) (O.faults out.new) }
 {
     let Ok(bytes) = bytes else {
@@ -129,13 +134,15 @@ fn check_file<F: Files, O: Sink, L: Ledger>(
     out: &mut O,
     steps: &mut Steps<L>,
 ) -> Status
-    ensures fits { (folder : List ℕ → Option (List ℕ)) → F.told files.old ≡ Some folder
-        → Fits result (of_file most_certificate (folder name.now) (λ text. done (verify_bytes domain program.now text))).status }
-    ensures wrote { (folder : List ℕ → Option (List ℕ)) (text taken : List ℕ) (rest : Option (List ℕ)) → F.told files.old ≡ Some folder → O.told out.old ≡ Some taken
-        → Wrote result (of_file most_certificate (folder name.now) (λ text. done (verify_bytes domain program.now text))) text taken rest (O.told out.new) }
+    ensures fits { FitsIn (F.told files.old) result
+        (λ folder. cert_output domain (Check name.now) folder program.now) }
+    ensures wrote { WritesIn (F.told files.old) result
+        (λ folder. cert_output domain (Check name.now) folder program.now)
+        (O.told out.old) (O.told out.new) }
     ensures sink_failed { result ≡ Status.Sink → Rose (O.faults out.old) (O.faults out.new) }
-    ensures quiet { (result ≡ Status.Files) ⊎ (result ≡ Status.LongFile) → O.told out.new ≡ O.told out.old }
-    ensures files_failed { result ≡ Status.Files → (Rose (F.faults files.old) (F.faults files.new)) ⊎ (Lacks (F.told files.old) name.now) }
+    ensures quiet { EndsByFile result → O.told out.new ≡ O.told out.old }
+    ensures files_failed { result ≡ Status.Files →
+        (Rose (F.faults files.old) (F.faults files.new)) ⊎ (Lacks (F.told files.old) name.now) }
     ensures no_words { result ≡ Status.Words → ⊥ }
     ensures no_script { result ≡ Status.Script → ⊥ }
     ensures no_long_script { result ≡ Status.LongScript → ⊥ }
@@ -162,12 +169,16 @@ fn certify<F: Files, O: Sink, L: Ledger>(
     out: &mut O,
     steps: &mut Steps<L>,
 ) -> Status
-    ensures fits { (folder : List ℕ → Option (List ℕ)) → F.told files.old ≡ Some folder → Fits result (cert_output domain task.now folder program.now).status }
-    ensures wrote { (folder : List ℕ → Option (List ℕ)) (text taken : List ℕ) (rest : Option (List ℕ)) → F.told files.old ≡ Some folder → O.told out.old ≡ Some taken
-        → Wrote result (cert_output domain task.now folder program.now) text taken rest (O.told out.new) }
+    ensures fits { FitsIn (F.told files.old) result
+        (λ folder. cert_output domain task.now folder program.now) }
+    ensures wrote { WritesIn (F.told files.old) result
+        (λ folder. cert_output domain task.now folder program.now)
+        (O.told out.old) (O.told out.new) }
     ensures sink_failed { result ≡ Status.Sink → Rose (O.faults out.old) (O.faults out.new) }
-    ensures quiet { (result ≡ Status.Files) ⊎ (result ≡ Status.LongFile) → O.told out.new ≡ O.told out.old }
-    ensures files_failed { result ≡ Status.Files → (Rose (F.faults files.old) (F.faults files.new)) ⊎ (LacksCertificate (F.told files.old) task.now) }
+    ensures quiet { EndsByFile result → O.told out.new ≡ O.told out.old }
+    ensures files_failed { result ≡ Status.Files →
+        (Rose (F.faults files.old) (F.faults files.new)) ⊎
+        (LacksCertificate (F.told files.old) task.now) }
     ensures no_words { result ≡ Status.Words → ⊥ }
     ensures no_script { result ≡ Status.Script → ⊥ }
     ensures no_long_script { result ≡ Status.LongScript → ⊥ }
@@ -195,13 +206,16 @@ fn certify_source<F: Files, O: Sink, L: Ledger>(
     steps: &mut Steps<L>,
 ) -> Status
     requires short { length source.now < 2 ^ 31 }
-    ensures fits { (readings : Readings) (folder : List ℕ → Option (List ℕ)) → F.told files.old ≡ Some folder
-        → Fits result (of_source (source_of readings source.now) (cert_output domain task.now folder)).status }
-    ensures wrote { (readings : Readings) (folder : List ℕ → Option (List ℕ)) (text taken : List ℕ) (rest : Option (List ℕ)) → F.told files.old ≡ Some folder → O.told out.old ≡ Some taken
-        → Wrote result (of_source (source_of readings source.now) (cert_output domain task.now folder)) text taken rest (O.told out.new) }
+    ensures fits { (readings : Readings) → FitsIn (F.told files.old) result
+        (λ folder. of_source (source_of readings source.now) (cert_output domain task.now folder)) }
+    ensures wrote { (readings : Readings) → WritesIn (F.told files.old) result
+        (λ folder. of_source (source_of readings source.now) (cert_output domain task.now folder))
+        (O.told out.old) (O.told out.new) }
     ensures sink_failed { result ≡ Status.Sink → Rose (O.faults out.old) (O.faults out.new) }
-    ensures quiet { (result ≡ Status.Files) ⊎ (result ≡ Status.LongFile) → O.told out.new ≡ O.told out.old }
-    ensures files_failed { result ≡ Status.Files → (Rose (F.faults files.old) (F.faults files.new)) ⊎ (((readings : Readings) → (program : List Procedure) × (source_of readings source.now ≡ Ok program)) × LacksCertificate (F.told files.old) task.now) }
+    ensures quiet { EndsByFile result → O.told out.new ≡ O.told out.old }
+    ensures files_failed { result ≡ Status.Files →
+        (Rose (F.faults files.old) (F.faults files.new)) ⊎
+        (IsProgramText source.now × LacksCertificate (F.told files.old) task.now) }
     ensures no_words { result ≡ Status.Words → ⊥ }
     ensures no_script { result ≡ Status.Script → ⊥ }
     ensures no_long_script { result ≡ Status.LongScript → ⊥ }
@@ -223,13 +237,16 @@ pub fn run_certificate<F: Files, O: Sink, L: Ledger>(
     out: &mut O,
     steps: &mut Steps<L>,
 ) -> Status
-    ensures fits { (readings : Readings) (folder : List ℕ → Option (List ℕ)) → F.told files.old ≡ Some folder
-        → Fits result (program_output readings (folder name.now) (cert_output domain task.now folder)).status }
-    ensures wrote { (readings : Readings) (folder : List ℕ → Option (List ℕ)) (text taken : List ℕ) (rest : Option (List ℕ)) → F.told files.old ≡ Some folder → O.told out.old ≡ Some taken
-        → Wrote result (program_output readings (folder name.now) (cert_output domain task.now folder)) text taken rest (O.told out.new) }
+    ensures fits { (readings : Readings) → FitsIn (F.told files.old) result
+        (λ folder. program_output readings (folder name.now) (cert_output domain task.now folder)) }
+    ensures wrote { (readings : Readings) → WritesIn (F.told files.old) result
+        (λ folder. program_output readings (folder name.now) (cert_output domain task.now folder))
+        (O.told out.old) (O.told out.new) }
     ensures sink_failed { result ≡ Status.Sink → Rose (O.faults out.old) (O.faults out.new) }
-    ensures quiet { (result ≡ Status.Files) ⊎ (result ≡ Status.LongFile) → O.told out.new ≡ O.told out.old }
-    ensures files_failed { result ≡ Status.Files → (Rose (F.faults files.old) (F.faults files.new)) ⊎ (LacksEither (F.told files.old) name.now task.now) }
+    ensures quiet { EndsByFile result → O.told out.new ≡ O.told out.old }
+    ensures files_failed { result ≡ Status.Files →
+        (Rose (F.faults files.old) (F.faults files.new)) ⊎
+        (LacksEither (F.told files.old) name.now task.now) }
     ensures no_words { result ≡ Status.Words → ⊥ }
     ensures no_script { result ≡ Status.Script → ⊥ }
     ensures no_long_script { result ≡ Status.LongScript → ⊥ }

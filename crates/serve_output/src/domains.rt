@@ -58,7 +58,8 @@ pub trait NamedWithLists: Domain + Drop {
     /// The name of the product.
     ghost product_name: { Name };
 
-    ghost product_answers: { (d : Self) → AnswersAs product_name (product (Self.Domain.operations d) segments) };
+    ghost product_answers: { (d : Self) →
+        AnswersAs product_name (product (Self.Domain.operations d) segments) };
 }
 
 impl NamedWithLists for Interval {
@@ -96,7 +97,8 @@ fn domain_is_sound<D: Domain>()
 
 /// Replies to lines and reports are sound by each domain that the words name.
 pub fn named_domains_are_sound()
-    ensures moments { (name : Name) → MomentsAreSound (meaning_of name).operations (meaning_of name).covers }
+    ensures moments { (name : Name) →
+        MomentsAreSound (meaning_of name).operations (meaning_of name).covers }
     ensures reports { (name : Name) → AreReportsSound (meaning_of name).operations }
 {
     domain_is_sound::<Interval>();

@@ -1,9 +1,9 @@
 //! Sources that are refused.
-ghost use Rattle.std.specs.Prelude.{◌≡◌, ◌⊎◌, ℕ, List, Option, Some, IfOk};
+ghost use Rattle.std.specs.Prelude.{◌≡◌, IfOk};
 ghost use Rattle.io_edge.specs.Outside.{Rose};
 ghost use Rattle.request_json.specs.declared.reply.Reply.TheVariants as r;
 ghost use Rattle.request_json.specs.Replies.{reply_text};
-ghost use Rattle.serve_output.specs.Ends.{Fits, Wrote};
+ghost use Rattle.serve_output.specs.Ends.{EndsBy, Fits, WritesOutput};
 
 use crate::status::Status;
 use base_values::Memory;
@@ -21,10 +21,10 @@ fn refusal_line(alloc: Global, why: Refusal) -> Result<Vec<u8>, Memory>
 
 /// Refuses a source: its refusal is written as a line.
 pub fn refuse_source<O: Sink>(alloc: Global, why: Refusal, out: &mut O) -> Status
-    ensures status { (result ≡ Status.Source) ⊎ ((result ≡ Status.Sink) ⊎ (result ≡ Status.Memory)) }
+    ensures status { EndsBy Status.Source result }
     ensures fits { Fits result 3 }
-    ensures wrote { (text taken : List ℕ) (rest : Option (List ℕ)) → O.told out.old ≡ Some taken
-        → Wrote result (record { status = 3; bytes = reply_text (r.Refused why) }) text taken rest (O.told out.new) }
+    ensures wrote { WritesOutput result (record { status = 3; bytes = reply_text (r.Refused why) })
+        (O.told out.old) (O.told out.new) }
     ensures sink_failed { result ≡ Status.Sink → Rose (O.faults out.old) (O.faults out.new) }
 {
     let Ok(line) = refusal_line(alloc, why) else {

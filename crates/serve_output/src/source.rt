@@ -3,7 +3,7 @@
 ghost use Rattle.std.specs.Prelude.{◌≡◌, ◌<◌, ◌^◌, length, IfOk, IfErr, None, Ok};
 ghost use Rattle.imp_check.specs.Programs.{AreNumbered, check_fault};
 ghost use Rattle.serve_answers.specs.Readings.{Readings};
-ghost use Rattle.serve_output.specs.Sources.{source_of, unless_faulty, IsSourceError};
+ghost use Rattle.serve_output.specs.Sources.{unless_faulty, IsErrorOf, IsSourceError, IsTextOf};
 ghost use Rattle.serve_output.specs.Works.{program_in, task_in, IsNumbered};
 ghost use Rattle.serve_output.specs.declared.source.SourceError.TheVariants.{Memory as of_memory};
 
@@ -47,7 +47,8 @@ fn tabled(alloc: Global, program: &Program) -> Result<Table, SourceError>
     requires numbered { AreNumbered program.now }
     ensures accepted { IfOk result (λ t. t.program ≡ program.now) }
     ensures faultless { IfOk result (λ _. check_fault program.now ≡ None) }
-    ensures refused { IfErr result (IsSourceError (unless_faulty program.now (check_fault program.now))) }
+    ensures refused { IfErr result
+        (IsSourceError (unless_faulty program.now (check_fault program.now))) }
 {
     match check_table(alloc, program) {
         Ok(table) => Ok(table),
@@ -73,9 +74,10 @@ fn checked(alloc: Global, program: Program) -> Result<Checked, SourceError>
 /// The program of a text, whose faults are not yet known.
 fn read_program(alloc: Global, source: &[u8]) -> Result<Program, SourceError>
     requires short { length source.now < 2 ^ 31 }
-    ensures read { IfOk result (λ p. (readings : Readings) → readings.program.answer source.now ≡ Ok p) }
+    ensures read { IfOk result (λ p.
+        (readings : Readings) → readings.program.answer source.now ≡ Ok p) }
     ensures numbered { IfOk result AreNumbered }
-    ensures refused { IfErr result (λ e. (readings : Readings) → IsSourceError (source_of readings source.now) e) }
+    ensures refused { IfErr result (IsErrorOf source.now) }
 {
     match parse_program(alloc, source) {
         Ok(program) => Ok(program),
@@ -116,10 +118,10 @@ fn work_for(alloc: Global, task: Task, program: Program) -> Result<Work, SourceE
 /// [`SourceError::Memory`] when memory runs out.
 pub fn read_source(alloc: Global, task: Task, source: &[u8]) -> Result<Work, SourceError>
     requires short { length source.now < 2 ^ 31 }
-    ensures accepted { IfOk result (λ w. (readings : Readings) → source_of readings source.now ≡ Ok (program_in w)) }
+    ensures accepted { IfOk result (λ w. IsTextOf source.now (program_in w)) }
     ensures task { IfOk result (λ w. task_in w ≡ task) }
     ensures numbered { IfOk result (λ w. IsNumbered (program_in w)) }
-    ensures refused { IfErr result (λ e. (readings : Readings) → IsSourceError (source_of readings source.now) e) }
+    ensures refused { IfErr result (IsErrorOf source.now) }
 {
     texts_are_read();
     machines_stay_fine::<Interval>();
@@ -134,8 +136,8 @@ pub fn read_source(alloc: Global, task: Task, source: &[u8]) -> Result<Work, Sou
 /// As for [`read_source`].
 pub(crate) fn read_checked(alloc: Global, source: &[u8]) -> Result<Checked, SourceError>
     requires short { length source.now < 2 ^ 31 }
-    ensures accepted { IfOk result (λ c. (readings : Readings) → source_of readings source.now ≡ Ok c) }
-    ensures refused { IfErr result (λ e. (readings : Readings) → IsSourceError (source_of readings source.now) e) }
+    ensures accepted { IfOk result (IsTextOf source.now) }
+    ensures refused { IfErr result (IsErrorOf source.now) }
 {
     let program = read_program(alloc, source)?;
     checked(alloc, program)

@@ -1,3 +1,4 @@
+pub mod Answering
 pub mod Lasts
 pub mod Lines
 pub mod Replies

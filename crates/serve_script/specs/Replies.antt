@@ -48,6 +48,13 @@ pub record ReadBytes (count : ℕ) (script : List ℕ) (rest : Option (List ℕ)
   pub stands : rest ≡ Some left
   pub many : length read ≡ count
 
+-- The script, where it is told, was read to its end, or so many bytes of it were read. A prime marks what is told after that.
+abbrev pub ReadsToEnd : (script script' : Option (List ℕ)) → Type 0
+ReadsToEnd script script' = (text : List ℕ) → script ≡ Some text → ReadToEnd text script'
+
+abbrev pub ReadsBytes : (count : ℕ) → (script script' : Option (List ℕ)) → Type 0
+ReadsBytes count script script' = (text : List ℕ) → script ≡ Some text → ReadBytes count text script'
+
 -- A prefix of the bytes was written.
 pub record WrotePrefix (bytes taken : List ℕ) (output : Option (List ℕ)) : Type 0 where
   pub sent : List ℕ

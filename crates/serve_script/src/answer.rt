@@ -1,5 +1,6 @@
 //! What answers line by line.
-ghost use Rattle.std.specs.Prelude.{◌≡◌, ℕ, suc, IfOk, OnOk};
+ghost use Rattle.std.specs.Prelude.{◌≡◌, ℕ, suc, Some, IfOk, OnOk};
+ghost use Rattle.serve_script.specs.Answering.{GoesOn, IsReply};
 ghost use Rattle.serve_script.specs.Replies.{LineMachine};
 
 use base_counter::Steps;
@@ -33,8 +34,9 @@ pub trait Answerer {
         steps: &mut Steps<L>,
     ) -> Result<Vec<u8>, Memory>
         requires lasts { (n : ℕ) × lasts self.old (suc n) }
-        ensures reply { IfOk result (λ v. (m : State) → stands self.old m → v.items ≡ machine.reply m line.now) }
-        ensures next { OnOk result ((m : State) → stands self.old m → stands self.new (machine.next m line.now)) }
+        ensures reply { IfOk result (λ v.
+            IsReply machine (stands self.old) (Some line.now) v.items) }
+        ensures next { OnOk result (GoesOn machine stands (Some line.now) self.old self.new) }
         ensures lasts { OnOk result ((n : ℕ) → lasts self.old (suc n) → lasts self.new n) };
 
     /// The reply to a line that is too long. It leaves the machine in its state.

@@ -1,9 +1,15 @@
 //! Reading a script and answering its lines.
-ghost use Rattle.std.specs.Prelude.{◌≡◌, ◌≤◌, ◌<◌, ◌^◌, ◌++◌, ◌⊎◌, ◌+◌, ℕ, suc, List, [], ◌∷◌, length, Some, IfOk, IfErr, OnOk, OnErr, IsErrOf, IfSome};
+ghost use Rattle.std.specs.Prelude.{◌≡◌, ◌≤◌, ◌<◌, ◌^◌, ◌⊎◌, [], ◌∷◌, length};
+ghost use Rattle.std.specs.Prelude.{IfErr, IfOk, IfSome, IsErrOf, OnErr, OnOk};
 ghost use Rattle.io_edge.specs.Outside.{Rose, HandsOut};
+ghost use Rattle.serve_script.specs.Answering.{AnswersAll, AnswersFirst, AnswersPrefix};
+ghost use Rattle.serve_script.specs.Answering.{AnswersRead, GoesOn, GoesOnBy, IsReply, KeepsRest};
+ghost use Rattle.serve_script.specs.Answering.{UsesLine, UsesLines};
+ghost use Rattle.serve_script.specs.Answering.{WritesPrefixOfReplies, WritesPrefixOfReply};
+ghost use Rattle.serve_script.specs.Answering.{WritesReplies, WritesReply, WritesWholeReplies};
 ghost use Rattle.serve_script.specs.Lasts.{LastsFor};
-ghost use Rattle.serve_script.specs.Lines.{whole_lines, last_part, last_line, all_lines, kept};
-ghost use Rattle.serve_script.specs.Replies.{reply_to, next_to, replies, machine_after, ReadToEnd, AnsweredRead, ReadBytes, WrotePrefix, WroteLines};
+ghost use Rattle.serve_script.specs.Lines.{last_line, whole_lines};
+ghost use Rattle.serve_script.specs.Replies.{ReadsBytes, ReadsToEnd};
 
 use crate::answer::Answerer;
 use crate::outcome::Stop;
@@ -29,9 +35,9 @@ fn reply_to<A: Answerer, L: Ledger>(
     steps: &mut Steps<L>,
 ) -> Result<Vec<u8>, Memory>
     requires lasts { LastsFor (A.lasts answerer.old) 1 }
-    ensures reply { IfOk result (λ v. (m : A.State) → A.stands answerer.old m → v.items ≡ reply_to A.machine m line.now) }
-    ensures next { OnOk result ((m : A.State) → A.stands answerer.old m → A.stands answerer.new (next_to A.machine m line.now)) }
-    ensures lasts { OnOk result ((n : ℕ) → LastsFor (A.lasts answerer.old) (suc n) → LastsFor (A.lasts answerer.new) n) }
+    ensures reply { IfOk result (λ v. IsReply A.machine (A.stands answerer.old) line.now v.items) }
+    ensures next { OnOk result (GoesOn A.machine A.stands line.now answerer.old answerer.new) }
+    ensures lasts { OnOk result (UsesLine A.lasts answerer.old answerer.new) }
 {
     match line.part() {
         Some(part) => answerer.answer(alloc, part, steps),
@@ -48,10 +54,13 @@ fn answer_line<A: Answerer, O: Sink, L: Ledger>(
     steps: &mut Steps<L>,
 ) -> Result<(), Stop>
     requires lasts { LastsFor (A.lasts answerer.old) 1 }
-    ensures next { OnOk result ((m : A.State) → A.stands answerer.old m → A.stands answerer.new (next_to A.machine m line.now)) }
-    ensures lasts { OnOk result ((n : ℕ) → LastsFor (A.lasts answerer.old) (suc n) → LastsFor (A.lasts answerer.new) n) }
-    ensures written { OnOk result ((m : A.State) → A.stands answerer.old m → (taken : List ℕ) → O.told out.old ≡ Some taken → O.told out.new ≡ Some (taken ++ reply_to A.machine m line.now)) }
-    ensures prefix { IsErrOf result Stop.Sink → (m : A.State) → A.stands answerer.old m → (taken : List ℕ) → O.told out.old ≡ Some taken → WrotePrefix (reply_to A.machine m line.now) taken (O.told out.new) }
+    ensures next { OnOk result (GoesOn A.machine A.stands line.now answerer.old answerer.new) }
+    ensures lasts { OnOk result (UsesLine A.lasts answerer.old answerer.new) }
+    ensures written { OnOk result (WritesReply A.machine (A.stands answerer.old) line.now
+        (O.told out.old) (O.told out.new)) }
+    ensures prefix { IsErrOf result Stop.Sink →
+        WritesPrefixOfReply A.machine (A.stands answerer.old) line.now
+        (O.told out.old) (O.told out.new) }
     ensures failed { IsErrOf result Stop.Sink → Rose (O.faults out.old) (O.faults out.new) }
     ensures nothing_written { IsErrOf result Stop.Memory → O.told out.new ≡ O.told out.old }
     ensures causes { IfErr result (λ e. (e ≡ Stop.Sink) ⊎ (e ≡ Stop.Memory)) }
@@ -94,16 +103,19 @@ fn answer_byte<A: Answerer, O: Sink, L: Ledger>(
     steps: &mut Steps<L>,
 ) -> Result<(), Stop>
     requires lasts { LastsFor (A.lasts answerer.old) 1 }
-    ensures pending { OnOk result ((part : List ℕ) → pending.old ≡ kept part → pending.new ≡ kept (last_part part (byte ∷ []))) }
-    ensures next { OnOk result ((m : A.State) → A.stands answerer.old m → (part : List ℕ) → pending.old ≡ kept part → A.stands answerer.new (machine_after A.machine m (whole_lines part (byte ∷ [])))) }
-    ensures lasts { OnOk result ((n : ℕ) → LastsFor (A.lasts answerer.old) (suc n) → LastsFor (A.lasts answerer.new) n) }
-    ensures written { OnOk result ((m : A.State) → A.stands answerer.old m → (part taken : List ℕ) → pending.old ≡ kept part → O.told out.old ≡ Some taken
-        → O.told out.new ≡ Some (taken ++ replies A.machine m (whole_lines part (byte ∷ [])))) }
-    ensures prefix { IsErrOf result Stop.Sink → (m : A.State) → A.stands answerer.old m → (part taken : List ℕ) → pending.old ≡ kept part → O.told out.old ≡ Some taken
-        → WrotePrefix (replies A.machine m (whole_lines part (byte ∷ []))) taken (O.told out.new) }
+    ensures pending { OnOk result (KeepsRest (byte ∷ []) pending.old pending.new) }
+    ensures next { OnOk result
+        (GoesOnBy A.machine A.stands pending.old (byte ∷ []) answerer.old answerer.new) }
+    ensures lasts { OnOk result (UsesLine A.lasts answerer.old answerer.new) }
+    ensures written { OnOk result (WritesReplies A.machine (A.stands answerer.old) pending.old
+        (λ part. whole_lines part (byte ∷ [])) (O.told out.old) (O.told out.new)) }
+    ensures prefix { IsErrOf result Stop.Sink →
+        WritesPrefixOfReplies A.machine (A.stands answerer.old) pending.old
+        (λ part. whole_lines part (byte ∷ [])) (O.told out.old) (O.told out.new) }
     ensures failed { IsErrOf result Stop.Sink → Rose (O.faults out.old) (O.faults out.new) }
-    ensures lines { IsErrOf result Stop.Memory → (m : A.State) → A.stands answerer.old m → (part taken : List ℕ) → pending.old ≡ kept part → O.told out.old ≡ Some taken
-        → WroteLines A.machine m (whole_lines part (byte ∷ [])) taken (O.told out.new) }
+    ensures lines { IsErrOf result Stop.Memory →
+        WritesWholeReplies A.machine (A.stands answerer.old) pending.old
+        (λ part. whole_lines part (byte ∷ [])) (O.told out.old) (O.told out.new) }
     ensures causes { IfErr result (λ e. (e ≡ Stop.Sink) ⊎ (e ≡ Stop.Memory)) }
     ensures never_falls { O.faults out.old ≤ O.faults out.new }
 {
@@ -134,16 +146,19 @@ fn answer_block<A: Answerer, O: Sink, L: Ledger>(
     steps: &mut Steps<L>,
 ) -> Result<(), Stop>
     requires lasts { LastsFor (A.lasts answerer.old) (length block.now) }
-    ensures pending { OnOk result ((part : List ℕ) → pending.old ≡ kept part → pending.new ≡ kept (last_part part block.now)) }
-    ensures next { OnOk result ((m : A.State) → A.stands answerer.old m → (part : List ℕ) → pending.old ≡ kept part → A.stands answerer.new (machine_after A.machine m (whole_lines part block.now))) }
-    ensures lasts { OnOk result ((n : ℕ) → LastsFor (A.lasts answerer.old) (length block.now + n) → LastsFor (A.lasts answerer.new) n) }
-    ensures written { OnOk result ((m : A.State) → A.stands answerer.old m → (part taken : List ℕ) → pending.old ≡ kept part → O.told out.old ≡ Some taken
-        → O.told out.new ≡ Some (taken ++ replies A.machine m (whole_lines part block.now))) }
-    ensures prefix { IsErrOf result Stop.Sink → (m : A.State) → A.stands answerer.old m → (part taken : List ℕ) → pending.old ≡ kept part → O.told out.old ≡ Some taken
-        → WrotePrefix (replies A.machine m (whole_lines part block.now)) taken (O.told out.new) }
+    ensures pending { OnOk result (KeepsRest block.now pending.old pending.new) }
+    ensures next { OnOk result
+        (GoesOnBy A.machine A.stands pending.old block.now answerer.old answerer.new) }
+    ensures lasts { OnOk result (UsesLines A.lasts (length block.now) answerer.old answerer.new) }
+    ensures written { OnOk result (WritesReplies A.machine (A.stands answerer.old) pending.old
+        (λ part. whole_lines part block.now) (O.told out.old) (O.told out.new)) }
+    ensures prefix { IsErrOf result Stop.Sink →
+        WritesPrefixOfReplies A.machine (A.stands answerer.old) pending.old
+        (λ part. whole_lines part block.now) (O.told out.old) (O.told out.new) }
     ensures failed { IsErrOf result Stop.Sink → Rose (O.faults out.old) (O.faults out.new) }
-    ensures lines { IsErrOf result Stop.Memory → (m : A.State) → A.stands answerer.old m → (part taken : List ℕ) → pending.old ≡ kept part → O.told out.old ≡ Some taken
-        → WroteLines A.machine m (whole_lines part block.now) taken (O.told out.new) }
+    ensures lines { IsErrOf result Stop.Memory →
+        WritesWholeReplies A.machine (A.stands answerer.old) pending.old
+        (λ part. whole_lines part block.now) (O.told out.old) (O.told out.new) }
     ensures causes { IfErr result (λ e. (e ≡ Stop.Sink) ⊎ (e ≡ Stop.Memory)) }
     ensures never_falls { O.faults out.old ≤ O.faults out.new }
 {
@@ -165,13 +180,15 @@ fn answer_rest<A: Answerer, O: Sink, L: Ledger>(
     steps: &mut Steps<L>,
 ) -> Result<(), Stop>
     requires lasts { LastsFor (A.lasts answerer.old) 1 }
-    ensures written { OnOk result ((m : A.State) → A.stands answerer.old m → (part taken : List ℕ) → pending.now ≡ kept part → O.told out.old ≡ Some taken
-        → O.told out.new ≡ Some (taken ++ replies A.machine m (last_line part))) }
-    ensures prefix { IsErrOf result Stop.Sink → (m : A.State) → A.stands answerer.old m → (part taken : List ℕ) → pending.now ≡ kept part → O.told out.old ≡ Some taken
-        → WrotePrefix (replies A.machine m (last_line part)) taken (O.told out.new) }
+    ensures written { OnOk result (WritesReplies A.machine (A.stands answerer.old) pending.now
+        last_line (O.told out.old) (O.told out.new)) }
+    ensures prefix { IsErrOf result Stop.Sink →
+        WritesPrefixOfReplies A.machine (A.stands answerer.old) pending.now
+        last_line (O.told out.old) (O.told out.new) }
     ensures failed { IsErrOf result Stop.Sink → Rose (O.faults out.old) (O.faults out.new) }
-    ensures lines { IsErrOf result Stop.Memory → (m : A.State) → A.stands answerer.old m → (part taken : List ℕ) → pending.now ≡ kept part → O.told out.old ≡ Some taken
-        → WroteLines A.machine m (last_line part) taken (O.told out.new) }
+    ensures lines { IsErrOf result Stop.Memory →
+        WritesWholeReplies A.machine (A.stands answerer.old) pending.now
+        last_line (O.told out.old) (O.told out.new) }
     ensures causes { IfErr result (λ e. (e ≡ Stop.Sink) ⊎ (e ≡ Stop.Memory)) }
     ensures never_falls { O.faults out.old ≤ O.faults out.new }
 {
@@ -197,20 +214,26 @@ pub fn answer_script<A: Answerer, I: Source, O: Sink, L: Ledger>(
     steps: &mut Steps<L>,
 ) -> Result<(), Stop>
     requires lasts { A.lasts answerer.old (2 ^ 40) }
-    ensures ended { OnOk result ((text : List ℕ) → I.told script.old ≡ Some text → ReadToEnd text (I.told script.new)) }
-    ensures answered { OnOk result ((m : A.State) → A.stands answerer.old m → (text taken : List ℕ) → I.told script.old ≡ Some text → O.told out.old ≡ Some taken
-        → O.told out.new ≡ Some (taken ++ replies A.machine m (all_lines text))) }
-    ensures script_failed { IsErrOf result Stop.Script → Rose (I.faults script.old) (I.faults script.new) }
-    ensures script_lines { IsErrOf result Stop.Script → (m : A.State) → A.stands answerer.old m → (text taken : List ℕ) → I.told script.old ≡ Some text → O.told out.old ≡ Some taken
-        → AnsweredRead A.machine m text taken (I.told script.new) (O.told out.new) }
+    ensures ended { OnOk result (ReadsToEnd (I.told script.old) (I.told script.new)) }
+    ensures answered { OnOk result (AnswersAll A.machine (A.stands answerer.old)
+        (I.told script.old) (O.told out.old) (O.told out.new)) }
+    ensures script_failed { IsErrOf result Stop.Script →
+        Rose (I.faults script.old) (I.faults script.new) }
+    ensures script_lines { IsErrOf result Stop.Script →
+        AnswersRead A.machine (A.stands answerer.old)
+        (I.told script.old) (I.told script.new) (O.told out.old) (O.told out.new) }
     ensures sink_failed { IsErrOf result Stop.Sink → Rose (O.faults out.old) (O.faults out.new) }
-    ensures sink_prefix { IsErrOf result Stop.Sink → (m : A.State) → A.stands answerer.old m → (text taken : List ℕ) → I.told script.old ≡ Some text → O.told out.old ≡ Some taken
-        → WrotePrefix (replies A.machine m (all_lines text)) taken (O.told out.new) }
-    ensures memory_lines { IsErrOf result Stop.Memory → (m : A.State) → A.stands answerer.old m → (text taken : List ℕ) → I.told script.old ≡ Some text → O.told out.old ≡ Some taken
-        → WroteLines A.machine m (all_lines text) taken (O.told out.new) }
-    ensures long { IsErrOf result Stop.Long → (text : List ℕ) → I.told script.old ≡ Some text → ReadBytes (2 ^ 40) text (I.told script.new) }
-    ensures long_lines { IsErrOf result Stop.Long → (m : A.State) → A.stands answerer.old m → (text taken : List ℕ) → I.told script.old ≡ Some text → O.told out.old ≡ Some taken
-        → AnsweredRead A.machine m text taken (I.told script.new) (O.told out.new) }
+    ensures sink_prefix { IsErrOf result Stop.Sink →
+        AnswersPrefix A.machine (A.stands answerer.old)
+        (I.told script.old) (O.told out.old) (O.told out.new) }
+    ensures memory_lines { IsErrOf result Stop.Memory →
+        AnswersFirst A.machine (A.stands answerer.old)
+        (I.told script.old) (O.told out.old) (O.told out.new) }
+    ensures long { IsErrOf result Stop.Long →
+        ReadsBytes (2 ^ 40) (I.told script.old) (I.told script.new) }
+    ensures long_lines { IsErrOf result Stop.Long →
+        AnswersRead A.machine (A.stands answerer.old)
+        (I.told script.old) (I.told script.new) (O.told out.old) (O.told out.new) }
     ensures script_never_falls { I.faults script.old ≤ I.faults script.new }
     ensures sink_never_falls { O.faults out.old ≤ O.faults out.new }
 {

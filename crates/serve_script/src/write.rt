@@ -1,7 +1,7 @@
 //! Writing a piece whole.
-ghost use Rattle.std.specs.Prelude.{◌≡◌, ◌≤◌, ◌++◌, List, ℕ, Some, OnOk, OnErr};
+ghost use Rattle.std.specs.Prelude.{◌≤◌, OnOk, OnErr};
 ghost use Rattle.io_edge.specs.Outside.{Rose};
-ghost use Rattle.serve_script.specs.Replies.{WrotePrefix};
+ghost use Rattle.serve_script.specs.Answering.{Writes, WritesPrefix};
 
 use io_edge::{Failed, Sink};
 
@@ -9,8 +9,8 @@ use io_edge::{Failed, Sink};
 ///
 /// Fails only where a call failed or took nothing; then a prefix of the piece is written.
 pub fn write_all<O: Sink>(out: &mut O, piece: &[u8]) -> Result<(), Failed>
-    ensures written { OnOk result ((taken : List ℕ) → O.told out.old ≡ Some taken → O.told out.new ≡ Some (taken ++ piece.now)) }
-    ensures prefix { OnErr result ((taken : List ℕ) → O.told out.old ≡ Some taken → WrotePrefix piece.now taken (O.told out.new)) }
+    ensures written { OnOk result (Writes piece.now (O.told out.old) (O.told out.new)) }
+    ensures prefix { OnErr result (WritesPrefix piece.now (O.told out.old) (O.told out.new)) }
     ensures failed { OnErr result (Rose (O.faults out.old) (O.faults out.new)) }
     ensures never_falls { O.faults out.old ≤ O.faults out.new }
 {

@@ -1,5 +1,5 @@
 -- What is written for a line, and which machine stands after it.
-use Rattle.std.specs.Prelude.{◌≡◌, ◌⊎◌, ℕ, List, [], Option, Some, None, Result, Ok, Err, IfOk}
+use Rattle.std.specs.Prelude.{◌≡◌, ◌⊎◌, ℕ, List, [], Option, Some, None, Result, Ok, Err, IfErr, IfOk}
 use Rattle.imp_syntax.specs.declared.edit.Location.{Location}
 use Rattle.imp_check.specs.Slots.{routines_of}
 use Rattle.domain_laws.specs.Operations.{Operations}
@@ -8,6 +8,7 @@ use Rattle.cell_names.specs.Paths.{CellName}
 use Rattle.daig_machine.specs.Machine.{Machine, Ticket, ticket_of}
 use Rattle.daig_machine.specs.Turns.{IsBetween, missing_at, missing_for_report}
 use Rattle.daig_query.specs.Answered.{Says}
+use Rattle.daig_session.specs.Sessions.{StandsFor}
 use Rattle.daig_session.specs.declared.error.AskError.{AskError}
 use Rattle.daig_session.specs.declared.error.AskError.TheVariants as ask
 use Rattle.daig_session.specs.declared.error.QueryError.{QueryError}
@@ -16,6 +17,7 @@ use Rattle.daig_session.specs.declared.error.StepError.{StepError}
 use Rattle.daig_session.specs.declared.error.StepError.TheVariants as step
 use Rattle.daig_session.specs.declared.error.UndoError.{UndoError}
 use Rattle.daig_session.specs.declared.error.UndoError.TheVariants as undo
+use Rattle.daig_session.specs.declared.session.Session.{Session}
 use Rattle.daig_session.specs.declared.stepping.StepResult as stepping
 use Rattle.daig_session.specs.declared.stepping.StepResult.TheVariants.{Pending, Done}
 use Rattle.request_json.specs.declared.error.ReadError.{ReadError}
@@ -120,3 +122,29 @@ edit_asked readings next request = Err refusal.NoRequest
 abbrev pub Makes : Result Edit Refusal → Result Edit TextError → Type 0
 Makes e (Ok edit) = e ≡ Ok edit
 Makes e (Err error) = IsTextError e error
+
+-- What a call makes of a session, from each machine that it stood for: what it is given by is of the domain's operations and
+-- of the machine. A line is the result, if there is memory.
+module _ {D S : Type 0} (operations : D → Operations S) (old new : Session D S) where
+  -- The line is the reply of the turn, and the session then stands for the machine after it.
+  abbrev pub TakesTurn : {V E : Type 0} → (Operations S → Machine → Outcome) → Result V E → (items : V → List ℕ) → Type 0
+  TakesTurn turn line items = (m : Machine) → StandsFor operations old m →
+      IfOk line (λ v. Follows (turn (operations old.engine.domain) m) (StandsFor operations new) (items v))
+
+  -- When memory runs out some of the missing names are kept, the first ones; or the reply alone is not written.
+  abbrev pub FillsOrTurns : {V E : Type 0} → (missing : Operations S → Machine → List CellName) → (Operations S → Machine → Outcome) → Result V E → Type 0
+  FillsOrTurns missing turn line = (m : Machine) → StandsFor operations old m →
+      IfErr line (λ _. IsHalted (missing (operations old.engine.domain) m) (turn (operations old.engine.domain) m) m (StandsFor operations new))
+
+  -- The same, where the request is one that fills names.
+  abbrev pub FillsWhereAsked : {V E : Type 0} → Result Request ReadError → (Operations S → Machine → Outcome) → Result V E → Type 0
+  FillsWhereAsked request turn line = (m : Machine) → Fills request → StandsFor operations old m →
+      IfErr line (λ _. IsHalted (missing_of (operations old.engine.domain) request m) (turn (operations old.engine.domain) m) m (StandsFor operations new))
+
+  -- When memory runs out the session stands for the machine as before; and so it does where the request fills no names.
+  abbrev pub StaysOnErr : {V E : Type 0} → Result V E → Type 0
+  StaysOnErr line = (m : Machine) → StandsFor operations old m → IfErr line (λ _. StandsFor operations new m)
+
+  abbrev pub StaysUnlessFilled : {V E : Type 0} → Result Request ReadError → Result V E → Type 0
+  StaysUnlessFilled request line = (m : Machine) → StandsFor operations old m → (Fills request → ⊥) →
+      IfErr line (λ _. StandsFor operations new m)

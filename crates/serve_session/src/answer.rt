@@ -1,13 +1,12 @@
 //! The answer to a line.
-ghost use Rattle.std.specs.Prelude.{◌≡◌, ◌+◌, ◌≤◌, ◌<◌, ◌^◌, Ok, IfOk, IfErr};
-ghost use Rattle.daig_machine.specs.Machine.{Machine};
-ghost use Rattle.daig_session.specs.Holds.{Holds, IsReady};
+ghost use Rattle.std.specs.Prelude.{◌≡◌, ◌+◌, ◌≤◌, ◌<◌, ◌^◌, Ok, IfOk};
+ghost use Rattle.daig_session.specs.Sessions.{IsReadyBy};
 ghost use Rattle.request_json.specs.Replies.{reply_text};
 ghost use Rattle.request_json.specs.Requests.{request_of};
 ghost use Rattle.serve_replies.specs.Refusals.{line_refusal};
 ghost use Rattle.serve_answers.specs.Readings.{Readings};
 ghost use Rattle.serve_answers.specs.Lines.{line_turn, request_turn};
-ghost use Rattle.serve_session.specs.Followed.{missing_of, Fills, Follows, IsHalted};
+ghost use Rattle.serve_session.specs.Followed.{FillsWhereAsked, StaysUnlessFilled, TakesTurn};
 
 use crate::edits::edit_request;
 use crate::questions::{report_line, state_line, why_line};
@@ -29,17 +28,18 @@ fn request_line<D: Domain, L: Ledger>(
     request: Request,
     steps: &mut Steps<L>,
 ) -> Result<Vec<u8>, Memory>
-    requires ready { IsReady (D.operations session.old.engine.domain) session.old.engine.store session.old.book }
+    requires ready { IsReadyBy D.operations session.old }
     requires room { session.old.book.tickets.next < 2 ^ 63 }
-    ensures ready { IsReady (D.operations session.new.engine.domain) session.new.engine.store session.new.book }
+    ensures ready { IsReadyBy D.operations session.new }
     ensures domain { session.new.engine.domain ≡ session.old.engine.domain }
     ensures rises { session.new.book.tickets.next ≤ session.old.book.tickets.next + 1 }
-    ensures turn { (readings : Readings) (m : Machine) → Holds (D.operations session.old.engine.domain) session.old.engine.store session.old.book m →
-        IfOk result (λ v. Follows (request_turn readings (D.operations session.old.engine.domain) request m) (Holds (D.operations session.new.engine.domain) session.new.engine.store session.new.book) v.items) }
-    ensures between { (readings : Readings) (m : Machine) → Fills (Ok request) → Holds (D.operations session.old.engine.domain) session.old.engine.store session.old.book m →
-        IfErr result (λ _. IsHalted (missing_of (D.operations session.old.engine.domain) (Ok request) m) (request_turn readings (D.operations session.old.engine.domain) request m) m (Holds (D.operations session.new.engine.domain) session.new.engine.store session.new.book)) }
-    ensures unchanged { (m : Machine) → Holds (D.operations session.old.engine.domain) session.old.engine.store session.old.book m → (Fills (Ok request) → ⊥) →
-        IfErr result (λ _. Holds (D.operations session.new.engine.domain) session.new.engine.store session.new.book m) }
+    ensures turn { (readings : Readings) →
+        TakesTurn D.operations session.old session.new
+        (λ dom. request_turn readings dom request) result (λ v. v.items) }
+    ensures between { (readings : Readings) →
+        FillsWhereAsked D.operations session.old session.new
+        (Ok request) (λ dom. request_turn readings dom request) result }
+    ensures unchanged { StaysUnlessFilled D.operations session.old session.new (Ok request) result }
 {
     match request {
         Request::State(query) => state_line(alloc, session, &query, steps),
@@ -83,17 +83,19 @@ pub fn answer_line<D: Domain, L: Ledger>(
     line: &[u8],
     steps: &mut Steps<L>,
 ) -> Result<Vec<u8>, Memory>
-    requires ready { IsReady (D.operations session.old.engine.domain) session.old.engine.store session.old.book }
+    requires ready { IsReadyBy D.operations session.old }
     requires room { session.old.book.tickets.next < 2 ^ 63 }
-    ensures ready { IsReady (D.operations session.new.engine.domain) session.new.engine.store session.new.book }
+    ensures ready { IsReadyBy D.operations session.new }
     ensures domain { session.new.engine.domain ≡ session.old.engine.domain }
     ensures rises { session.new.book.tickets.next ≤ session.old.book.tickets.next + 1 }
-    ensures turn { (readings : Readings) (m : Machine) → Holds (D.operations session.old.engine.domain) session.old.engine.store session.old.book m →
-        IfOk result (λ v. Follows (line_turn readings (D.operations session.old.engine.domain) line.now m) (Holds (D.operations session.new.engine.domain) session.new.engine.store session.new.book) v.items) }
-    ensures between { (readings : Readings) (m : Machine) → Fills (request_of line.now) → Holds (D.operations session.old.engine.domain) session.old.engine.store session.old.book m →
-        IfErr result (λ _. IsHalted (missing_of (D.operations session.old.engine.domain) (request_of line.now) m) (line_turn readings (D.operations session.old.engine.domain) line.now m) m (Holds (D.operations session.new.engine.domain) session.new.engine.store session.new.book)) }
-    ensures unchanged { (m : Machine) → Holds (D.operations session.old.engine.domain) session.old.engine.store session.old.book m → (Fills (request_of line.now) → ⊥) →
-        IfErr result (λ _. Holds (D.operations session.new.engine.domain) session.new.engine.store session.new.book m) }
+    ensures turn { (readings : Readings) →
+        TakesTurn D.operations session.old session.new
+        (λ dom. line_turn readings dom line.now) result (λ v. v.items) }
+    ensures between { (readings : Readings) →
+        FillsWhereAsked D.operations session.old session.new
+        (request_of line.now) (λ dom. line_turn readings dom line.now) result }
+    ensures unchanged { StaysUnlessFilled D.operations session.old session.new
+        (request_of line.now) result }
 {
     match read_request(alloc, line) {
         Ok(request) => request_line(alloc, session, request, steps),

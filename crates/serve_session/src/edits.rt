@@ -1,14 +1,15 @@
 //! Edits. An edit is worked out and its reply made before the session is changed.
-ghost use Rattle.std.specs.Prelude.{◌≡◌, ◌+◌, ◌≤◌, IfOk, IfErr, Ok};
+ghost use Rattle.std.specs.Prelude.{◌≡◌, ◌+◌, ◌≤◌, IfOk, Ok};
 ghost use Rattle.imp_edit.specs.Edited.{Continues};
 ghost use Rattle.request_json.specs.Replies.{reply_text};
 ghost use Rattle.daig_machine.specs.Machine.{Machine};
-ghost use Rattle.daig_session.specs.Holds.{Holds, IsReady};
+ghost use Rattle.daig_session.specs.Sessions.{IsReadyBy, StandsFor};
 ghost use Rattle.serve_answers.specs.Refusals.{refusal_of};
 ghost use Rattle.serve_answers.specs.Turns.{edit_turn};
 ghost use Rattle.serve_answers.specs.Lines.{request_turn};
 ghost use Rattle.serve_answers.specs.Readings.{Readings};
 ghost use Rattle.serve_session.specs.Followed.{edit_asked, Edits, Follows, Makes};
+ghost use Rattle.serve_session.specs.Followed.{StaysOnErr, TakesTurn};
 
 use crate::written::{line_of, refused};
 use base_values::Memory;
@@ -32,8 +33,9 @@ fn refusal_line<D: Domain>(
     edit: &Edit,
     error: EditError,
 ) -> Result<Vec<u8>, Memory>
-    ensures line { (m : Machine) → Holds (D.operations session.now.engine.domain) session.now.engine.store session.now.book m →
-        IfOk result (λ v. v.items ≡ reply_text (Reply.Refused (refusal_of m.program edit.now error))) }
+    ensures line { (m : Machine) → StandsFor D.operations session.now m →
+        IfOk result (λ v.
+        v.items ≡ reply_text (Reply.Refused (refusal_of m.program edit.now error))) }
     ensures no_memory { IfOk result (λ _. error ≡ EditError.Memory → ⊥) }
 {
     let why = refusal_of(alloc, session.program(), edit, error)?;
@@ -46,15 +48,14 @@ pub(crate) fn edit_line<D: Domain>(
     session: &mut Session<D>,
     edit: &Edit,
 ) -> Result<Vec<u8>, Memory>
-    requires ready { IsReady (D.operations session.old.engine.domain) session.old.engine.store session.old.book }
+    requires ready { IsReadyBy D.operations session.old }
     requires continues { Continues edit.now session.old.book.next }
-    ensures ready { IsReady (D.operations session.new.engine.domain) session.new.engine.store session.new.book }
+    ensures ready { IsReadyBy D.operations session.new }
     ensures domain { session.new.engine.domain ≡ session.old.engine.domain }
     ensures rises { session.new.book.tickets.next ≤ session.old.book.tickets.next + 1 }
-    ensures turn { (m : Machine) → Holds (D.operations session.old.engine.domain) session.old.engine.store session.old.book m →
-        IfOk result (λ v. Follows (edit_turn (D.operations session.old.engine.domain) (Ok edit.now) m) (Holds (D.operations session.new.engine.domain) session.new.engine.store session.new.book) v.items) }
-    ensures unchanged { (m : Machine) → Holds (D.operations session.old.engine.domain) session.old.engine.store session.old.book m →
-        IfErr result (λ _. Holds (D.operations session.new.engine.domain) session.new.engine.store session.new.book m) }
+    ensures turn { TakesTurn D.operations session.old session.new
+        (λ dom. edit_turn dom (Ok edit.now)) result (λ v. v.items) }
+    ensures unchanged { StaysOnErr D.operations session.old session.new result }
 {
     match session.prepare(alloc, edit) {
         Ok(prepared) => {
@@ -100,14 +101,15 @@ pub(crate) fn edit_request<D: Domain>(
     session: &mut Session<D>,
     request: Request,
 ) -> Result<Vec<u8>, Memory>
-    requires ready { IsReady (D.operations session.old.engine.domain) session.old.engine.store session.old.book }
-    ensures ready { IsReady (D.operations session.new.engine.domain) session.new.engine.store session.new.book }
+    requires ready { IsReadyBy D.operations session.old }
+    ensures ready { IsReadyBy D.operations session.new }
     ensures domain { session.new.engine.domain ≡ session.old.engine.domain }
     ensures rises { session.new.book.tickets.next ≤ session.old.book.tickets.next + 1 }
-    ensures turn { (readings : Readings) (m : Machine) → Edits request → Holds (D.operations session.old.engine.domain) session.old.engine.store session.old.book m →
-        IfOk result (λ v. Follows (request_turn readings (D.operations session.old.engine.domain) request m) (Holds (D.operations session.new.engine.domain) session.new.engine.store session.new.book) v.items) }
-    ensures unchanged { (m : Machine) → Holds (D.operations session.old.engine.domain) session.old.engine.store session.old.book m →
-        IfErr result (λ _. Holds (D.operations session.new.engine.domain) session.new.engine.store session.new.book m) }
+    ensures turn { (readings : Readings) (m : Machine) → Edits request →
+        StandsFor D.operations session.old m → IfOk result (λ v. Follows
+        (request_turn readings (D.operations session.old.engine.domain) request m)
+        (StandsFor D.operations session.new) v.items) }
+    ensures unchanged { StaysOnErr D.operations session.old session.new result }
 {
     let next = session.next();
     match edit_asked(alloc, request, next) {

@@ -1,15 +1,15 @@
 //! Questions, and steps of tickets.
-ghost use Rattle.std.specs.Prelude.{◌≡◌, ◌+◌, ◌≤◌, IfOk, IfErr, Some};
+ghost use Rattle.std.specs.Prelude.{◌≡◌, ◌+◌, ◌≤◌, IfOk, Some};
 ghost use Rattle.batch_meaning.specs.Answers.{Answer};
 ghost use Rattle.daig_query.specs.Answered.{Says};
 ghost use Rattle.daig_machine.specs.Machine.{Machine};
 ghost use Rattle.daig_machine.specs.Turns.{missing_at, missing_for_report};
-ghost use Rattle.daig_session.specs.Holds.{Holds, IsReady};
+ghost use Rattle.daig_session.specs.Sessions.{IsReadyBy, StandsFor};
 ghost use Rattle.request_json.specs.Replies.{reply_text};
 ghost use Rattle.serve_replies.specs.States.{answer_reply, layout_at};
 ghost use Rattle.imp_check.specs.Slots.{routines_of};
 ghost use Rattle.serve_answers.specs.Turns.{report_turn, state_turn, why_turn};
-ghost use Rattle.serve_session.specs.Followed.{query_refusal, Follows, IsHalted};
+ghost use Rattle.serve_session.specs.Followed.{query_refusal, FillsOrTurns, TakesTurn};
 
 use crate::written::{line_of, refused_if};
 use base_values::Memory;
@@ -29,8 +29,10 @@ pub(crate) fn value_line<D: Domain>(
     at: &Location,
     value: &Value<D::State>,
 ) -> Result<Vec<u8>, Memory>
-    ensures line { (m : Machine) (a : Answer D.State) → Holds (D.operations session.now.engine.domain) session.now.engine.store session.now.book m → Says a (Some value.now) →
-        IfOk result (λ v. v.items ≡ reply_text (answer_reply (D.operations session.now.engine.domain) (layout_at (routines_of m.program) at.now) a)) }
+    ensures line { (m : Machine) (a : Answer D.State) →
+        StandsFor D.operations session.now m → Says a (Some value.now) → IfOk result (λ v.
+        v.items ≡ reply_text (answer_reply (D.operations session.now.engine.domain)
+        (layout_at (routines_of m.program) at.now) a)) }
 {
     let reply = match value {
         Value::State(state) => state_reply(
@@ -62,14 +64,15 @@ pub(crate) fn state_line<D: Domain, L: Ledger>(
     query: &Query,
     steps: &mut Steps<L>,
 ) -> Result<Vec<u8>, Memory>
-    requires ready { IsReady (D.operations session.old.engine.domain) session.old.engine.store session.old.book }
-    ensures ready { IsReady (D.operations session.new.engine.domain) session.new.engine.store session.new.book }
+    requires ready { IsReadyBy D.operations session.old }
+    ensures ready { IsReadyBy D.operations session.new }
     ensures domain { session.new.engine.domain ≡ session.old.engine.domain }
     ensures rises { session.new.book.tickets.next ≤ session.old.book.tickets.next + 1 }
-    ensures turn { (m : Machine) → Holds (D.operations session.old.engine.domain) session.old.engine.store session.old.book m →
-        IfOk result (λ v. Follows (state_turn (D.operations session.old.engine.domain) query.now m) (Holds (D.operations session.new.engine.domain) session.new.engine.store session.new.book) v.items) }
-    ensures between { (m : Machine) → Holds (D.operations session.old.engine.domain) session.old.engine.store session.old.book m →
-        IfErr result (λ _. IsHalted (missing_at (D.operations session.old.engine.domain) query.now.at query.now.string m) (state_turn (D.operations session.old.engine.domain) query.now m) m (Holds (D.operations session.new.engine.domain) session.new.engine.store session.new.book)) }
+    ensures turn { TakesTurn D.operations session.old session.new
+        (λ dom. state_turn dom query.now) result (λ v. v.items) }
+    ensures between { FillsOrTurns D.operations session.old session.new
+        (λ dom. missing_at dom query.now.at query.now.string)
+        (λ dom. state_turn dom query.now) result }
 {
     let string = numbers_of(alloc, &query.string)?;
     match session.query(alloc, &query.at, string.as_slice(), steps) {
@@ -85,14 +88,15 @@ pub(crate) fn why_line<D: Domain, L: Ledger>(
     query: &Query,
     steps: &mut Steps<L>,
 ) -> Result<Vec<u8>, Memory>
-    requires ready { IsReady (D.operations session.old.engine.domain) session.old.engine.store session.old.book }
-    ensures ready { IsReady (D.operations session.new.engine.domain) session.new.engine.store session.new.book }
+    requires ready { IsReadyBy D.operations session.old }
+    ensures ready { IsReadyBy D.operations session.new }
     ensures domain { session.new.engine.domain ≡ session.old.engine.domain }
     ensures rises { session.new.book.tickets.next ≤ session.old.book.tickets.next + 1 }
-    ensures turn { (m : Machine) → Holds (D.operations session.old.engine.domain) session.old.engine.store session.old.book m →
-        IfOk result (λ v. Follows (why_turn (D.operations session.old.engine.domain) query.now m) (Holds (D.operations session.new.engine.domain) session.new.engine.store session.new.book) v.items) }
-    ensures between { (m : Machine) → Holds (D.operations session.old.engine.domain) session.old.engine.store session.old.book m →
-        IfErr result (λ _. IsHalted (missing_at (D.operations session.old.engine.domain) query.now.at query.now.string m) (why_turn (D.operations session.old.engine.domain) query.now m) m (Holds (D.operations session.new.engine.domain) session.new.engine.store session.new.book)) }
+    ensures turn { TakesTurn D.operations session.old session.new
+        (λ dom. why_turn dom query.now) result (λ v. v.items) }
+    ensures between { FillsOrTurns D.operations session.old session.new
+        (λ dom. missing_at dom query.now.at query.now.string)
+        (λ dom. why_turn dom query.now) result }
 {
     let string = numbers_of(alloc, &query.string)?;
     match session.why(alloc, &query.at, string.as_slice(), steps) {
@@ -107,14 +111,14 @@ pub(crate) fn report_line<D: Domain, L: Ledger>(
     session: &mut Session<D>,
     steps: &mut Steps<L>,
 ) -> Result<Vec<u8>, Memory>
-    requires ready { IsReady (D.operations session.old.engine.domain) session.old.engine.store session.old.book }
-    ensures ready { IsReady (D.operations session.new.engine.domain) session.new.engine.store session.new.book }
+    requires ready { IsReadyBy D.operations session.old }
+    ensures ready { IsReadyBy D.operations session.new }
     ensures domain { session.new.engine.domain ≡ session.old.engine.domain }
     ensures rises { session.new.book.tickets.next ≤ session.old.book.tickets.next + 1 }
-    ensures turn { (m : Machine) → Holds (D.operations session.old.engine.domain) session.old.engine.store session.old.book m →
-        IfOk result (λ v. Follows (report_turn (D.operations session.old.engine.domain) m) (Holds (D.operations session.new.engine.domain) session.new.engine.store session.new.book) v.items) }
-    ensures between { (m : Machine) → Holds (D.operations session.old.engine.domain) session.old.engine.store session.old.book m →
-        IfErr result (λ _. IsHalted (missing_for_report (D.operations session.old.engine.domain) m) (report_turn (D.operations session.old.engine.domain) m) m (Holds (D.operations session.new.engine.domain) session.new.engine.store session.new.book)) }
+    ensures turn { TakesTurn D.operations session.old session.new
+        report_turn result (λ v. v.items) }
+    ensures between { FillsOrTurns D.operations session.old session.new
+        missing_for_report report_turn result }
 {
     let findings = session.report(alloc, steps)?;
     line_of(alloc, Reply::Report(findings))

@@ -1,9 +1,11 @@
 //! Tickets, and going back and forth. Each reply is made before the session is changed.
-ghost use Rattle.std.specs.Prelude.{◌≡◌, ◌+◌, ◌<◌, ◌≤◌, ◌^◌, IfOk, IfErr};
-ghost use Rattle.daig_machine.specs.Machine.{Machine, ticket_of};
-ghost use Rattle.daig_session.specs.Holds.{Holds, IsReady};
+ghost use Rattle.std.specs.Prelude.{◌≡◌, ◌+◌, ◌<◌, ◌≤◌, ◌^◌, IfOk};
+ghost use Rattle.daig_machine.specs.Machine.{ticket_of};
+ghost use Rattle.daig_session.specs.Sessions.{IsReadyBy, StandsFor};
 ghost use Rattle.serve_answers.specs.Turns.{ask_turn, cancel_turn, redo_turn, step_turn, undo_turn};
-ghost use Rattle.serve_session.specs.Followed.{ask_refusal, missing_for_ticket, move_refusal, step_refusal, Follows, IsHalted, TellsTurn};
+ghost use Rattle.serve_session.specs.Followed.{FillsOrTurns, StaysOnErr, TakesTurn, TellsTurn};
+ghost use Rattle.serve_session.specs.Followed.{ask_refusal, missing_for_ticket};
+ghost use Rattle.serve_session.specs.Followed.{move_refusal, step_refusal};
 
 use crate::questions::value_line;
 use crate::written::{line_of, refused, refused_if};
@@ -54,15 +56,14 @@ pub(crate) fn ask_line<D: Domain>(
     session: &mut Session<D>,
     query: Query,
 ) -> Result<Vec<u8>, Memory>
-    requires ready { IsReady (D.operations session.old.engine.domain) session.old.engine.store session.old.book }
+    requires ready { IsReadyBy D.operations session.old }
     requires room { session.old.book.tickets.next < 2 ^ 63 }
-    ensures ready { IsReady (D.operations session.new.engine.domain) session.new.engine.store session.new.book }
+    ensures ready { IsReadyBy D.operations session.new }
     ensures domain { session.new.engine.domain ≡ session.old.engine.domain }
     ensures rises { session.new.book.tickets.next ≤ session.old.book.tickets.next + 1 }
-    ensures turn { (m : Machine) → Holds (D.operations session.old.engine.domain) session.old.engine.store session.old.book m →
-        IfOk result (λ v. Follows (ask_turn (D.operations session.old.engine.domain) query m) (Holds (D.operations session.new.engine.domain) session.new.engine.store session.new.book) v.items) }
-    ensures unchanged { (m : Machine) → Holds (D.operations session.old.engine.domain) session.old.engine.store session.old.book m →
-        IfErr result (λ _. Holds (D.operations session.new.engine.domain) session.new.engine.store session.new.book m) }
+    ensures turn { TakesTurn D.operations session.old session.new
+        (λ dom. ask_turn dom query) result (λ v. v.items) }
+    ensures unchanged { StaysOnErr D.operations session.old session.new result }
 {
     let line = line_of(alloc, Reply::Ticket(session.next_ticket()))?;
     let Query { at, string } = query;
@@ -92,7 +93,8 @@ fn turn_line<D: Domain>(
     at: &Location,
     turn: StepResult<D::State>,
 ) -> Result<Vec<u8>, Memory>
-    ensures tells { TellsTurn result (λ v. v.items) (D.operations session.now.engine.domain) (Holds (D.operations session.now.engine.domain) session.now.engine.store session.now.book) at.now turn }
+    ensures tells { TellsTurn result (λ v. v.items) (D.operations session.now.engine.domain)
+        (StandsFor D.operations session.now) at.now turn }
 {
     match turn {
         StepResult::Pending(filled) => line_of(alloc, Reply::Pending(filled as u64)),
@@ -108,14 +110,15 @@ pub(crate) fn step_line<D: Domain, L: Ledger>(
     n: u32,
     steps: &mut Steps<L>,
 ) -> Result<Vec<u8>, Memory>
-    requires ready { IsReady (D.operations session.old.engine.domain) session.old.engine.store session.old.book }
-    ensures ready { IsReady (D.operations session.new.engine.domain) session.new.engine.store session.new.book }
+    requires ready { IsReadyBy D.operations session.old }
+    ensures ready { IsReadyBy D.operations session.new }
     ensures domain { session.new.engine.domain ≡ session.old.engine.domain }
     ensures rises { session.new.book.tickets.next ≤ session.old.book.tickets.next + 1 }
-    ensures turn { (m : Machine) → Holds (D.operations session.old.engine.domain) session.old.engine.store session.old.book m →
-        IfOk result (λ v. Follows (step_turn (D.operations session.old.engine.domain) ticket n m) (Holds (D.operations session.new.engine.domain) session.new.engine.store session.new.book) v.items) }
-    ensures between { (m : Machine) → Holds (D.operations session.old.engine.domain) session.old.engine.store session.old.book m →
-        IfErr result (λ _. IsHalted (missing_for_ticket (D.operations session.old.engine.domain) (ticket_of ticket m.tickets) m) (step_turn (D.operations session.old.engine.domain) ticket n m) m (Holds (D.operations session.new.engine.domain) session.new.engine.store session.new.book)) }
+    ensures turn { TakesTurn D.operations session.old session.new
+        (λ dom. step_turn dom ticket n) result (λ v. v.items) }
+    ensures between { FillsOrTurns D.operations session.old session.new
+        (λ dom m. missing_for_ticket dom (ticket_of ticket m.tickets) m)
+        (λ dom. step_turn dom ticket n) result }
 {
     let Some(at) = session.ticket_at(ticket) else {
         return refused(alloc, Refusal::NoTicket);
@@ -133,14 +136,13 @@ pub(crate) fn cancel_line<D: Domain>(
     session: &mut Session<D>,
     ticket: u64,
 ) -> Result<Vec<u8>, Memory>
-    requires ready { IsReady (D.operations session.old.engine.domain) session.old.engine.store session.old.book }
-    ensures ready { IsReady (D.operations session.new.engine.domain) session.new.engine.store session.new.book }
+    requires ready { IsReadyBy D.operations session.old }
+    ensures ready { IsReadyBy D.operations session.new }
     ensures domain { session.new.engine.domain ≡ session.old.engine.domain }
     ensures rises { session.new.book.tickets.next ≤ session.old.book.tickets.next + 1 }
-    ensures turn { (m : Machine) → Holds (D.operations session.old.engine.domain) session.old.engine.store session.old.book m →
-        IfOk result (λ v. Follows (cancel_turn ticket m) (Holds (D.operations session.new.engine.domain) session.new.engine.store session.new.book) v.items) }
-    ensures unchanged { (m : Machine) → Holds (D.operations session.old.engine.domain) session.old.engine.store session.old.book m →
-        IfErr result (λ _. Holds (D.operations session.new.engine.domain) session.new.engine.store session.new.book m) }
+    ensures turn { TakesTurn D.operations session.old session.new
+        (λ _. cancel_turn ticket) result (λ v. v.items) }
+    ensures unchanged { StaysOnErr D.operations session.old session.new result }
 {
     let line = line_of(alloc, Reply::Cancelled(ticket))?;
     match session.cancel(ticket) {
@@ -154,14 +156,13 @@ pub(crate) fn undo_line<D: Domain>(
     alloc: Global,
     session: &mut Session<D>,
 ) -> Result<Vec<u8>, Memory>
-    requires ready { IsReady (D.operations session.old.engine.domain) session.old.engine.store session.old.book }
-    ensures ready { IsReady (D.operations session.new.engine.domain) session.new.engine.store session.new.book }
+    requires ready { IsReadyBy D.operations session.old }
+    ensures ready { IsReadyBy D.operations session.new }
     ensures domain { session.new.engine.domain ≡ session.old.engine.domain }
     ensures rises { session.new.book.tickets.next ≤ session.old.book.tickets.next + 1 }
-    ensures turn { (m : Machine) → Holds (D.operations session.old.engine.domain) session.old.engine.store session.old.book m →
-        IfOk result (λ v. Follows (undo_turn (D.operations session.old.engine.domain) m) (Holds (D.operations session.new.engine.domain) session.new.engine.store session.new.book) v.items) }
-    ensures unchanged { (m : Machine) → Holds (D.operations session.old.engine.domain) session.old.engine.store session.old.book m →
-        IfErr result (λ _. Holds (D.operations session.new.engine.domain) session.new.engine.store session.new.book m) }
+    ensures turn { TakesTurn D.operations session.old session.new
+        undo_turn result (λ v. v.items) }
+    ensures unchanged { StaysOnErr D.operations session.old session.new result }
 {
     let line = line_of(alloc, Reply::Next(session.next()))?;
     match session.undo(alloc) {
@@ -175,14 +176,13 @@ pub(crate) fn redo_line<D: Domain>(
     alloc: Global,
     session: &mut Session<D>,
 ) -> Result<Vec<u8>, Memory>
-    requires ready { IsReady (D.operations session.old.engine.domain) session.old.engine.store session.old.book }
-    ensures ready { IsReady (D.operations session.new.engine.domain) session.new.engine.store session.new.book }
+    requires ready { IsReadyBy D.operations session.old }
+    ensures ready { IsReadyBy D.operations session.new }
     ensures domain { session.new.engine.domain ≡ session.old.engine.domain }
     ensures rises { session.new.book.tickets.next ≤ session.old.book.tickets.next + 1 }
-    ensures turn { (m : Machine) → Holds (D.operations session.old.engine.domain) session.old.engine.store session.old.book m →
-        IfOk result (λ v. Follows (redo_turn (D.operations session.old.engine.domain) m) (Holds (D.operations session.new.engine.domain) session.new.engine.store session.new.book) v.items) }
-    ensures unchanged { (m : Machine) → Holds (D.operations session.old.engine.domain) session.old.engine.store session.old.book m →
-        IfErr result (λ _. Holds (D.operations session.new.engine.domain) session.new.engine.store session.new.book m) }
+    ensures turn { TakesTurn D.operations session.old session.new
+        redo_turn result (λ v. v.items) }
+    ensures unchanged { StaysOnErr D.operations session.old session.new result }
 {
     let line = line_of(alloc, Reply::Next(session.next()))?;
     match session.redo(alloc) {

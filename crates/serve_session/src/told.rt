@@ -2,7 +2,7 @@
 ghost use Rattle.std.specs.Prelude.{◌≡◌, IfOk};
 ghost use Rattle.std.specs.Option.{option_copied};
 ghost use Rattle.daig_machine.specs.Machine.{Machine};
-ghost use Rattle.daig_session.specs.Holds.{Holds, IsReady};
+ghost use Rattle.daig_session.specs.Sessions.{IsReadyBy, StandsFor};
 ghost use Rattle.request_json.specs.Replies.{reply_text};
 ghost use Rattle.serve_answers.specs.Turns.{cost_turn, listing_turn, program_turn, run_turn};
 
@@ -17,8 +17,8 @@ use std::alloc::Global;
 
 /// How many cells the last question filled, and how many are kept.
 pub(crate) fn cost_line<D: Domain>(alloc: Global, session: &Session<D>) -> Result<Vec<u8>, Memory>
-    requires ready { IsReady (D.operations session.now.engine.domain) session.now.engine.store session.now.book }
-    ensures line { (m : Machine) → Holds (D.operations session.now.engine.domain) session.now.engine.store session.now.book m →
+    requires ready { IsReadyBy D.operations session.now }
+    ensures line { (m : Machine) → StandsFor D.operations session.now m →
         IfOk result (λ v. v.items ≡ reply_text (cost_turn m).reply) }
 {
     let cost = session.cost();
@@ -31,7 +31,7 @@ pub(crate) fn program_line<D: Domain>(
     alloc: Global,
     session: &Session<D>,
 ) -> Result<Vec<u8>, Memory>
-    ensures line { (m : Machine) → Holds (D.operations session.now.engine.domain) session.now.engine.store session.now.book m →
+    ensures line { (m : Machine) → StandsFor D.operations session.now m →
         IfOk result (λ v. v.items ≡ reply_text (program_turn m).reply) }
 {
     let program = session.program().tree(alloc)?;
@@ -44,7 +44,7 @@ pub(crate) fn listing_line<D: Domain>(
     alloc: Global,
     session: &Session<D>,
 ) -> Result<Vec<u8>, Memory>
-    ensures line { (m : Machine) → Holds (D.operations session.now.engine.domain) session.now.engine.store session.now.book m →
+    ensures line { (m : Machine) → StandsFor D.operations session.now m →
         IfOk result (λ v. v.items ≡ reply_text (listing_turn m).reply) }
 {
     let program = session.program().tree(alloc)?;
@@ -60,8 +60,9 @@ pub(crate) fn run_line<D: Domain>(
     fuel: u32,
     at: Option<&Location>,
 ) -> Result<Vec<u8>, Memory>
-    ensures line { (m : Machine) → Holds (D.operations session.now.engine.domain) session.now.engine.store session.now.book m →
-        IfOk result (λ v. v.items ≡ reply_text (run_turn inputs.now fuel (option_copied at.entry) m).reply) }
+    ensures line { (m : Machine) → StandsFor D.operations session.now m →
+        IfOk result (λ v.
+        v.items ≡ reply_text (run_turn inputs.now fuel (option_copied at.entry) m).reply) }
 {
     let table = session.program();
     table.procs();

@@ -1,0 +1,21 @@
+-- What a tally of replies comes to while a server answers the lines of a script.
+use Rattle.std.specs.Prelude.{◌≡◌, ℕ, suc, List}
+use Rattle.gen_summary.specs.declared.tally.ReplyTally.{ReplyTally}
+use Rattle.serve_command.specs.declared.job.DomainName.{DomainName}
+use Rattle.serve_answers.specs.Lines.{Served}
+use Rattle.serve_output.specs.Domains.{meaning_of}
+use Rattle.serve_output.specs.Output.{served_after, tally_output}
+
+-- One line is used up of those that it can answer.
+abbrev pub UsesOne : {A : Type 0} → (lasts : A → ℕ → Type 0) → (old new : A) → Type 0
+UsesOne lasts old new = (n : ℕ) → lasts old (suc n) → lasts new n
+
+-- From each machine that it stood for it goes on to the machine after the lines.
+abbrev pub ServesOn : {A : Type 0} → DomainName → (stands : A → Served → Type 0) → (lines : List (List ℕ)) → (old new : A) → Type 0
+ServesOn name stands lines old new =
+    (s : Served) → stands old s → stands new (served_after (meaning_of name).operations lines s)
+
+-- The replies to the lines, by each machine that it stood for, are added to the tally.
+abbrev pub Tallies : DomainName → (stands : Served → Type 0) → (lines : List (List ℕ)) → (old new : ReplyTally) → Type 0
+Tallies name stands lines old new =
+    (s : Served) → stands s → new ≡ tally_output (meaning_of name).operations lines s old
