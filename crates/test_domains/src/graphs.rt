@@ -91,17 +91,17 @@ const FOLDED: [(Drawing, Drawing); 9] = [
 ];
 
 // The graph, if each target is one of its nodes.
-fn made(alloc: Global, drawing: &Drawing) -> Result<Option<Graph>, Memory> {
+fn made(alloc: Global, drawing: &Drawing) -> Result<Option<ShapeGraph>, Memory> {
     let (slots_of_frames, atoms) = *drawing;
     let mut frames = Vec::new(alloc);
     for slots in slots_of_frames {
         frames.push(Row::from_slots(Vec::from_slice(alloc, slots)?))?;
     }
-    Ok(Graph::try_from_parts(frames, Vec::from_slice(alloc, atoms)?))
+    Ok(ShapeGraph::try_from_parts(frames, Vec::from_slice(alloc, atoms)?))
 }
 
 // The graph, whose targets are nodes.
-fn graph_of(alloc: Global, drawing: &Drawing) -> Result<Graph, Fail> {
+fn graph_of(alloc: Global, drawing: &Drawing) -> Result<ShapeGraph, Fail> {
     match made(alloc, drawing)? {
         Some(graph) => Ok(graph),
         None => Err("a target past the nodes".into()),
