@@ -15,7 +15,7 @@ LONGEST_WAIT = 1 / 4
 
 def test_typing_while_busy() -> None:
     """Types while the first states are computed, then waits for them."""
-    text = slow_source(150)
+    text = slow_source(300)
     line = text.count("\n") - 2
     client = Client({"daig": program(), "domain": "octagon", "compareEvery": 1})
     began = time.perf_counter()

@@ -165,6 +165,6 @@ def test_one_job_and_eight() -> None:
 
 def test_memory() -> None:
     """A server that wants more memory than it may have is told, and the file does not look clean."""
-    with folder(a_imp=slow_source(12)) as here:
+    with folder(a_imp=slow_source(60)) as here:
         found = check("--memory", 16, "--domain", "octagon", "a.imp", where=here)
         assert found.status == 2 and "too little memory" in found.out, found

@@ -295,7 +295,7 @@ def test_changed_configuration() -> None:
 def test_progress_and_cancel() -> None:
     """Long work is told of, and can be given up: then nothing is known, and that is said."""
     client = Client({"daig": program(), "domain": "octagon"}, {"window": {"workDoneProgress": True}})
-    client.open(URI, slow_source(150))
+    client.open(URI, slow_source(600))
     begun: Json = client.wait(lambda it: it.get("method") == "$/progress")["params"]
     assert begun["value"]["kind"] == "begin" and begun["value"]["cancellable"], begun
     more = client.wait(lambda it: it.get("method") == "$/progress" and it["params"]["value"]["kind"] == "report")
@@ -310,7 +310,7 @@ def test_progress_and_cancel() -> None:
 
 def test_partial_diagnostics() -> None:
     """What fails in a run is shown while a long analysis runs, and marked; the whole report takes its place."""
-    text = slow_source(150).replace("  x0 = 0;\n", "  x1 = input;\n  assert x1 < 5;\n  x0 = 0;\n", 1)
+    text = slow_source(300).replace("  x0 = 0;\n", "  x1 = input;\n  assert x1 < 5;\n  x0 = 0;\n", 1)
     client = Client({"daig": program(), "domain": "octagon"})
     client.open(URI, text)
     told = client.published(1, lambda told: len(told) == 2)
