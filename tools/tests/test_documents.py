@@ -29,7 +29,7 @@ def test_the_rows_of_claims_are_read():
     assert (SERVING, "serve", ["complete"], False) in rows and len(rows) > 20, rows
     assert sum(is_law for *_, is_law in rows) > 10
     assert check_documents.law_fault(check_documents.read(SERVING), "serve", True)
-    assert (SERVING, "serve", ["verified"]) in check_documents.clause_links("README.md")
+    assert (SERVING, "serve", ["verified", "certified"]) in check_documents.clause_links("README.md")
 
 
 def test_a_name_that_is_declared_nowhere_is_found():
