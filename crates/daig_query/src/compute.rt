@@ -14,7 +14,7 @@ ghost use Rattle.imp_flow_rows.specs.declared.row.Row.TheVariants.{Fixed};
 
 use crate::held::Held;
 use crate::opening::Open;
-use crate::operations::{apply, operation_of};
+use crate::operations::apply;
 use crate::store::Store;
 use base_values::{Items, Memory};
 use cell_names::{Names, PathId};
@@ -24,7 +24,7 @@ use imp_flow::Flow;
 use imp_flow_rows::{Row, Unary};
 use imp_syntax::{Chain, StmtId};
 use loop_unroll::converged;
-use memo_table::{Key, Operation};
+use memo_table::Key;
 use state_table::StateTable;
 use std::alloc::Global;
 use std::hash::Hash;
@@ -156,22 +156,6 @@ fn operand<S: Eq + Hash + Drop>(states: &StateTable<S>, number: Option<usize>) -
     }
 }
 
-/// The number of a row's operation, owned, among those that were met.
-#[inline]
-fn operation_number(
-    alloc: Global,
-    operations: &mut StateTable<Operation>,
-    row: &Row<'_>,
-) -> Result<usize, Memory>
-    ensures is { IfOk result (λ n. (o : Operation) × IsOperationOf row.now o × (slice_get operations.new n ≡ Some o)) }
-    ensures few { length operations.new ≤ length operations.old + 1 }
-    ensures once { OnOk result (AreOnce ⟦<Operation as PartialEq>⟧.eq operations.new) }
-    ensures kept { KeepsNumbers operations.old operations.new }
-{
-    let operation = operation_of(alloc, row)?;
-    operations.intern(operation)
-}
-
 /// The number of what a row makes of the states that have these numbers, made anew. It ticks.
 #[inline]
 fn make_state<D: Domain, L: Ledger>(
@@ -211,6 +195,7 @@ fn result_of<D: Domain, L: Ledger>(
     flow: &Flow<'_>,
     store: &mut Store<D::State>,
     row: &Row<'_>,
+    owner: u32,
     left: Option<usize>,
     right: Option<usize>,
     steps: &mut Steps<L>,
@@ -225,7 +210,7 @@ fn result_of<D: Domain, L: Ledger>(
     ensures most { steps.new ≤ steps.old + D.counted dom.now }
     ensures remembered { IsRemembered store.old row.now left right → steps.new ≡ steps.old }
 {
-    let operation = operation_number(alloc, &mut store.operations, row)?;
+    let operation = store.operations.number_of(alloc, row, owner)?;
     let key = Key {
         operation,
         left,
@@ -248,6 +233,7 @@ fn applied<D: Domain, L: Ledger>(
     store: &mut Store<D::State>,
     row: &Row<'_>,
     entry: &Open,
+    owner: u32,
     steps: &mut Steps<L>,
 ) -> Result<Value<Held>, Memory>
     requires ready { IsReady (D.operations dom.now) flow.now store.old row.now entry.now }
@@ -273,6 +259,7 @@ fn applied<D: Domain, L: Ledger>(
         flow,
         store,
         row,
+        owner,
         number(left),
         number(right),
         steps,
@@ -291,6 +278,7 @@ pub(crate) fn compute<D: Domain, L: Ledger>(
     store: &mut Store<D::State>,
     row: &Row<'_>,
     entry: &Open,
+    owner: u32,
     steps: &mut Steps<L>,
 ) -> Result<Value<Held>, Memory>
     requires ready { IsReady (D.operations dom.now) flow.now store.old row.now entry.now }
@@ -311,6 +299,6 @@ pub(crate) fn compute<D: Domain, L: Ledger>(
     }
     match row {
         Row::Fixed(head, _) => fixed(alloc, dom, flow, store, row, *head, entry),
-        _ => applied(alloc, dom, flow, store, row, entry, steps),
+        _ => applied(alloc, dom, flow, store, row, entry, owner, steps),
     }
 }
