@@ -88,9 +88,11 @@ impl OperationTable {
     #[inline]
     fn noted_number(&self, row: &Row<'_>, place: usize) -> Option<usize>
         ensures is { IfSome result (HasOperation self.now row.now) }
+        ensures once { AreOnce ⟦<Operation as PartialEq>⟧.eq self.now }
     {
+        let count = self.table.len();
         let number = *self.noted.get(place)? as usize;
-        if number < self.table.len() && is_of(row, self.table.get(number)) {
+        if number < count && is_of(row, self.table.get(number)) {
             Some(number)
         } else {
             None
