@@ -31,6 +31,11 @@ impl Model for OperationTable {
 
     ghost Value = { List Operation };
 
+    ghost use Rattle.std.specs.Coded.{codes};
+    ghost use Rattle.memo_table.specs.contracts.operation.Operation as operation;
+
+    ghost coded = { Prim.hlevel (codes, operation.the_row.coded) };
+
     ghost view = { λ t. t.table };
 }
 
