@@ -1,4 +1,5 @@
 pub mod Nodes
+pub mod Acts
 pub mod Plans
 pub mod PlanCode
 pub mod Reached

@@ -4,7 +4,7 @@ ghost use Rattle.imp_slots.specs.Fits.{IsChecked};
 ghost use Rattle.imp_check.specs.Slots.{routines_of};
 ghost use Rattle.batch_meaning.specs.Places.{main_layout};
 ghost use Rattle.call_contexts.specs.Settings.{setting_of};
-ghost use Rattle.cell_names.specs.declared.frame.Point.TheVariants.{Entry, Body, Iterate};
+ghost use Rattle.cell_names.specs.declared.frame.Point.TheVariants.{Entry, Body, Iterate, Post};
 ghost use Rattle.cell_rows.specs.Rows.{Init};
 ghost use Rattle.cell_rows.specs.Flat.{flat_row};
 ghost use Rattle.imp_flow_rows.specs.Entered.{node_now};
@@ -12,12 +12,13 @@ ghost use Rattle.imp_flow_rows.specs.Near.{PathFrame, last_frame, row_in};
 ghost use Rattle.imp_flow.specs.Nodes.{node_of};
 ghost use Rattle.imp_flow.specs.Plans.{loops_at, thresholds_at, plan_nodes, plan_of, by_node, point_at, node_row};
 
-use crate::nodes::node_of;
+use crate::nodes::{act_of, node_of};
 use call_contexts::{Setting, main_place};
 use cell_names::{NameFrame, Point};
 use imp_chains::Widening;
 use imp_flow_rows::{
-    Node, Row, branch_row, enter_row, exit_row, fix_row, leap_row, next_row, post_row, turn_row,
+    Node, Row, act_row, branch_row, enter_row, exit_row, fix_row, leap_row, next_row, post_row,
+    turn_row,
 };
 use imp_slots::Layout;
 use imp_syntax::{ProcId, StmtId};
@@ -195,6 +196,18 @@ impl<'a> Flow<'a> {
         }
     }
 
+    /// After a statement: of a simple one at once, and of another by its node.
+    #[inline]
+    fn behind_row(&self, stmt: StmtId) -> Option<Row<'_>>
+        ensures is { (w : List PathFrame) → option_map (row_in w) result ≡
+            by_node self.now stmt (point_at w (Post stmt)) }
+    {
+        match act_of(&self.prog, stmt) {
+            Some((entry, act)) => Some(act_row(entry, act)),
+            None => self.stmt_row(Point::Post(stmt), stmt),
+        }
+    }
+
     /// The row of a statement's point, except an iterate.
     #[inline]
     fn stmt_row(&self, point: Point, stmt: StmtId) -> Option<Row<'_>>
@@ -226,7 +239,7 @@ impl<'a> Flow<'a> {
             Point::Iterate(stmt, index) => self.iterate_row(stmt, index),
             Point::Then(stmt) => self.stmt_row(point, stmt),
             Point::Else(stmt) => self.stmt_row(point, stmt),
-            Point::Post(stmt) => self.stmt_row(point, stmt),
+            Point::Post(stmt) => self.behind_row(stmt),
             Point::Fix(stmt) => self.stmt_row(point, stmt),
             Point::Exit(stmt) => self.stmt_row(point, stmt),
             Point::Leap(stmt, _) => self.stmt_row(point, stmt),

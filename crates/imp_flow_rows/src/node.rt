@@ -79,7 +79,7 @@ pub fn behind_or(first: Point, stmt: Option<StmtId>) -> Point
 
 /// The point before a statement.
 #[inline]
-fn front_of(entry: &Entry) -> Point
+pub(crate) fn front_of(entry: &Entry) -> Point
     ensures is { result ≡ front_point entry.now }
 {
     behind_or(start_of(entry.context.around), entry.front)

@@ -1,17 +1,19 @@
 //! The rows of a statement's points.
-ghost use Rattle.std.specs.Prelude.{◌≡◌, ◌≤◌, ◌<◌, length, option_map, IfSome, List, ◌∷◌};
+ghost use Rattle.std.specs.Prelude.{◌≡◌, ◌≤◌, ◌<◌, Some, length, option_map, IfSome, List, ◌∷◌};
 ghost use Rattle.imp_flow_rows.specs.Near.{PathFrame};
 ghost use Rattle.cell_rows.specs.Names.{place_of};
-ghost use Rattle.imp_flow_rows.specs.Entered.{leaves_now, node_now};
+ghost use Rattle.imp_flow_rows.specs.Entered.{front_point, leaves_now, node_now};
 ghost use Rattle.imp_flow_rows.specs.Near.{row_in};
-ghost use Rattle.imp_flow_rows.specs.NodeRows.{iterate_at, joined_at, breaks_of, joins_at, behind_loop, post_at, enter_at, branch_at, turn_at, next_at, fix_at, exit_at, leap_at};
+ghost use Rattle.imp_flow_rows.specs.Shapes as plain;
+ghost use Rattle.imp_flow_rows.specs.NodeRows.{iterate_at, joined_at, breaks_of, joins_at, behind_loop, post_at, post_by, enter_at, branch_at, turn_at, next_at, fix_at, exit_at, leap_at};
 
 use crate::input::Input;
-use crate::node::{Leaves, Node, Shape};
+use crate::node::{Leaves, Node, Shape, front_of};
 use crate::row::{Binary, Row, Unary, iterate_at};
 use cell_names::{NameFrame, Point};
 use imp_chains::Widening;
-use imp_slots::SlotCond;
+use imp_check::Entry;
+use imp_slots::{SlotCond, SlotStmt};
 use imp_syntax::StmtId;
 
 /// The point after a loop with its first breaks.
@@ -76,6 +78,15 @@ pub fn post_row<'a>(node: &Node<'a>) -> Option<Row<'a>>
             }
         },
     }
+}
+
+/// After a simple statement of which this is known.
+#[inline]
+pub fn act_row<'a>(entry: &Entry, stmt: &'a SlotStmt) -> Row<'a>
+    ensures is { (w : List PathFrame) → Some (row_in w result) ≡
+        post_by w entry.now.number (front_point entry.now) (plain.Act stmt.now) }
+{
+    Row::One(Unary::Post(stmt), Input::here(front_of(entry)))
 }
 
 /// Into the procedure that a statement calls.

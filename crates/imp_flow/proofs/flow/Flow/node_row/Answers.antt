@@ -9,7 +9,7 @@ pub returns-in-Else : goal.returns-in-Else
 returns-in-Else c = record { is = λ w e. c.stmt_row-in-Else.ensures.is w ∙ ap (node_row c.args.self.now w) (sym c.in-Else.is) }
 
 pub returns-in-Post : goal.returns-in-Post
-returns-in-Post c = record { is = λ w e. c.stmt_row-in-Post.ensures.is w ∙ ap (node_row c.args.self.now w) (sym c.in-Post.is) }
+returns-in-Post c = record { is = λ w e. c.behind_row.ensures.is w ∙ ap (node_row c.args.self.now w) (sym c.in-Post.is) }
 
 pub returns-in-Fix : goal.returns-in-Fix
 returns-in-Fix c = record { is = λ w e. c.stmt_row-in-Fix.ensures.is w ∙ ap (node_row c.args.self.now w) (sym c.in-Fix.is) }
