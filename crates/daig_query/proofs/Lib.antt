@@ -14,6 +14,7 @@ pub mod Asking
 pub mod Taking
 pub mod Remembered
 pub mod Recalls
+pub mod Comparing
 pub mod Applied
 pub mod Overs
 pub mod Stacked

@@ -34,6 +34,10 @@ IsOperationOf (Two op a b) o = IsBinaryOf op o
 IsOperationOf (Fixed n p) o = o ≡ owned.Join
 IsOperationOf (Joins stays left n right) o = o ≡ owned.Join
 
+-- the operation of a number is the row's
+abbrev pub HasOperation : List Operation → Row → ℕ → Type 0
+HasOperation operations row n = (o : Operation) × IsOperationOf row o × (slice_get operations n ≡ Some o)
+
 -- the row of a fixed point
 abbrev pub IsFixed : Row → Type 0
 IsFixed (Init layout) = ⊥

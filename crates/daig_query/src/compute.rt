@@ -1,12 +1,12 @@
 //! The value of a name, from those of its inputs.
-ghost use Rattle.std.specs.Prelude.{◌≡◌, ◌≢◌, ◌+◌, ◌-◌, ◌<◌, ◌≤◌, ◌^◌, ℕ, IfOk, OnOk, IfSome, IsSome, MatchOption, Some, None, length, reverse, slice_get, option_map, option_copied};
+ghost use Rattle.std.specs.Prelude.{◌≡◌, ◌≢◌, ◌+◌, ◌-◌, ◌<◌, ◌≤◌, ◌^◌, ℕ, IfOk, IfSome, IsSome, MatchOption, Some, None, length, reverse, slice_get, option_map, option_copied};
 ghost use Rattle.cell_names.specs.Known.{IsOnce};
 ghost use Rattle.cell_names.specs.Paths.{path_at, sites_of};
-ghost use Rattle.state_table.specs.Numbers.{AreOnce, KeepsNumbers};
+ghost use Rattle.state_table.specs.Numbers.{KeepsNumbers};
 ghost use Rattle.loop_unroll.specs.Iterates.{iterate_of, state_in, IsEqual};
 ghost use Rattle.daig_query.specs.Kept.{IsValue};
 ghost use Rattle.daig_query.specs.Right.{found, IsRight};
-ghost use Rattle.daig_query.specs.Made.{IsFixed, IsOperationOf, alone_in, index_in, number, row_result, state_at};
+ghost use Rattle.daig_query.specs.Made.{IsFixed, alone_in, index_in, number, row_result, state_at};
 ghost use Rattle.daig_query.specs.Recalled.{IsRemembered, IsRecalled};
 ghost use Rattle.daig_query.specs.Opened.{name_of, IsReady, Computes};
 ghost use Rattle.daig_query.specs.Overs.{HasNoOver, HasOver, IsFirstOver};
@@ -14,7 +14,7 @@ ghost use Rattle.imp_flow_rows.specs.declared.row.Row.TheVariants.{Fixed};
 
 use crate::held::Held;
 use crate::opening::Open;
-use crate::operations::{apply, operation_of};
+use crate::operations::apply;
 use crate::store::Store;
 use base_values::{Items, Memory};
 use cell_names::{Names, PathId};
@@ -24,7 +24,7 @@ use imp_flow::Flow;
 use imp_flow_rows::{Row, Unary};
 use imp_syntax::{Chain, StmtId};
 use loop_unroll::converged;
-use memo_table::{Key, Operation};
+use memo_table::Key;
 use state_table::StateTable;
 use std::alloc::Global;
 use std::hash::Hash;
@@ -159,23 +159,6 @@ fn operand<S: Eq + Hash + Drop>(states: &StateTable<S>, number: Option<usize>) -
     }
 }
 
-/// The number of a row's operation, owned, among those that were met.
-#[inline]
-fn operation_number(
-    alloc: Global,
-    operations: &mut StateTable<Operation>,
-    row: &Row<'_>,
-) -> Result<usize, Memory>
-    ensures is { IfOk result (λ n. (o : Operation) × IsOperationOf row.now o ×
-        (slice_get operations.new n ≡ Some o)) }
-    ensures few { length operations.new ≤ length operations.old + 1 }
-    ensures once { OnOk result (AreOnce ⟦<Operation as PartialEq>⟧.eq operations.new) }
-    ensures kept { KeepsNumbers operations.old operations.new }
-{
-    let operation = operation_of(alloc, row)?;
-    operations.intern(operation)
-}
-
 /// The number of what a row makes of the states that have these numbers, made anew. It ticks.
 #[inline]
 fn make_state<D: Domain, L: Ledger>(
@@ -218,6 +201,7 @@ fn result_of<D: Domain, L: Ledger>(
     flow: &Flow<'_>,
     store: &mut Store<D::State>,
     row: &Row<'_>,
+    owner: u32,
     left: Option<usize>,
     right: Option<usize>,
     steps: &mut Steps<L>,
@@ -235,7 +219,7 @@ fn result_of<D: Domain, L: Ledger>(
     ensures most { steps.new ≤ steps.old + D.counted dom.now }
     ensures remembered { IsRemembered store.old row.now left right → steps.new ≡ steps.old }
 {
-    let operation = operation_number(alloc, &mut store.operations, row)?;
+    let operation = store.operations.number_of(alloc, row, owner)?;
     let key = Key {
         operation,
         left,
@@ -258,6 +242,7 @@ fn applied<D: Domain, L: Ledger>(
     store: &mut Store<D::State>,
     row: &Row<'_>,
     entry: &Open,
+    owner: u32,
     steps: &mut Steps<L>,
 ) -> Result<Value<Held>, Memory>
     requires ready { IsReady (D.operations dom.now) flow.now store.old row.now entry.now }
@@ -284,6 +269,7 @@ fn applied<D: Domain, L: Ledger>(
         flow,
         store,
         row,
+        owner,
         number(left),
         number(right),
         steps,
@@ -302,6 +288,7 @@ pub(crate) fn compute<D: Domain, L: Ledger>(
     store: &mut Store<D::State>,
     row: &Row<'_>,
     entry: &Open,
+    owner: u32,
     steps: &mut Steps<L>,
 ) -> Result<Value<Held>, Memory>
     requires ready { IsReady (D.operations dom.now) flow.now store.old row.now entry.now }
@@ -323,6 +310,6 @@ pub(crate) fn compute<D: Domain, L: Ledger>(
     }
     match row {
         Row::Fixed(head, _) => fixed(alloc, dom, flow, store, row, *head, entry),
-        _ => applied(alloc, dom, flow, store, row, entry, steps),
+        _ => applied(alloc, dom, flow, store, row, entry, owner, steps),
     }
 }

@@ -11,6 +11,7 @@ ghost use Rattle.daig_query.specs.Right.{IsRight};
 ghost use Rattle.daig_query.specs.Swept.{IsBounded};
 
 use crate::held::Held;
+use crate::operation_table::OperationTable;
 use crate::store::Store;
 use base_values::Memory;
 use cell_names::Names;
@@ -47,11 +48,12 @@ impl<D: Domain + Drop> Engine<D> {
     {
         let spare = memo.saturating_mul(4).saturating_add(SLACK);
         let memo = Memo::new(alloc, memo)?;
+        let operations = OperationTable::new(alloc)?;
         let store = Store {
             graph: Graph::new(alloc),
             names: Names::new(alloc),
             states: StateTable::new(alloc),
-            operations: StateTable::new(alloc),
+            operations,
             memo,
         };
         Ok(Engine {

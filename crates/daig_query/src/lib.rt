@@ -14,6 +14,7 @@ mod held;
 mod inputs;
 mod laws;
 mod opening;
+mod operation_table;
 mod operations;
 mod store;
 mod sweep;

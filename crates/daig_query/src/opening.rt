@@ -119,8 +119,8 @@ pub(crate) fn fill<D: Domain, L: Ledger>(
     ensures recalled { IsRecalled store.old row.now entry → steps.new ≡ steps.old }
     ensures over { HasOver store.old.graph.cells entry.inputs → steps.new ≡ steps.old }
 {
-    let value = compute(alloc, dom, flow, store, row, &entry, steps)?;
     let owner = store.names.owner(&entry.name);
+    let value = compute(alloc, dom, flow, store, row, &entry, owner, steps)?;
     let Open {
         cell,
         name: _,

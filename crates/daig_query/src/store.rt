@@ -1,8 +1,9 @@
 //! What an engine keeps.
 use crate::held::Held;
+use crate::operation_table::OperationTable;
 use cell_names::Names;
 use daig_graph::Graph;
-use memo_table::{Memo, Operation};
+use memo_table::Memo;
 use state_table::StateTable;
 use std::hash::Hash;
 
@@ -12,6 +13,6 @@ pub(crate) struct Store<S: Eq + Hash> {
     pub(crate) graph: Graph<Held>,
     pub(crate) names: Names,
     pub(crate) states: StateTable<S>,
-    pub(crate) operations: StateTable<Operation>,
+    pub(crate) operations: OperationTable,
     pub(crate) memo: Memo<S>,
 }

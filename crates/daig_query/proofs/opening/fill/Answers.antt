@@ -1,7 +1,5 @@
 use Rattle.std.proofs.Common.{slice_get, arith, refl, sym, ap, subst, ◌∙◌}
 use Rattle.std.specs.FinMap.{get}
-use Rattle.cell_names.specs.Owners.{owner}
-use Rattle.cell_names.specs.Paths.{path_at}
 use Rattle.daig_graph.specs.Cells.{AreCells, Filled}
 use Rattle.daig_query.specs.declared.held.Held.{Held}
 use Rattle.cell_graph.specs.Named.{AreNumbers}
@@ -33,7 +31,7 @@ returns-clause-puts g c =
     let is : IsCellOf dom plan mid x f = record {
       value = c.in_ok-value.ensures.value;
       inputs = subst (λ k. AreNumbers k.names entry.inputs (inputs dom plan x)) (sym computes.names) (ready_numbers dom plan old c.args.row.now entry ready);
-      owned = c.owner-owner.ensures.is ∙ ap (λ k. owner (path_at k.paths entry.name.path) entry.name.point) computes.names;
+      owned = c.owner-owner.ensures.is;
     } in
     on_ok c.fill.result c.fill.ensures.fills (λ e.
     puts dom plan mid _ computes.right entry.cell x f
