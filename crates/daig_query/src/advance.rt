@@ -1,21 +1,22 @@
 //! Filling the missing cells of a demand, for the clauses of `advance` and `demand`.
-ghost use Rattle.std.specs.Prelude.{◌≡◌, ◌+◌, ◌*◌, ◌<◌, ◌≤◌, ◌↔◌, ◌⊎◌, [], ◌∷◌, ◌++◌, Some, true, false, suc, length, map, min, IfOk, IfErr, IfSome, IsTrue, OnErr, OnOk};
+ghost use Rattle.std.specs.Prelude.{◌≡◌, ◌+◌, ◌*◌, ◌<◌, ◌≤◌, ◌↔◌, [], ◌∷◌, ◌++◌, Some, true, false, suc, length, map, min, vec_len, IfOk, IfErr, IfSome, IsTrue, OnErr, OnOk};
 ghost use Rattle.cell_rows.specs.Targets.{Target as PlainTarget};
 ghost use Rattle.imp_flow.specs.Reached.{target_of};
-ghost use Rattle.daig_query.specs.Kept.{kept, AddsNoCell, Grows, Names as OnlyNames};
+ghost use Rattle.daig_query.specs.Kept.{AddsNoCell, Grows, Names as OnlyNames};
 ghost use Rattle.daig_query.specs.Right.{IsRight};
-ghost use Rattle.daig_query.specs.Opened.{name_of};
-ghost use Rattle.daig_query.specs.Walked.{AreStacked, AreTargets, IsDone, IsGood, IsPlaced, place_of};
+ghost use Rattle.daig_query.specs.Looked.{HasFurtherTop, IsTopAt, LooksAtTop};
+ghost use Rattle.daig_query.specs.Walked.{AreTargets, IsDone, IsGood, IsPlaced};
 ghost use Rattle.daig_query.specs.Filled.{cells_added, missing, Fills};
 ghost use Rattle.daig_query.specs.Turned.{fills_of, stacked_names, HandsDown, IsTopAbsent, Obeys, Turns};
 
 use crate::engine::Engine;
-use crate::opening::{Open, fill, next_absent, row_of};
+use crate::opening::{Absent, Open, fill, next_absent, opened, row_of};
 use crate::store::Store;
 use crate::walk::{Walk, next_demanded};
 use base_values::Memory;
 use domain_laws::{Domain, Steps};
 use imp_flow::{Flow, Target};
+use imp_flow_rows::Row;
 use std::alloc::Global;
 use std::sync::ledger::Ledger;
 
@@ -81,20 +82,44 @@ fn hand_down(stack: &mut Vec<Open>, cell: usize)
     }
 }
 
-/// A name goes on the stack, and the next of its inputs on top of it.
+/// Finds the inputs of the name on top from left to right, up to the first that has no cell, which is given. The row is
+/// that name's.
 #[inline]
-fn push_both(stack: &mut Vec<Open>, entry: Open, input: Open) -> Result<(), Memory>
-    ensures pushed { OnOk result (stack.new.items ≡ (stack.old.items ++ entry ∷ []) ++ input ∷ []) }
-    ensures err { OnErr result ((stack.new.items ≡ stack.old.items) ⊎
-        (stack.new.items ≡ stack.old.items ++ entry ∷ [])) }
+fn look_at_top<D: Domain>(
+    dom: &D,
+    flow: &Flow<'_>,
+    store: &mut Store<D::State>,
+    row: &Row<'_>,
+    stack: &mut Vec<Open>,
+) -> Result<Option<Absent>, Memory>
+    requires some { 0 < vec_len stack.old }
+    requires top { IsTopAt (D.operations dom.now) flow.now store.old row.now stack.old.items }
+    ensures names { OnlyNames store.old store.new }
+    ensures right { IsRight (D.operations dom.now) flow.now store.new }
+    ensures looks { IfOk result (LooksAtTop (D.operations dom.now) flow.now store.new row.now
+        stack.old.items stack.new.items) }
+    ensures err { OnErr result (HasFurtherTop (D.operations dom.now) flow.now store.new row.now
+        stack.old.items stack.new.items) }
 {
-    stack.push(entry)?;
-    stack.push(input)?;
-    Ok(())
+    match stack.last_mut() {
+        Some(top) => next_absent(dom, flow, store, row, top),
+        None => unreachable!(),
+    }
 }
 
-/// With a name on top of the stack, which is taken off: its first missing input is pushed on it, or it is filled, and
-/// handed down.
+/// The name on top, which is taken off.
+#[inline]
+fn take_top(stack: &mut Vec<Open>) -> Open
+    requires some { 0 < vec_len stack.old }
+    ensures top { stack.old.items ≡ stack.new.items ++ result ∷ [] }
+{
+    match stack.pop() {
+        Some(top) => top,
+        None => unreachable!(),
+    }
+}
+
+/// With a name on top of the stack: its first missing input is pushed on it, or it is filled, taken off and handed down.
 #[inline]
 fn turn_open<D: Domain, L: Ledger>(
     alloc: Global,
@@ -103,24 +128,21 @@ fn turn_open<D: Domain, L: Ledger>(
     store: &mut Store<D::State>,
     targets: &[Target],
     walk: &mut Walk,
-    top: Open,
     spent: bool,
     steps: &mut Steps<L>,
 ) -> Result<AdvanceResult, Memory>
     requires right { IsRight (D.operations dom.now) flow.now store.old }
-    requires placed { IsPlaced (D.operations dom.now) flow.now (map target_of targets.now) store.old
+    requires walk { IsGood (D.operations dom.now) flow.now (map target_of targets.now) store.old
         walk.old }
-    requires stacked { AreStacked (D.operations dom.now) flow.now store.old
-        (place_of (map target_of targets.now) store.old walk.old)
-        (walk.old.stack.items ++ top ∷ []) }
-    requires absent { kept store.old (name_of store.old top) ≡ false }
+    requires some { 0 < vec_len walk.old.stack }
+    requires absent { IsTopAbsent store.old walk.old.stack.items }
     ensures right { IsRight (D.operations dom.now) flow.now store.new }
     ensures grows { Grows store.old store.new }
     ensures walk { IsGood (D.operations dom.now) flow.now (map target_of targets.now) store.new
         walk.new }
     ensures turns { IfOk result (Turns (D.operations dom.now) flow.now
         (map target_of targets.now) store.old store.new
-        (stacked_names store.old (walk.old.stack.items ++ top ∷ [])) walk.new) }
+        (stacked_names store.old walk.old.stack.items) walk.new) }
     ensures obeys { IfOk result (Obeys spent) }
     ensures err { OnErr result (AddsNoCell store.old store.new) }
     ensures least { steps.old ≤ steps.new }
@@ -128,18 +150,18 @@ fn turn_open<D: Domain, L: Ledger>(
         * fills_of turn) }
     ensures most { steps.new ≤ steps.old + D.counted dom.now }
 {
-    let mut entry = top;
-    let Some(row) = row_of(flow, &store.names, &entry.name) else {
+    let top = &walk.stack[walk.stack.len() - 1];
+    let Some(row) = row_of(flow, &store.names, &top.name) else {
         unreachable!()
     };
-    if let Some(input) = next_absent(alloc, dom, flow, store, &row, &mut entry)? {
-        push_both(&mut walk.stack, entry, input)?;
+    if let Some(absent) = look_at_top(dom, flow, store, &row, &mut walk.stack)? {
+        walk.stack.push(opened(alloc, absent.cell, &absent.name))?;
         return Ok(AdvanceResult::Pushed);
     }
     if spent {
-        walk.stack.push(entry)?;
         return Ok(AdvanceResult::Spent);
     }
+    let entry = take_top(&mut walk.stack);
     let cell = entry.cell;
     fill(alloc, dom, flow, store, &row, entry, steps)?;
     hand_down(&mut walk.stack, cell);
@@ -177,9 +199,10 @@ fn take_turn<D: Domain, L: Ledger>(
         * fills_of turn) }
     ensures most { steps.new ≤ steps.old + D.counted dom.now }
 {
-    match walk.stack.pop() {
-        None => turn_walk(alloc, dom, flow, store, targets, walk),
-        Some(entry) => turn_open(alloc, dom, flow, store, targets, walk, entry, spent, steps),
+    if walk.stack.is_empty() {
+        turn_walk(alloc, dom, flow, store, targets, walk)
+    } else {
+        turn_open(alloc, dom, flow, store, targets, walk, spent, steps)
     }
 }
 
