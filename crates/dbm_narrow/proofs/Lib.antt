@@ -10,4 +10,5 @@ pub mod RowLemmas
 pub mod SameLemmas
 pub mod StandingLemmas
 pub mod StepLemmas
+pub mod StrongEntries
 pub mod WideningLemmas

@@ -1,10 +1,10 @@
 -- Rows that are gone over one entry after another.
-use Rattle.std.specs.Prelude.{◌≡◌, ℕ, ◌<◌, ◌≤◌, ◌+◌, ◌*◌, ◌^◌, ℤ, pos, neg_ℤ, ◌≤ℤ◌, ◌+ℤ◌, List, length, slice_set, refl}
+use Rattle.std.specs.Prelude.{◌≡◌, ℕ, ◌<◌, ◌≤◌, ◌+◌, ◌*◌, ◌^◌, ℤ, pos, neg_ℤ, ◌≤ℤ◌, ◌<ℤ◌, ◌+ℤ◌, int_lt, true, List, length, slice_set, refl}
 use Rattle.std.specs.Int.{int_min, int_max}
 use Rattle.std.proofs.Common.{arith, sym, subst, ◌∙◌, inl, inr, length-set, get_or, get_or-set_other, get_or-set_same}
 use Rattle.std.proofs.lemmas.Int.{ints}
 use Rattle.std.proofs.lemmas.Bool.{cases_lt}
-use Rattle.std.proofs.lemmas.List.{get_or_default}
+use Rattle.std.proofs.lemmas.List.{get_or_default, get_or_past}
 use mir.Syntax.{w32}
 use mir.Val.{of_z, to_z}
 use Rattle.dbm_narrow.proofs.EntryLemmas.{entry-fits, same, settled-entry, strengthened-entry}
@@ -80,6 +80,42 @@ IsThrough-within u v f g o xs j low high m all p l h k = elim (cases_lt k j) [
       (settled-entry (2 ^ 25) (int_min (int_min (at o k) (u +ℤ at f k)) (v +ℤ at g k))
       (subst (λ x. neg_ℤ (pos (2 ^ 25)) ≤ℤ x) (p.done k q) r.0) (subst (λ x. or_zero x ≤ℤ pos (2 ^ 25)) (p.done k q) r.1))
   | inr q ↦ subst (IsEntry (2 ^ 25)) (sym (p.rest k q)) (all k)
+]
+
+-- low and high are the extremes of the first j entries
+abbrev pub Spans : List ℤ → ℕ → ℤ → ℤ → Type 0
+Spans xs j low high = (k : ℕ) → k < j → (low ≤ℤ at xs k) × (or_zero (at xs k) ≤ℤ high)
+
+pub Spans-next : (xs : List ℤ) (j : ℕ) (low high b l h : ℤ) → Spans xs j low high → b ≡ at xs j → l ≡ int_min low b → h ≡ int_max high (or_zero b) → Spans xs (j + 1) l h
+Spans-next xs j low high b l h p e s t =
+    let ll : l ≤ℤ low = subst (λ z. z ≤ℤ low) (sym s) (min-below_left low b) in
+    let lb : l ≤ℤ at xs j = subst (λ z. l ≤ℤ z) e (subst (λ z. z ≤ℤ b) (sym s) (min-below_right low b)) in
+    let hh : high ≤ℤ h = subst (λ z. high ≤ℤ z) (sym t) (max-above_left high (or_zero b)) in
+    let hb : or_zero (at xs j) ≤ℤ h = subst (λ z. or_zero z ≤ℤ h) e (subst (λ z. or_zero b ≤ℤ z) (sym t) (max-above_right high (or_zero b))) in
+    λ k q. elim (cases_lt k j) [
+      | inl m ↦ wider low high (at xs k) l h ll hh (p k m)
+      | inr m ↦ let o : k ≡ j = omega arith in rw o (lb, hb)
+    ]
+
+below_free : (x : ℤ) → x <ℤ pos (2 ^ 28) → or_zero x ≡ x
+below_free x h = let e : int_lt x (pos (2 ^ 28)) ≡ true = grind (arith, ints) in rw e refl
+
+spanned : (b : ℕ) (x : ℤ) → b < 2 ^ 28 → IsEntry b x → neg_ℤ (pos (2 ^ 25)) ≤ℤ x → or_zero x ≤ℤ pos (2 ^ 25) → IsEntry (2 ^ 25) x
+spanned b x s (inl e) l h = inl e
+spanned b x s (inr p) l h = let q : x ≤ℤ pos b = p.1 in inr (l, subst (λ z. z ≤ℤ pos (2 ^ 25)) (below_free x (omega (arith, ints))) h)
+
+pub Spans-within : (b : ℕ) (xs : List ℤ) (j : ℕ) (low high : ℤ) → b < 2 ^ 28 → length xs ≤ j → AreEntries b xs → Spans xs j low high → neg_ℤ (pos (2 ^ 25)) ≤ℤ low → high ≤ℤ pos (2 ^ 25) → AreEntries (2 ^ 25) xs
+Spans-within b xs j low high s m all p l h k = elim (cases_lt k j) [
+  | inl q ↦ let r : (neg_ℤ (pos (2 ^ 25)) ≤ℤ at xs k) × (or_zero (at xs k) ≤ℤ pos (2 ^ 25)) = wider low high (at xs k) (neg_ℤ (pos (2 ^ 25))) (pos (2 ^ 25)) l h (p k q) in
+      spanned b (at xs k) s (all k) r.0 r.1
+  | inr q ↦ inl (get_or_past xs k none (omega arith))
+]
+
+-- a row that is the first entries of another
+pub copied-row : (f o xs : List ℤ) (j : ℕ) → length o ≤ j → AreEntries (2 ^ 25) f → AreEntries (2 ^ 25) o → ((k : ℕ) → k < j → at xs k ≡ at f k) → ((k : ℕ) → j ≤ k → at xs k ≡ at o k) → AreEntries (2 ^ 25) xs
+copied-row f o xs j l p h done rest k = elim (cases_lt k j) [
+  | inl m ↦ subst (IsEntry (2 ^ 25)) (sym (done k m)) (p k)
+  | inr m ↦ subst (IsEntry (2 ^ 25)) (sym (rest k m)) (h k)
 ]
 
 -- what code reads of a row, of which only the entries before j are changed

@@ -1,5 +1,5 @@
 -- A slot that stands for a node plus a number, in narrow entries: its rows, and the matrix with them.
-use Rattle.std.specs.Prelude.{◌≡◌, ℕ, ◌<◌, ◌≤◌, ◌+◌, ◌*◌, ◌/◌, ◌^◌, ℤ, pos, neg_ℤ, ◌+ℤ◌, ◌-ℤ◌, ◌≤ℤ◌, Option, Some, Bool, true, false, cond, eqb, List, length, slice_set, refl}
+use Rattle.std.specs.Prelude.{◌≡◌, ℕ, ◌<◌, ◌≤◌, ◌+◌, ◌*◌, ◌/◌, ◌^◌, ℤ, pos, neg_ℤ, ◌+ℤ◌, ◌-ℤ◌, ◌≤ℤ◌, Option, Some, Bool, cond, eqb, List, length, slice_set, refl}
 use Rattle.std.proofs.Common.{arith, ap, sym, subst, ◌∙◌, inl, inr, get_or-set_other, get_or-set_same, length-set}
 use Rattle.std.proofs.lemmas.Bool.{cases_eq, cases_lt, eq-eqb, ne_eqb}
 use Rattle.std.proofs.lemmas.Int.{ints}
@@ -102,21 +102,19 @@ module _ (s : ℕ → ℕ → Option ℤ) (h q : ℕ) (first second : List ℤ) 
       outside i j na nb nc nd (inl g) = of_node i na nb g
       outside i j na nb nc nd (inr g) = of_node j nc nd g
 
-pub replaced-cases : (P : ℤ → Type 0) (q : ℕ) (first second : List ℤ) (i j : ℕ) (x : ℤ) → ((k : ℕ) → P (at first k)) → ((k : ℕ) → P (at second k)) → P x → P (replaced q first second i j x)
-replaced-cases P q first second i j x f s p = by (eqb i (2 * q)) (eqb i (2 * q + 1)) (eqb j (2 * q)) (eqb j (2 * q + 1))
-  where
-    by : (a b c d : Bool) → P (cond a (at first j) (cond b (at second j) (cond c (at second (flip i)) (cond d (at first (flip i)) x))))
-    by true b c d = f j
-    by false true c d = s j
-    by false false true d = s (flip i)
-    by false false false true = f (flip i)
-    by false false false false = p
-
-pub replaced-row : (q i : ℕ) (first second o xs : List ℤ) (j : ℕ) → length o ≤ j → AreEntries (2 ^ 25) first → AreEntries (2 ^ 25) second → AreEntries (2 ^ 25) o →
-    ((a : ℕ) → a < j → at xs a ≡ replaced q first second i a (at o a)) → ((a : ℕ) → j ≤ a → at xs a ≡ at o a) → AreEntries (2 ^ 25) xs
-replaced-row q i first second o xs j l f s h done rest a = elim (cases_lt a j) [
-  | inl m ↦ subst (IsEntry (2 ^ 25)) (sym (done a m)) (replaced-cases (IsEntry (2 ^ 25)) q first second i a (at o a) f s (h a))
-  | inr m ↦ subst (IsEntry (2 ^ 25)) (sym (rest a m)) (h a)
+-- a row of another slot's node
+pub replaced-set : (q i : ℕ) (first second xs : List ℤ) (a b : ℤ) → (i ≡ 2 * q → ⊥) → (i ≡ 2 * q + 1 → ⊥) → 2 * q + 1 < length xs → a ≡ at second (flip i) → b ≡ at first (flip i) →
+    (j : ℕ) → j < length xs → at (slice_set (slice_set xs (2 * q) a) (2 * q + 1) b) j ≡ replaced q first second i j (at xs j)
+replaced-set q i first second xs a b na nb l ea eb j hj = elim (cases_eq j (2 * q)) [
+  | inl e ↦ let n : j ≡ 2 * q + 1 → ⊥ = λ z. absurd (omega arith) in
+      get_or-set_other (slice_set xs (2 * q) a) (2 * q + 1) j b none n ∙ ap (at (slice_set xs (2 * q) a)) e ∙ get_or-set_same xs (2 * q) a none (omega arith) ∙ ea
+      ∙ sym (rw (ne_eqb i (2 * q) na, ne_eqb i (2 * q + 1) nb, eq-eqb j (2 * q) e) refl)
+  | inr n ↦ elim (cases_eq j (2 * q + 1)) [
+    | inl e ↦ ap (at (slice_set (slice_set xs (2 * q) a) (2 * q + 1) b)) e ∙ get_or-set_same (slice_set xs (2 * q) a) (2 * q + 1) b none (omega (arith, length-set xs (2 * q) a)) ∙ eb
+        ∙ sym (rw (ne_eqb i (2 * q) na, ne_eqb i (2 * q + 1) nb, ne_eqb j (2 * q) n, eq-eqb j (2 * q + 1) e) refl)
+    | inr m ↦ get_or-set_other (slice_set xs (2 * q) a) (2 * q + 1) j b none m ∙ get_or-set_other xs (2 * q) j a none n
+        ∙ sym (rw (ne_eqb i (2 * q) na, ne_eqb i (2 * q + 1) nb, ne_eqb j (2 * q) n, ne_eqb j (2 * q + 1) m) refl)
+  ]
 ]
 
 -- ---- the matrix
@@ -175,7 +173,3 @@ set-entries b xs i x h p k = elim (cases_eq k i) [
   ]
   | inr n ↦ subst (IsEntry b) (sym (get_or-set_other xs i k x none n)) (h k)
 ]
-
-pub free-entry : (b : ℕ) (x : ℤ) → b < 2 ^ 28 → IsEntry b x → pos (2 ^ 28) ≤ℤ x → IsEntry (2 ^ 25) x
-free-entry b x l (inl e) h = inl e
-free-entry b x l (inr p) h = let q : x ≤ℤ pos b = p.1 in absurd (omega (arith, ints))

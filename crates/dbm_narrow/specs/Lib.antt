@@ -1,4 +1,5 @@
 pub mod Addings
+pub mod Carried
 pub mod Closed
 pub mod Closings
 pub mod Entries

@@ -31,9 +31,9 @@ pub fn close(alloc: Global, m: &Narrow) -> Result<Closing, Memory>
     requires diagonal { IsZeroAtMost (nodes m.now) (entry m.now) }
     ensures closing { IfOk result (IsClosing m.now) }
 {
-    let kinds = Vec::from_slice(alloc, m.kinds.as_slice())?;
+    let kinds = m.kinds.share()?;
     let mut entries = Vec::from_slice(alloc, m.entries.as_slice())?;
-    match close_entries(kinds.as_slice(), entries.as_mut_slice()) {
+    match close_entries(kinds.list(), entries.as_mut_slice()) {
         ClosingResult::Closed => Ok(Closing::Matrix(Narrow { kinds, entries })),
         ClosingResult::Empty => Ok(Closing::Empty),
         ClosingResult::TooWide => Ok(Closing::TooWide),
@@ -47,9 +47,9 @@ pub fn close_whole(alloc: Global, m: &Narrow) -> Result<Closing, Memory>
     requires whole { IsWhole m.now }
     ensures closing { IfOk result (IsClosing m.now) }
 {
-    let kinds = Vec::from_slice(alloc, m.kinds.as_slice())?;
+    let kinds = m.kinds.share()?;
     let mut entries = Vec::from_slice(alloc, m.entries.as_slice())?;
-    match close_own(kinds.as_slice(), entries.as_mut_slice()) {
+    match close_own(kinds.list(), entries.as_mut_slice()) {
         ClosingResult::Closed => Ok(Closing::Matrix(Narrow { kinds, entries })),
         ClosingResult::Empty => Ok(Closing::Empty),
         ClosingResult::TooWide => Ok(Closing::TooWide),
@@ -66,9 +66,9 @@ pub fn close_after_bounds(
     requires closed { IsClosed closed.now }
     ensures closing { IfOk result (IsClosingLowered closed.now bounds.now) }
 {
-    let kinds = Vec::from_slice(alloc, closed.kinds.as_slice())?;
+    let kinds = closed.kinds.share()?;
     let mut entries = Vec::from_slice(alloc, closed.entries.as_slice())?;
-    match close_lowered(kinds.as_slice(), entries.as_mut_slice(), bounds) {
+    match close_lowered(kinds.list(), entries.as_mut_slice(), bounds) {
         ClosingResult::Closed => Ok(Closing::Matrix(Narrow { kinds, entries })),
         ClosingResult::Empty => Ok(Closing::Empty),
         ClosingResult::TooWide => Ok(Closing::TooWide),
@@ -90,9 +90,9 @@ pub fn close_equation(
     requires closed { IsClosed closed.now }
     ensures closing { IfOk result (IsClosingEquated closed.now q y c) }
 {
-    let kinds = Vec::from_slice(alloc, closed.kinds.as_slice())?;
+    let kinds = closed.kinds.share()?;
     let mut entries = Vec::from_slice(alloc, closed.entries.as_slice())?;
-    match close_stood(kinds.as_slice(), entries.as_mut_slice(), q, y, c) {
+    match close_stood(kinds.list(), entries.as_mut_slice(), q, y, c) {
         ClosingResult::Closed => Ok(Closing::Matrix(Narrow { kinds, entries })),
         ClosingResult::Empty => Ok(Closing::Empty),
         ClosingResult::TooWide => Ok(Closing::TooWide),

@@ -1,10 +1,14 @@
 //! Closing, over entries.
+ghost use Rattle.std.specs.Prelude.{◌*◌, length};
+ghost use Rattle.dbm_core.specs.Half.{entry};
+ghost use Rattle.dbm_incremental.specs.ClosedMatrices.{IsStrong};
 ghost use Rattle.dbm_narrow.specs.Closings.{IsOutcome};
+ghost use Rattle.dbm_narrow.specs.Entries.{held};
 ghost use Rattle.dbm_narrow.specs.Held.{HasLowDiagonal};
 ghost use Rattle.dbm_narrow.specs.Lowerings.{HasOwnWeights};
 ghost use Rattle.dbm_narrow.specs.Rounds.{IsNarrow};
 
-use crate::steps::finish;
+use crate::steps::{finish, finish_strong};
 use crate::walks::{Walks, least_weights};
 
 /// What closing answers.
@@ -42,6 +46,19 @@ pub fn close_own(kinds: &[bool], entries: &mut [i32]) -> ClosingResult
     ensures outcome { IsOutcome kinds.now entries.old entries.new result }
 {
     if finish(kinds, entries) {
+        ClosingResult::Closed
+    } else {
+        ClosingResult::Empty
+    }
+}
+
+/// Closes strong entries, which stay as they are.
+pub fn close_strong(kinds: &[bool], entries: &[i32]) -> ClosingResult
+    requires narrow { IsNarrow kinds.now entries.now }
+    requires strong { IsStrong (2 * length kinds.now) (entry (held kinds.now entries.now)) }
+    ensures outcome { IsOutcome kinds.now entries.now entries.now result }
+{
+    if finish_strong(kinds, entries) {
         ClosingResult::Closed
     } else {
         ClosingResult::Empty

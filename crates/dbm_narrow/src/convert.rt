@@ -6,6 +6,7 @@ ghost use Rattle.dbm_narrow.specs.Held.{IsEntryOf, IsNarrowOf};
 use crate::Narrow;
 use crate::adding::small_bound;
 use crate::entries::NONE;
+use crate::kinds::Kinds;
 use base_values::Memory;
 use dbm_core::Matrix;
 use std::alloc::Global;
@@ -22,7 +23,7 @@ pub fn narrowed(alloc: Global, matrix: &Matrix) -> Result<Option<Narrow>, Memory
             None => return Ok(None),
         }
     }
-    let kinds = Vec::from_slice(alloc, matrix.kinds())?;
+    let kinds = Kinds::of(alloc, matrix.kinds())?;
     Ok(Some(Narrow { kinds, entries }))
 }
 

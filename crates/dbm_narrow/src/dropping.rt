@@ -15,9 +15,9 @@ use std::alloc::Global;
 pub fn forget(alloc: Global, narrow: &Narrow, slot: usize) -> Result<Narrow, Memory>
     ensures entries { IfOk result (Forgets narrow.now slot) }
 {
-    let kinds = Vec::from_slice(alloc, narrow.kinds.as_slice())?;
+    let kinds = narrow.kinds.share()?;
     let mut entries = Vec::from_slice(alloc, narrow.entries.as_slice())?;
-    drop_rows(entries.as_mut_slice(), narrow.kinds.len(), slot);
+    drop_rows(entries.as_mut_slice(), narrow.kinds.list().len(), slot);
     Ok(Narrow { kinds, entries })
 }
 

@@ -15,7 +15,7 @@ pub fn join(alloc: Global, left: &Narrow, right: &Narrow) -> Result<Narrow, Memo
     requires same_kinds { right.now.kinds ≡ left.now.kinds }
     ensures entries { IfOk result (HasEntries left.now.kinds (joined left.now right.now)) }
 {
-    let kinds = Vec::from_slice(alloc, left.kinds.as_slice())?;
+    let kinds = left.kinds.share()?;
     let mut entries = Vec::from_slice(alloc, left.entries.as_slice())?;
     raise(entries.as_mut_slice(), right.entries.as_slice());
     Ok(Narrow { kinds, entries })

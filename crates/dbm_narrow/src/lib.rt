@@ -10,6 +10,7 @@
 #![tactic(auto)]
 
 mod adding;
+mod carried;
 mod closed;
 mod closing;
 mod convert;
@@ -17,7 +18,9 @@ mod dropping;
 mod entries;
 mod feeding;
 mod joins;
+mod kinds;
 mod lower;
+mod met;
 mod middle;
 mod narrow;
 mod ranges;
@@ -28,11 +31,13 @@ mod steps;
 mod walks;
 mod widening;
 
+pub use carried::close_carried;
 pub use closed::{Closing, close, close_after_bounds, close_equation, close_whole};
 pub use convert::{narrowed, widened};
 pub use dropping::forget;
 pub use feeding::feed_matrix;
 pub use joins::join;
+pub use met::meets;
 pub use narrow::Narrow;
 pub use ranges::slot_range;
 pub use stands::stood;

@@ -8,6 +8,7 @@ ghost use Rattle.dbm_narrow.specs.Feeding.{matrix_fed};
 
 use crate::entries::wide_bound;
 use crate::feeding::feed_entries;
+use crate::kinds::Kinds;
 use crate::rows::entry_at;
 use base_values::Memory;
 use std::alloc::Global;
@@ -19,7 +20,7 @@ use std::marker::Model;
 /// Its value is that of the matrix of `dbm_core` with the same bounds.
 #[derive(Drop)]
 pub struct Narrow {
-    pub(crate) kinds: Vec<bool>,
+    pub(crate) kinds: Kinds,
     pub(crate) entries: Vec<i32>,
 }
 
@@ -30,9 +31,9 @@ impl Model for Narrow {
 
     ghost Value = { HalfMatrix };
 
-    ghost view = { λ a. held a.kinds.items a.entries.items };
+    ghost view = { λ a. held a.kinds a.entries.items };
 
-    ghost invariant = { λ a. IsNarrow a.kinds.items a.entries.items };
+    ghost invariant = { λ a. IsNarrow a.kinds a.entries.items };
 }
 
 /// Two matrices are equal where their kinds and their entries are.
@@ -42,7 +43,7 @@ impl PartialEq for Narrow {
     ghost laws = { partial_equiv_from_equiv same_matrix-equiv };
 
     fn eq(&self, other: &Narrow) -> bool {
-        self.kinds == other.kinds && self.entries == other.entries
+        self.kinds.list() == other.kinds.list() && self.entries == other.entries
     }
 }
 
@@ -67,7 +68,7 @@ impl Narrow {
         ensures matrix { IsMatrix self.now }
         ensures within { AreWithin (nodes self.now) (2 ^ 25) (entry self.now) }
     {
-        self.kinds.as_slice()
+        self.kinds.list()
     }
 
     /// The bound on `v_j - v_i`, `None` where there is none. It takes no memory.
@@ -76,14 +77,14 @@ impl Narrow {
         requires column { j < nodes self.now }
         ensures bound { result ≡ entry self.now i j }
     {
-        wide_bound(entry_at(self.entries.as_slice(), self.kinds.len(), i, j))
+        wide_bound(entry_at(self.entries.as_slice(), self.kinds.list().len(), i, j))
     }
 
     /// The same matrix.
     pub fn copy(&self, alloc: Global) -> Result<Narrow, Memory>
         ensures same { IfOk result (λ m. m ≡ self.now) }
     {
-        let kinds = Vec::from_slice(alloc, self.kinds.as_slice())?;
+        let kinds = self.kinds.share()?;
         let entries = Vec::from_slice(alloc, self.entries.as_slice())?;
         Ok(Narrow { kinds, entries })
     }

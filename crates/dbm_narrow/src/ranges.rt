@@ -18,7 +18,7 @@ pub fn slot_range(narrow: &Narrow, slot: usize) -> (i64, i64)
     ensures high { result.1 ≡ slot_high narrow.now.kinds (entry narrow.now) slot }
     ensures covers { HoldsValues narrow.now slot result.0 result.1 }
 {
-    let kinds = narrow.kinds.as_slice();
+    let kinds = narrow.kinds.list();
     let entries = narrow.entries.as_slice();
     (low_of(kinds, entries, slot), high_of(kinds, entries, slot))
 }

@@ -9,10 +9,10 @@ ghost use Rattle.dbm_narrow.specs.Standing.{IsEquatedOutcome, StandsTo, replaced
 
 use crate::adding::small_bound;
 use crate::closing::ClosingResult;
-use crate::entries::{FREE, GREATEST, LEAST, plus};
+use crate::entries::{GREATEST, LEAST, bound_or_zero, greater, lesser, plus};
 use crate::middle::stepped;
 use crate::rows::{row_at, row_len, whole_row};
-use crate::steps::finish;
+use crate::steps::finish_strong;
 use dbm_core::other_sign;
 
 /// Closes the entries with slot q made node y plus c, in place. After an answer other than `Closed`
@@ -51,7 +51,7 @@ fn close_small(kinds: &[bool], entries: &mut [i32], q: usize, y: usize, c: i32) 
     if !stand(kinds, entries, q, y, c) {
         return ClosingResult::TooWide;
     }
-    if finish(kinds, entries) {
+    if finish_strong(kinds, entries) {
         ClosingResult::Closed
     } else {
         ClosingResult::Empty
@@ -159,27 +159,14 @@ fn are_within(row: &[i32; 32]) -> bool
     requires row { AreEntries (3 * 2 ^ 25) row.now }
     ensures within { result ≡ true → AreEntries (2 ^ 25) row.now }
 {
+    let mut low = 0;
+    let mut high = 0;
     for j in 0..32 {
-        if !is_within(row[j]) {
-            return false;
-        }
+        let bound = row[j];
+        low = lesser(low, bound);
+        high = greater(high, bound_or_zero(bound));
     }
-    true
-}
-
-// Whether the entry is none, or a bound within the limits.
-#[inline]
-fn is_within(entry: i32) -> bool
-    requires entry { IsEntry (3 * 2 ^ 25) entry }
-    ensures within { result ≡ true → IsEntry (2 ^ 25) entry }
-{
-    if entry >= FREE {
-        return true;
-    }
-    if entry < LEAST {
-        return false;
-    }
-    entry <= GREATEST
+    LEAST <= low && high <= GREATEST
 }
 
 // Puts the rows of slot q's nodes, in place.
@@ -221,7 +208,7 @@ fn replace_row(entries: &mut [i32], i: usize, q: usize, first: &[i32; 32], secon
 // The same of the row itself.
 #[inline]
 fn replace_each(row: &mut [i32], i: usize, q: usize, first: &[i32; 32], second: &[i32; 32])
-    requires size { length row.old ≤ 32 }
+    requires size { length row.old ≡ row_width i }
     requires row { AreEntries (2 ^ 25) row.old }
     requires node { i < 32 }
     requires slot { q < 16 }
@@ -230,40 +217,31 @@ fn replace_each(row: &mut [i32], i: usize, q: usize, first: &[i32; 32], second: 
     ensures kept { EachIs (replaced q first.now second.now i) row.old row.new }
     ensures within { AreEntries (2 ^ 25) row.new }
 {
-    for j in 0..row.len() {
-        row[j] = replaced_entry(i, j, q, first, second, row[j]);
+    if i == 2 * q {
+        return copy_row(row, first);
+    }
+    if i == 2 * q + 1 {
+        return copy_row(row, second);
+    }
+    if 2 * q + 1 < row.len() {
+        let other = other_sign(i);
+        let even = column_at(second, other);
+        let odd = column_at(first, other);
+        row[2 * q] = even;
+        row[2 * q + 1] = odd;
     }
 }
 
-// An entry, or that of the slot's rows.
+// Makes a row the first entries of another.
 #[inline]
-fn replaced_entry(
-    i: usize,
-    j: usize,
-    q: usize,
-    first: &[i32; 32],
-    second: &[i32; 32],
-    entry: i32,
-) -> i32
-    requires row { i < 32 }
-    requires column { j < 32 }
-    requires slot { q < 16 }
-    requires first { AreEntries (2 ^ 25) first.now }
-    requires second { AreEntries (2 ^ 25) second.now }
-    ensures value { result ≡ replaced q first.now second.now i j entry }
+fn copy_row(row: &mut [i32], from: &[i32; 32])
+    requires size { length row.old ≤ 32 }
+    requires row { AreEntries (2 ^ 25) row.old }
+    requires from { AreEntries (2 ^ 25) from.now }
+    ensures kept { EachIs (λ j x. at from.now j) row.old row.new }
+    ensures within { AreEntries (2 ^ 25) row.new }
 {
-    if i == 2 * q {
-        return column_at(first, j);
+    for j in 0..row.len() {
+        row[j] = from[j];
     }
-    if i == 2 * q + 1 {
-        return column_at(second, j);
-    }
-    let other = other_sign(i);
-    if j == 2 * q {
-        return column_at(second, other);
-    }
-    if j == 2 * q + 1 {
-        return column_at(first, other);
-    }
-    entry
 }

@@ -23,9 +23,9 @@ pub fn stood(
     requires closed { IsClosed closed.now }
     ensures stood { IfOk result (StandsIf closed.now q y c) }
 {
-    let kinds = Vec::from_slice(alloc, closed.kinds.as_slice())?;
+    let kinds = closed.kinds.share()?;
     let mut entries = Vec::from_slice(alloc, closed.entries.as_slice())?;
-    if stand_by(kinds.as_slice(), entries.as_mut_slice(), q, y, c) {
+    if stand_by(kinds.list(), entries.as_mut_slice(), q, y, c) {
         Ok(Some(Narrow { kinds, entries }))
     } else {
         Ok(None)

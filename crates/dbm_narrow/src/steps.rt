@@ -1,9 +1,10 @@
 //! Steps 2 to 6, over the least weights. No entry is cut, and none is too low: the limits are narrower.
 ghost use Rattle.std.specs.Prelude.{◌≡◌, ◌<◌, ◌≤◌, ◌^◌, ◌*◌, ◌+◌, ℕ, length};
 ghost use Rattle.dbm_close.specs.Steps.{range_high, range_low};
-ghost use Rattle.dbm_core.specs.Half.{row_start, row_width};
+ghost use Rattle.dbm_core.specs.Half.{entry, row_start, row_width};
 ghost use Rattle.dbm_core.specs.Nodes.{flip};
-ghost use Rattle.dbm_narrow.specs.Entries.{AreEntries, IsEntry, at, wide};
+ghost use Rattle.dbm_incremental.specs.ClosedMatrices.{IsStrong};
+ghost use Rattle.dbm_narrow.specs.Entries.{AreEntries, IsEntry, at, held, wide};
 ghost use Rattle.dbm_narrow.specs.Held.{HoldsHalves, TellsFinish, TellsHalves, TellsRanges};
 ghost use Rattle.dbm_narrow.specs.Rounds.{IsNarrow};
 ghost use Rattle.dbm_narrow.specs.Rows.{RestStays, RowIs, Strengthened, strengthened_at};
@@ -25,6 +26,19 @@ pub fn finish(kinds: &[bool], entries: &mut [i32]) -> bool
         return false;
     }
     strengthen_rows(entries, slots, &halves, &behind);
+    if has_empty_range(kinds, entries) {
+        return false;
+    }
+    true
+}
+
+/// The same of strong entries, which these steps leave as they are.
+#[inline]
+pub fn finish_strong(kinds: &[bool], entries: &[i32]) -> bool
+    requires narrow { IsNarrow kinds.now entries.now }
+    requires strong { IsStrong (2 * length kinds.now) (entry (held kinds.now entries.now)) }
+    ensures finish { TellsFinish kinds.now entries.now entries.now result }
+{
     if has_empty_range(kinds, entries) {
         return false;
     }

@@ -26,12 +26,12 @@ pub fn widen(
     requires same_kinds { right.now.kinds ≡ left.now.kinds }
     ensures widens { IfOk result (WidensIf thresholds.now left.now right.now) }
 {
-    let kinds = Vec::from_slice(alloc, left.kinds.as_slice())?;
+    let kinds = left.kinds.share()?;
     let mut entries = Vec::from_slice(alloc, left.entries.as_slice())?;
     if raise_rows(
         entries.as_mut_slice(),
         right.entries.as_slice(),
-        left.kinds.len(),
+        left.kinds.list().len(),
         thresholds,
     ) {
         Ok(Some(Narrow { kinds, entries }))

@@ -13,15 +13,15 @@ use Rattle.dbm_narrow.proofs.closed.close_whole.Goals as goal
 
 pub close_own-requires-clause-narrow : goal.close_own-requires-clause-narrow
 close_own-requires-clause-narrow c =
-    let k : c.as_slice-3.result.now ≡ c.m.inside.kinds.items = c.as_slice-3.ensures.value ∙ c.in_ok-kinds.ensures.items ∙ c.as_slice.ensures.value in
-    let x : c.as_mut_slice.result.now ≡ c.m.inside.entries.items = c.as_mut_slice.ensures.value ∙ c.in_ok-entries.ensures.items ∙ c.as_slice-2.ensures.value in
-    subst (λ (k : List Bool). IsNarrow k c.as_mut_slice.result.now) (sym k) (subst (λ (x : List ℤ). IsNarrow c.m.inside.kinds.items x) (sym x) c.m.invariant)
+    let k : c.list.result.now ≡ c.m.inside.kinds = c.list.ensures.value ∙ c.in_ok-kinds.ensures.items in
+    let x : c.as_mut_slice.result.now ≡ c.m.inside.entries.items = c.as_mut_slice.ensures.value ∙ c.in_ok-entries.ensures.items ∙ c.as_slice.ensures.value in
+    subst (λ (k : List Bool). IsNarrow k c.as_mut_slice.result.now) (sym k) (subst (λ (x : List ℤ). IsNarrow c.m.inside.kinds x) (sym x) c.m.invariant)
 
 pub close_own-requires-clause-weights : goal.close_own-requires-clause-weights
 close_own-requires-clause-weights c =
-    let k : c.as_slice-3.result.now ≡ c.m.inside.kinds.items = c.as_slice-3.ensures.value ∙ c.in_ok-kinds.ensures.items ∙ c.as_slice.ensures.value in
-    let x : c.as_mut_slice.result.now ≡ c.m.inside.entries.items = c.as_mut_slice.ensures.value ∙ c.in_ok-entries.ensures.items ∙ c.as_slice-2.ensures.value in
-    let e : c.args.m.now ≡ held c.as_slice-3.result.now c.as_mut_slice.result.now = sym c.m.view_is ∙ ap (λ k. held k c.m.inside.entries.items) (sym k) ∙ ap (held c.as_slice-3.result.now) (sym x) in
+    let k : c.list.result.now ≡ c.m.inside.kinds = c.list.ensures.value ∙ c.in_ok-kinds.ensures.items in
+    let x : c.as_mut_slice.result.now ≡ c.m.inside.entries.items = c.as_mut_slice.ensures.value ∙ c.in_ok-entries.ensures.items ∙ c.as_slice.ensures.value in
+    let e : c.args.m.now ≡ held c.list.result.now c.as_mut_slice.result.now = sym c.m.view_is ∙ ap (λ k. held k c.m.inside.entries.items) (sym k) ∙ ap (held c.list.result.now) (sym x) in
     record {
       diagonal = subst (λ (m : HalfMatrix). HasZeroDiagonal (nodes m) (entry m)) e c.requires.diagonal;
       triangles = subst IsWhole e c.requires.whole;
@@ -29,22 +29,22 @@ close_own-requires-clause-weights c =
 
 pub returns-in-Closed : goal.returns-in-Closed
 returns-in-Closed c =
-    let k : c.as_slice-3.result.now ≡ c.m.inside.kinds.items = c.as_slice-3.ensures.value ∙ c.in_ok-kinds.ensures.items ∙ c.as_slice.ensures.value in
-    let x : c.as_mut_slice.result.now ≡ c.m.inside.entries.items = c.as_mut_slice.ensures.value ∙ c.in_ok-entries.ensures.items ∙ c.as_slice-2.ensures.value in
-    let e : c.args.m.now ≡ held c.as_slice-3.result.now c.as_mut_slice.result.now = sym c.m.view_is ∙ ap (λ k. held k c.m.inside.entries.items) (sym k) ∙ ap (held c.as_slice-3.result.now) (sym x) in
+    let k : c.list.result.now ≡ c.m.inside.kinds = c.list.ensures.value ∙ c.in_ok-kinds.ensures.items in
+    let x : c.as_mut_slice.result.now ≡ c.m.inside.entries.items = c.as_mut_slice.ensures.value ∙ c.in_ok-entries.ensures.items ∙ c.as_slice.ensures.value in
+    let e : c.args.m.now ≡ held c.list.result.now c.as_mut_slice.result.now = sym c.m.view_is ∙ ap (λ k. held k c.m.inside.entries.items) (sym k) ∙ ap (held c.list.result.now) (sym x) in
     let w : (with_items c.in_ok-entries.entries c.close_own.new.entries).items ≡ c.close_own.new.entries = with_items_is c.in_ok-entries.entries c.close_own.new.entries (c.close_own.auto.entries ∙ c.as_mut_slice.ensures.len) in
     record {
-      closing = ap close_of e ∙ c.in-Closed.ensures.outcome.0 ∙ ap (λ (k : List Bool). Matrix (held k c.close_own.new.entries)) c.as_slice-3.ensures.value ∙ ap (λ (x : List ℤ). Matrix (held c.in_ok-kinds.kinds.items x)) (sym w);
+      closing = ap close_of e ∙ c.in-Closed.ensures.outcome.0 ∙ ap (λ (k : List Bool). Matrix (held k c.close_own.new.entries)) c.list.ensures.value ∙ ap (λ (x : List ℤ). Matrix (held c.in_ok-kinds.kinds x)) (sym w);
     }
 
 pub returns-in-Empty : goal.returns-in-Empty
 returns-in-Empty c =
-    let k : c.as_slice-3.result.now ≡ c.m.inside.kinds.items = c.as_slice-3.ensures.value ∙ c.in_ok-kinds.ensures.items ∙ c.as_slice.ensures.value in
-    let x : c.as_mut_slice.result.now ≡ c.m.inside.entries.items = c.as_mut_slice.ensures.value ∙ c.in_ok-entries.ensures.items ∙ c.as_slice-2.ensures.value in
-    let e : c.args.m.now ≡ held c.as_slice-3.result.now c.as_mut_slice.result.now = sym c.m.view_is ∙ ap (λ k. held k c.m.inside.entries.items) (sym k) ∙ ap (held c.as_slice-3.result.now) (sym x) in
+    let k : c.list.result.now ≡ c.m.inside.kinds = c.list.ensures.value ∙ c.in_ok-kinds.ensures.items in
+    let x : c.as_mut_slice.result.now ≡ c.m.inside.entries.items = c.as_mut_slice.ensures.value ∙ c.in_ok-entries.ensures.items ∙ c.as_slice.ensures.value in
+    let e : c.args.m.now ≡ held c.list.result.now c.as_mut_slice.result.now = sym c.m.view_is ∙ ap (λ k. held k c.m.inside.entries.items) (sym k) ∙ ap (held c.list.result.now) (sym x) in
     record { closing = ap close_of e ∙ c.in-Empty.ensures.outcome }
 
 pub invariant_of-result : goal.invariant_of-result
 invariant_of-result c =
     let w : (with_items c.in_ok-entries.entries c.close_own.new.entries).items ≡ c.close_own.new.entries = with_items_is c.in_ok-entries.entries c.close_own.new.entries (c.close_own.auto.entries ∙ c.as_mut_slice.ensures.len) in
-    subst (λ (k : List Bool). IsNarrow k (with_items c.in_ok-entries.entries c.close_own.new.entries).items) c.as_slice-3.ensures.value (subst (λ (x : List ℤ). IsNarrow c.as_slice-3.result.now x) (sym w) c.in-Closed.ensures.outcome.1)
+    subst (λ (k : List Bool). IsNarrow k (with_items c.in_ok-entries.entries c.close_own.new.entries).items) c.list.ensures.value (subst (λ (x : List ℤ). IsNarrow c.list.result.now x) (sym w) c.in-Closed.ensures.outcome.1)

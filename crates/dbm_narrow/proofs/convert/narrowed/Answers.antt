@@ -25,13 +25,13 @@ returns-in-None c =
 pub invariant_of-result : goal.invariant_of-result
 invariant_of-result c =
     let e : c.kept-kept.result.now ≡ c.args.matrix.now.kept = c.kept-kept.ensures.value in
-    narrowed-narrow c.args.matrix.now c.loop-bound.bound-index c.in_ok-kinds.kinds.items c.loop-bound.entries.items c.kept-kept.ensures.matrix (subst (λ (v : List (Option ℤ)). length v ≤ c.loop-bound.bound-index) e c.loop-bound-test.false) (c.in_ok-kinds.ensures.items ∙ c.kinds.ensures.value)
+    narrowed-narrow c.args.matrix.now c.loop-bound.bound-index c.in_ok-kinds.kinds c.loop-bound.entries.items c.kept-kept.ensures.matrix (subst (λ (v : List (Option ℤ)). length v ≤ c.loop-bound.bound-index) e c.loop-bound-test.false) (c.in_ok-kinds.ensures.items ∙ c.kinds.ensures.value)
     (subst (λ (v : List (Option ℤ)). AreNarrowed v c.loop-bound.bound-index c.loop-bound.entries.items) e c.loop-bound.invariant)
 
 pub returns : goal.returns
 returns c =
     let e : c.kept-kept.result.now ≡ c.args.matrix.now.kept = c.kept-kept.ensures.value in
     record {
-      same = narrowed-same c.args.matrix.now c.loop-bound.bound-index c.in_ok-kinds.kinds.items c.loop-bound.entries.items (subst (λ (v : List (Option ℤ)). length v ≤ c.loop-bound.bound-index) e c.loop-bound-test.false) (c.in_ok-kinds.ensures.items ∙ c.kinds.ensures.value)
+      same = narrowed-same c.args.matrix.now c.loop-bound.bound-index c.in_ok-kinds.kinds c.loop-bound.entries.items (subst (λ (v : List (Option ℤ)). length v ≤ c.loop-bound.bound-index) e c.loop-bound-test.false) (c.in_ok-kinds.ensures.items ∙ c.kinds.ensures.value)
           (subst (λ (v : List (Option ℤ)). AreNarrowed v c.loop-bound.bound-index c.loop-bound.entries.items) e c.loop-bound.invariant);
     }

@@ -14,53 +14,53 @@ use Rattle.dbm_narrow.proofs.joins.join.Goals as goal
 
 pub raise-requires-clause-size : goal.raise-requires-clause-size
 raise-requires-clause-size c =
-    let x : c.as_mut_slice.result.now ≡ c.left.inside.entries.items = c.as_mut_slice.ensures.value ∙ c.in_ok-entries.ensures.items ∙ c.as_slice-2.ensures.value in
-    let o : c.as_slice-3.result.now ≡ c.right.inside.entries.items = c.as_slice-3.ensures.value in
-    let k : c.in_ok-kinds.kinds.items ≡ c.left.inside.kinds.items = c.in_ok-kinds.ensures.items ∙ c.as_slice.ensures.value in
-    let kk : c.right.inside.kinds.items ≡ c.left.inside.kinds.items = ap (λ (m : HalfMatrix). m.kinds) c.right.view_is ∙ c.requires.same_kinds ∙ sym (ap (λ (m : HalfMatrix). m.kinds) c.left.view_is) in
-    ap length o ∙ narrow-size c.right.inside.kinds.items c.right.inside.entries.items c.right.invariant ∙ ap (λ (k : List Bool). row_start (2 * length k)) kk
-    ∙ sym (narrow-size c.left.inside.kinds.items c.left.inside.entries.items c.left.invariant) ∙ sym (ap length x)
+    let x : c.as_mut_slice.result.now ≡ c.left.inside.entries.items = c.as_mut_slice.ensures.value ∙ c.in_ok-entries.ensures.items ∙ c.as_slice.ensures.value in
+    let o : c.as_slice-2.result.now ≡ c.right.inside.entries.items = c.as_slice-2.ensures.value in
+    let k : c.in_ok-kinds.kinds ≡ c.left.inside.kinds = c.in_ok-kinds.ensures.items in
+    let kk : c.right.inside.kinds ≡ c.left.inside.kinds = ap (λ (m : HalfMatrix). m.kinds) c.right.view_is ∙ c.requires.same_kinds ∙ sym (ap (λ (m : HalfMatrix). m.kinds) c.left.view_is) in
+    ap length o ∙ narrow-size c.right.inside.kinds c.right.inside.entries.items c.right.invariant ∙ ap (λ (k : List Bool). row_start (2 * length k)) kk
+    ∙ sym (narrow-size c.left.inside.kinds c.left.inside.entries.items c.left.invariant) ∙ sym (ap length x)
 
 pub raise-requires-clause-entries : goal.raise-requires-clause-entries
 raise-requires-clause-entries c =
-    let x : c.as_mut_slice.result.now ≡ c.left.inside.entries.items = c.as_mut_slice.ensures.value ∙ c.in_ok-entries.ensures.items ∙ c.as_slice-2.ensures.value in
-    let o : c.as_slice-3.result.now ≡ c.right.inside.entries.items = c.as_slice-3.ensures.value in
-    let k : c.in_ok-kinds.kinds.items ≡ c.left.inside.kinds.items = c.in_ok-kinds.ensures.items ∙ c.as_slice.ensures.value in
+    let x : c.as_mut_slice.result.now ≡ c.left.inside.entries.items = c.as_mut_slice.ensures.value ∙ c.in_ok-entries.ensures.items ∙ c.as_slice.ensures.value in
+    let o : c.as_slice-2.result.now ≡ c.right.inside.entries.items = c.as_slice-2.ensures.value in
+    let k : c.in_ok-kinds.kinds ≡ c.left.inside.kinds = c.in_ok-kinds.ensures.items in
     subst (AreEntries (2 ^ 25)) (sym x) c.left.invariant.entries
 
 pub raise-requires-clause-others : goal.raise-requires-clause-others
 raise-requires-clause-others c =
-    let x : c.as_mut_slice.result.now ≡ c.left.inside.entries.items = c.as_mut_slice.ensures.value ∙ c.in_ok-entries.ensures.items ∙ c.as_slice-2.ensures.value in
-    let o : c.as_slice-3.result.now ≡ c.right.inside.entries.items = c.as_slice-3.ensures.value in
-    let k : c.in_ok-kinds.kinds.items ≡ c.left.inside.kinds.items = c.in_ok-kinds.ensures.items ∙ c.as_slice.ensures.value in
+    let x : c.as_mut_slice.result.now ≡ c.left.inside.entries.items = c.as_mut_slice.ensures.value ∙ c.in_ok-entries.ensures.items ∙ c.as_slice.ensures.value in
+    let o : c.as_slice-2.result.now ≡ c.right.inside.entries.items = c.as_slice-2.ensures.value in
+    let k : c.in_ok-kinds.kinds ≡ c.left.inside.kinds = c.in_ok-kinds.ensures.items in
     subst (AreEntries (2 ^ 25)) (sym o) c.right.invariant.entries
 
 pub invariant_of-result : goal.invariant_of-result
 invariant_of-result c =
-    let x : c.as_mut_slice.result.now ≡ c.left.inside.entries.items = c.as_mut_slice.ensures.value ∙ c.in_ok-entries.ensures.items ∙ c.as_slice-2.ensures.value in
-    let o : c.as_slice-3.result.now ≡ c.right.inside.entries.items = c.as_slice-3.ensures.value in
-    let k : c.in_ok-kinds.kinds.items ≡ c.left.inside.kinds.items = c.in_ok-kinds.ensures.items ∙ c.as_slice.ensures.value in
-    let kk : c.right.inside.kinds.items ≡ c.left.inside.kinds.items = ap (λ (m : HalfMatrix). m.kinds) c.right.view_is ∙ c.requires.same_kinds ∙ sym (ap (λ (m : HalfMatrix). m.kinds) c.left.view_is) in
+    let x : c.as_mut_slice.result.now ≡ c.left.inside.entries.items = c.as_mut_slice.ensures.value ∙ c.in_ok-entries.ensures.items ∙ c.as_slice.ensures.value in
+    let o : c.as_slice-2.result.now ≡ c.right.inside.entries.items = c.as_slice-2.ensures.value in
+    let k : c.in_ok-kinds.kinds ≡ c.left.inside.kinds = c.in_ok-kinds.ensures.items in
+    let kk : c.right.inside.kinds ≡ c.left.inside.kinds = ap (λ (m : HalfMatrix). m.kinds) c.right.view_is ∙ c.requires.same_kinds ∙ sym (ap (λ (m : HalfMatrix). m.kinds) c.left.view_is) in
     let w : (with_items c.in_ok-entries.entries c.raise.new.entries).items ≡ c.raise.new.entries = with_items_is c.in_ok-entries.entries c.raise.new.entries (c.raise.auto.entries ∙ c.as_mut_slice.ensures.len) in
-    let j : IsJoin (held c.left.inside.kinds.items c.left.inside.entries.items) (held c.right.inside.kinds.items c.right.inside.entries.items) (held c.left.inside.kinds.items c.raise.new.entries) =
-    joined-held c.left.inside.kinds.items c.right.inside.kinds.items c.left.inside.entries.items c.right.inside.entries.items c.raise.new.entries c.left.invariant c.right.invariant kk
-    (c.raise.auto.entries ∙ ap length x) (λ p. c.raise.ensures.greater p ∙ ap (λ v. int_max (at v p) (at c.as_slice-3.result.now p)) x ∙ ap (λ v. int_max (at c.left.inside.entries.items p) (at v p)) o) in
+    let j : IsJoin (held c.left.inside.kinds c.left.inside.entries.items) (held c.right.inside.kinds c.right.inside.entries.items) (held c.left.inside.kinds c.raise.new.entries) =
+    joined-held c.left.inside.kinds c.right.inside.kinds c.left.inside.entries.items c.right.inside.entries.items c.raise.new.entries c.left.invariant c.right.invariant kk
+    (c.raise.auto.entries ∙ ap length x) (λ p. c.raise.ensures.greater p ∙ ap (λ v. int_max (at v p) (at c.as_slice-2.result.now p)) x ∙ ap (λ v. int_max (at c.left.inside.entries.items p) (at v p)) o) in
     subst (λ (k : List Bool). IsNarrow k (with_items c.in_ok-entries.entries c.raise.new.entries).items) (sym k)
-    (subst (λ (x : List ℤ). IsNarrow c.left.inside.kinds.items x) (sym w) (record { matrix = j.matrix; entries = c.raise.ensures.entries }))
+    (subst (λ (x : List ℤ). IsNarrow c.left.inside.kinds x) (sym w) (record { matrix = j.matrix; entries = c.raise.ensures.entries }))
 
 pub returns : goal.returns
 returns c =
-    let x : c.as_mut_slice.result.now ≡ c.left.inside.entries.items = c.as_mut_slice.ensures.value ∙ c.in_ok-entries.ensures.items ∙ c.as_slice-2.ensures.value in
-    let o : c.as_slice-3.result.now ≡ c.right.inside.entries.items = c.as_slice-3.ensures.value in
-    let k : c.in_ok-kinds.kinds.items ≡ c.left.inside.kinds.items = c.in_ok-kinds.ensures.items ∙ c.as_slice.ensures.value in
-    let kk : c.right.inside.kinds.items ≡ c.left.inside.kinds.items = ap (λ (m : HalfMatrix). m.kinds) c.right.view_is ∙ c.requires.same_kinds ∙ sym (ap (λ (m : HalfMatrix). m.kinds) c.left.view_is) in
+    let x : c.as_mut_slice.result.now ≡ c.left.inside.entries.items = c.as_mut_slice.ensures.value ∙ c.in_ok-entries.ensures.items ∙ c.as_slice.ensures.value in
+    let o : c.as_slice-2.result.now ≡ c.right.inside.entries.items = c.as_slice-2.ensures.value in
+    let k : c.in_ok-kinds.kinds ≡ c.left.inside.kinds = c.in_ok-kinds.ensures.items in
+    let kk : c.right.inside.kinds ≡ c.left.inside.kinds = ap (λ (m : HalfMatrix). m.kinds) c.right.view_is ∙ c.requires.same_kinds ∙ sym (ap (λ (m : HalfMatrix). m.kinds) c.left.view_is) in
     let w : (with_items c.in_ok-entries.entries c.raise.new.entries).items ≡ c.raise.new.entries = with_items_is c.in_ok-entries.entries c.raise.new.entries (c.raise.auto.entries ∙ c.as_mut_slice.ensures.len) in
-    let j : IsJoin (held c.left.inside.kinds.items c.left.inside.entries.items) (held c.right.inside.kinds.items c.right.inside.entries.items) (held c.left.inside.kinds.items c.raise.new.entries) =
-    joined-held c.left.inside.kinds.items c.right.inside.kinds.items c.left.inside.entries.items c.right.inside.entries.items c.raise.new.entries c.left.invariant c.right.invariant kk
-    (c.raise.auto.entries ∙ ap length x) (λ p. c.raise.ensures.greater p ∙ ap (λ v. int_max (at v p) (at c.as_slice-3.result.now p)) x ∙ ap (λ v. int_max (at c.left.inside.entries.items p) (at v p)) o) in
+    let j : IsJoin (held c.left.inside.kinds c.left.inside.entries.items) (held c.right.inside.kinds c.right.inside.entries.items) (held c.left.inside.kinds c.raise.new.entries) =
+    joined-held c.left.inside.kinds c.right.inside.kinds c.left.inside.entries.items c.right.inside.entries.items c.raise.new.entries c.left.invariant c.right.invariant kk
+    (c.raise.auto.entries ∙ ap length x) (λ p. c.raise.ensures.greater p ∙ ap (λ v. int_max (at v p) (at c.as_slice-2.result.now p)) x ∙ ap (λ v. int_max (at c.left.inside.entries.items p) (at v p)) o) in
     record {
-      entries = subst (λ (a : HalfMatrix). HasEntries a.kinds (joined a c.args.right.now) (held c.in_ok-kinds.kinds.items (with_items c.in_ok-entries.entries c.raise.new.entries).items)) c.left.view_is
-          (subst (λ (b : HalfMatrix). HasEntries c.left.inside.kinds.items (joined (held c.left.inside.kinds.items c.left.inside.entries.items) b) (held c.in_ok-kinds.kinds.items (with_items c.in_ok-entries.entries c.raise.new.entries).items)) c.right.view_is
-          (subst (λ (k : List Bool). HasEntries c.left.inside.kinds.items (joined (held c.left.inside.kinds.items c.left.inside.entries.items) (held c.right.inside.kinds.items c.right.inside.entries.items)) (held k (with_items c.in_ok-entries.entries c.raise.new.entries).items)) (sym k)
-          (subst (λ (x : List ℤ). HasEntries c.left.inside.kinds.items (joined (held c.left.inside.kinds.items c.left.inside.entries.items) (held c.right.inside.kinds.items c.right.inside.entries.items)) (held c.left.inside.kinds.items x)) (sym w) j.entries)));
+      entries = subst (λ (a : HalfMatrix). HasEntries a.kinds (joined a c.args.right.now) (held c.in_ok-kinds.kinds (with_items c.in_ok-entries.entries c.raise.new.entries).items)) c.left.view_is
+          (subst (λ (b : HalfMatrix). HasEntries c.left.inside.kinds (joined (held c.left.inside.kinds c.left.inside.entries.items) b) (held c.in_ok-kinds.kinds (with_items c.in_ok-entries.entries c.raise.new.entries).items)) c.right.view_is
+          (subst (λ (k : List Bool). HasEntries c.left.inside.kinds (joined (held c.left.inside.kinds c.left.inside.entries.items) (held c.right.inside.kinds c.right.inside.entries.items)) (held k (with_items c.in_ok-entries.entries c.raise.new.entries).items)) (sym k)
+          (subst (λ (x : List ℤ). HasEntries c.left.inside.kinds (joined (held c.left.inside.kinds c.left.inside.entries.items) (held c.right.inside.kinds c.right.inside.entries.items)) (held c.left.inside.kinds x)) (sym w) j.entries)));
     }

@@ -12,55 +12,55 @@ use Rattle.dbm_narrow.proofs.ranges.slot_range.Goals as goal
 
 pub low_of-requires-clause-narrow : goal.low_of-requires-clause-narrow
 low_of-requires-clause-narrow c =
-    let k : c.as_slice-kinds.result.now ≡ c.narrow.inside.kinds.items = c.as_slice-kinds.ensures.value in
+    let k : c.list-kinds.result.now ≡ c.narrow.inside.kinds = c.list-kinds.ensures.value in
     let x : c.as_slice-entries.result.now ≡ c.narrow.inside.entries.items = c.as_slice-entries.ensures.value in
-    let e : held c.as_slice-kinds.result.now c.as_slice-entries.result.now ≡ c.args.narrow.now = ap (λ k. held k c.as_slice-entries.result.now) k ∙ ap (held c.narrow.inside.kinds.items) x ∙ c.narrow.view_is in
-    subst (λ (k : List Bool). IsNarrow k c.as_slice-entries.result.now) (sym k) (subst (λ (x : List ℤ). IsNarrow c.narrow.inside.kinds.items x) (sym x) c.narrow.invariant)
+    let e : held c.list-kinds.result.now c.as_slice-entries.result.now ≡ c.args.narrow.now = ap (λ k. held k c.as_slice-entries.result.now) k ∙ ap (held c.narrow.inside.kinds) x ∙ c.narrow.view_is in
+    subst (λ (k : List Bool). IsNarrow k c.as_slice-entries.result.now) (sym k) (subst (λ (x : List ℤ). IsNarrow c.narrow.inside.kinds x) (sym x) c.narrow.invariant)
 
 pub low_of-requires-clause-slot : goal.low_of-requires-clause-slot
 low_of-requires-clause-slot c =
-    let k : c.as_slice-kinds.result.now ≡ c.narrow.inside.kinds.items = c.as_slice-kinds.ensures.value in
+    let k : c.list-kinds.result.now ≡ c.narrow.inside.kinds = c.list-kinds.ensures.value in
     let x : c.as_slice-entries.result.now ≡ c.narrow.inside.entries.items = c.as_slice-entries.ensures.value in
-    let e : held c.as_slice-kinds.result.now c.as_slice-entries.result.now ≡ c.args.narrow.now = ap (λ k. held k c.as_slice-entries.result.now) k ∙ ap (held c.narrow.inside.kinds.items) x ∙ c.narrow.view_is in
+    let e : held c.list-kinds.result.now c.as_slice-entries.result.now ≡ c.args.narrow.now = ap (λ k. held k c.as_slice-entries.result.now) k ∙ ap (held c.narrow.inside.kinds) x ∙ c.narrow.view_is in
     subst (λ (m : HalfMatrix). c.args.slot < length m.kinds) (sym e) c.requires.slot
 
 pub high_of-requires-clause-narrow : goal.high_of-requires-clause-narrow
 high_of-requires-clause-narrow c =
-    let k : c.as_slice-kinds.result.now ≡ c.narrow.inside.kinds.items = c.as_slice-kinds.ensures.value in
+    let k : c.list-kinds.result.now ≡ c.narrow.inside.kinds = c.list-kinds.ensures.value in
     let x : c.as_slice-entries.result.now ≡ c.narrow.inside.entries.items = c.as_slice-entries.ensures.value in
-    let e : held c.as_slice-kinds.result.now c.as_slice-entries.result.now ≡ c.args.narrow.now = ap (λ k. held k c.as_slice-entries.result.now) k ∙ ap (held c.narrow.inside.kinds.items) x ∙ c.narrow.view_is in
-    subst (λ (k : List Bool). IsNarrow k c.as_slice-entries.result.now) (sym k) (subst (λ (x : List ℤ). IsNarrow c.narrow.inside.kinds.items x) (sym x) c.narrow.invariant)
+    let e : held c.list-kinds.result.now c.as_slice-entries.result.now ≡ c.args.narrow.now = ap (λ k. held k c.as_slice-entries.result.now) k ∙ ap (held c.narrow.inside.kinds) x ∙ c.narrow.view_is in
+    subst (λ (k : List Bool). IsNarrow k c.as_slice-entries.result.now) (sym k) (subst (λ (x : List ℤ). IsNarrow c.narrow.inside.kinds x) (sym x) c.narrow.invariant)
 
 pub high_of-requires-clause-slot : goal.high_of-requires-clause-slot
 high_of-requires-clause-slot c =
-    let k : c.as_slice-kinds.result.now ≡ c.narrow.inside.kinds.items = c.as_slice-kinds.ensures.value in
+    let k : c.list-kinds.result.now ≡ c.narrow.inside.kinds = c.list-kinds.ensures.value in
     let x : c.as_slice-entries.result.now ≡ c.narrow.inside.entries.items = c.as_slice-entries.ensures.value in
-    let e : held c.as_slice-kinds.result.now c.as_slice-entries.result.now ≡ c.args.narrow.now = ap (λ k. held k c.as_slice-entries.result.now) k ∙ ap (held c.narrow.inside.kinds.items) x ∙ c.narrow.view_is in
+    let e : held c.list-kinds.result.now c.as_slice-entries.result.now ≡ c.args.narrow.now = ap (λ k. held k c.as_slice-entries.result.now) k ∙ ap (held c.narrow.inside.kinds) x ∙ c.narrow.view_is in
     subst (λ (m : HalfMatrix). c.args.slot < length m.kinds) (sym e) c.requires.slot
 
 pub returns-clause-low : goal.returns-clause-low
 returns-clause-low c =
-    let k : c.as_slice-kinds.result.now ≡ c.narrow.inside.kinds.items = c.as_slice-kinds.ensures.value in
+    let k : c.list-kinds.result.now ≡ c.narrow.inside.kinds = c.list-kinds.ensures.value in
     let x : c.as_slice-entries.result.now ≡ c.narrow.inside.entries.items = c.as_slice-entries.ensures.value in
-    let e : held c.as_slice-kinds.result.now c.as_slice-entries.result.now ≡ c.args.narrow.now = ap (λ k. held k c.as_slice-entries.result.now) k ∙ ap (held c.narrow.inside.kinds.items) x ∙ c.narrow.view_is in
+    let e : held c.list-kinds.result.now c.as_slice-entries.result.now ≡ c.args.narrow.now = ap (λ k. held k c.as_slice-entries.result.now) k ∙ ap (held c.narrow.inside.kinds) x ∙ c.narrow.view_is in
     let f : FitsSigned w64 c.low_of.result = search rules in
     let low : to_z w64 (of_z w64 c.low_of.result) ≡ slot_low c.args.narrow.now.kinds (entry c.args.narrow.now) c.args.slot = to_z-of_z w64 c.low_of.result f ∙ c.low_of.ensures.low ∙ ap (λ (m : HalfMatrix). slot_low m.kinds (entry m) c.args.slot) e in
     low
 
 pub returns-clause-high : goal.returns-clause-high
 returns-clause-high c =
-    let k : c.as_slice-kinds.result.now ≡ c.narrow.inside.kinds.items = c.as_slice-kinds.ensures.value in
+    let k : c.list-kinds.result.now ≡ c.narrow.inside.kinds = c.list-kinds.ensures.value in
     let x : c.as_slice-entries.result.now ≡ c.narrow.inside.entries.items = c.as_slice-entries.ensures.value in
-    let e : held c.as_slice-kinds.result.now c.as_slice-entries.result.now ≡ c.args.narrow.now = ap (λ k. held k c.as_slice-entries.result.now) k ∙ ap (held c.narrow.inside.kinds.items) x ∙ c.narrow.view_is in
+    let e : held c.list-kinds.result.now c.as_slice-entries.result.now ≡ c.args.narrow.now = ap (λ k. held k c.as_slice-entries.result.now) k ∙ ap (held c.narrow.inside.kinds) x ∙ c.narrow.view_is in
     let g : FitsSigned w64 c.high_of.result = search rules in
     let high : to_z w64 (of_z w64 c.high_of.result) ≡ slot_high c.args.narrow.now.kinds (entry c.args.narrow.now) c.args.slot = to_z-of_z w64 c.high_of.result g ∙ c.high_of.ensures.high ∙ ap (λ (m : HalfMatrix). slot_high m.kinds (entry m) c.args.slot) e in
     high
 
 pub returns-clause-covers : goal.returns-clause-covers
 returns-clause-covers c = λ v h q.
-    let k : c.as_slice-kinds.result.now ≡ c.narrow.inside.kinds.items = c.as_slice-kinds.ensures.value in
+    let k : c.list-kinds.result.now ≡ c.narrow.inside.kinds = c.list-kinds.ensures.value in
     let x : c.as_slice-entries.result.now ≡ c.narrow.inside.entries.items = c.as_slice-entries.ensures.value in
-    let e : held c.as_slice-kinds.result.now c.as_slice-entries.result.now ≡ c.args.narrow.now = ap (λ k. held k c.as_slice-entries.result.now) k ∙ ap (held c.narrow.inside.kinds.items) x ∙ c.narrow.view_is in
+    let e : held c.list-kinds.result.now c.as_slice-entries.result.now ≡ c.args.narrow.now = ap (λ k. held k c.as_slice-entries.result.now) k ∙ ap (held c.narrow.inside.kinds) x ∙ c.narrow.view_is in
     let f : FitsSigned w64 c.low_of.result = search rules in
     let low : to_z w64 (of_z w64 c.low_of.result) ≡ slot_low c.args.narrow.now.kinds (entry c.args.narrow.now) c.args.slot = to_z-of_z w64 c.low_of.result f ∙ c.low_of.ensures.low ∙ ap (λ (m : HalfMatrix). slot_low m.kinds (entry m) c.args.slot) e in
     let g : FitsSigned w64 c.high_of.result = search rules in

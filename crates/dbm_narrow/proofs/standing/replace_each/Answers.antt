@@ -1,24 +1,29 @@
-use Rattle.std.specs.Prelude.{◌≡◌, FitsSigned, pos}
-use Rattle.std.proofs.Common.{arith, rules, ◌∙◌, ap, get_or}
+use Rattle.std.specs.Prelude.{◌≡◌, ◌+◌, ◌*◌, ◌^◌, FitsSigned}
+use Rattle.std.proofs.Common.{arith, rules, ◌∙◌, ap, sym, subst}
 use mir.Syntax.{w32}
 use mir.Val.{of_z, to_z}
+use Rattle.dbm_core.specs.Nodes.{flip}
 use Rattle.dbm_narrow.proofs.EntryLemmas.{same}
-use Rattle.dbm_narrow.proofs.RowLemmas.{done-set, rest-set, row-read}
-use Rattle.dbm_narrow.proofs.StandingLemmas.{replaced-row}
-use Rattle.dbm_narrow.specs.Entries.{at}
-use Rattle.dbm_narrow.specs.Standing.{replaced}
+use Rattle.dbm_narrow.proofs.StandingLemmas.{replaced-set, set-entries}
+use Rattle.dbm_narrow.specs.Entries.{IsEntry, at}
 use Rattle.dbm_narrow.proofs.standing.replace_each.Goals as goal
 
-pub loop-j-preserved : goal.loop-j-preserved
-loop-j-preserved c =
-    let f : FitsSigned w32 c.replaced_entry.result = search rules in
-    let rx : to_z w32 (of_z w32 (get_or c.loop-j.row c.loop-j.j (pos 0))) ≡ at c.args.row.now c.loop-j.j = row-read c.loop-j.row c.args.row.now c.loop-j.j (omega arith) c.requires.row c.loop-j.invariant.rest in
-    let e : to_z w32 (of_z w32 c.replaced_entry.result) ≡ replaced c.args.q c.args.first.now c.args.second.now c.args.i c.loop-j.j (at c.args.row.now c.loop-j.j) =
-    same c.replaced_entry.result f ∙ c.replaced_entry.ensures.value ∙ ap (replaced c.args.q c.args.first.now c.args.second.now c.args.i c.loop-j.j) rx in
-    record {
-      done = done-set (λ a x. x ≡ replaced c.args.q c.args.first.now c.args.second.now c.args.i a (at c.args.row.now a)) c.loop-j.row c.loop-j.j _ (omega arith) c.loop-j.invariant.done e;
-      rest = rest-set (λ a x. x ≡ at c.args.row.now a) c.loop-j.row c.loop-j.j _ c.loop-j.invariant.rest;
-    }
+pub returns-then-q-row-clause-kept : goal.returns-then-q-row-clause-kept
+returns-then-q-row-clause-kept c =
+    let f : FitsSigned w32 c.column_at-even.result = search rules in
+    let g : FitsSigned w32 c.column_at-odd.result = search rules in
+    let na : c.args.i ≡ 2 * c.args.q → ⊥ = λ e. absurd (omega arith) in
+    let nb : c.args.i ≡ 2 * c.args.q + 1 → ⊥ = λ e. absurd (omega arith) in
+    let a : to_z w32 (of_z w32 c.column_at-even.result) ≡ at c.args.second.now (flip c.args.i) = same c.column_at-even.result f ∙ c.column_at-even.ensures.value ∙ ap (at c.args.second.now) c.other_sign-other.ensures.flipped in
+    let b : to_z w32 (of_z w32 c.column_at-odd.result) ≡ at c.args.first.now (flip c.args.i) = same c.column_at-odd.result g ∙ c.column_at-odd.ensures.value ∙ ap (at c.args.first.now) c.other_sign-other.ensures.flipped in
+    replaced-set c.args.q c.args.i c.args.first.now c.args.second.now c.args.row.now _ _ na nb (omega arith) a b
 
-pub returns-clause-within : goal.returns-clause-within
-returns-clause-within c = replaced-row c.args.q c.args.i c.args.first.now c.args.second.now c.args.row.now c.loop-j.row c.loop-j.j (omega arith) c.requires.first c.requires.second c.requires.row c.loop-j.invariant.done c.loop-j.invariant.rest
+pub returns-then-q-row-clause-within : goal.returns-then-q-row-clause-within
+returns-then-q-row-clause-within c =
+    let f : FitsSigned w32 c.column_at-even.result = search rules in
+    let g : FitsSigned w32 c.column_at-odd.result = search rules in
+    let a : to_z w32 (of_z w32 c.column_at-even.result) ≡ at c.args.second.now (flip c.args.i) = same c.column_at-even.result f ∙ c.column_at-even.ensures.value ∙ ap (at c.args.second.now) c.other_sign-other.ensures.flipped in
+    let b : to_z w32 (of_z w32 c.column_at-odd.result) ≡ at c.args.first.now (flip c.args.i) = same c.column_at-odd.result g ∙ c.column_at-odd.ensures.value ∙ ap (at c.args.first.now) c.other_sign-other.ensures.flipped in
+    let pa : IsEntry (2 ^ 25) (to_z w32 (of_z w32 c.column_at-even.result)) = subst (IsEntry (2 ^ 25)) (sym a) (c.requires.second (flip c.args.i)) in
+    let pb : IsEntry (2 ^ 25) (to_z w32 (of_z w32 c.column_at-odd.result)) = subst (IsEntry (2 ^ 25)) (sym b) (c.requires.first (flip c.args.i)) in
+    set-entries (2 ^ 25) _ (2 * c.args.q + 1) _ (set-entries (2 ^ 25) c.args.row.now (2 * c.args.q) _ c.requires.row pa) pb

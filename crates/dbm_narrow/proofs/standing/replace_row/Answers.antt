@@ -8,6 +8,9 @@ use Rattle.dbm_narrow.proofs.standing.replace_row.Goals as goal
 pub replace_each-requires-clause-row : goal.replace_each-requires-clause-row
 replace_each-requires-clause-row c = part-entries (2 ^ 25) c.args.entries.now c.row_at-start.result ((c.row_at-start.result + c.row_len.result) - c.row_at-start.result) c.requires.entries
 
+pub replace_each-requires-clause-size : goal.replace_each-requires-clause-size
+replace_each-requires-clause-size c = row-length c.args.entries.now c.args.i c.row_at-start.result c.row_len.result c.row_at-start.ensures.start c.row_len.ensures.width c.requires.size
+
 pub returns-clause-kept : goal.returns-clause-kept
 returns-clause-kept c = λ j w.
     let len : length (take ((c.row_at-start.result + c.row_len.result) - c.row_at-start.result) (drop c.row_at-start.result c.args.entries.now)) ≡ row_width c.args.i = row-length c.args.entries.now c.args.i c.row_at-start.result c.row_len.result c.row_at-start.ensures.start c.row_len.ensures.width c.requires.size in

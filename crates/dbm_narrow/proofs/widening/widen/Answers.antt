@@ -13,62 +13,62 @@ use Rattle.dbm_narrow.specs.Widenings.{IsWidened, Widens}
 use Rattle.dbm_narrow.proofs.widening.widen.Goals as goal
 
 pub raise_rows-requires-clause-few : goal.raise_rows-requires-clause-few
-raise_rows-requires-clause-few c = omega (arith, c.left.invariant.matrix.few)
+raise_rows-requires-clause-few c = omega (arith, c.left.invariant.matrix.few, ap length c.list.ensures.value)
 
 pub raise_rows-requires-clause-size : goal.raise_rows-requires-clause-size
 raise_rows-requires-clause-size c =
-    let x : c.as_mut_slice.result.now ≡ c.left.inside.entries.items = c.as_mut_slice.ensures.value ∙ c.in_ok-entries.ensures.items ∙ c.as_slice-2.ensures.value in
-    let n : c.len.result ≡ length c.left.inside.kinds.items = omega arith in
-    ap length x ∙ narrow-size c.left.inside.kinds.items c.left.inside.entries.items c.left.invariant ∙ ap (λ n. row_start (2 * n)) (sym n)
+    let x : c.as_mut_slice.result.now ≡ c.left.inside.entries.items = c.as_mut_slice.ensures.value ∙ c.in_ok-entries.ensures.items ∙ c.as_slice.ensures.value in
+    let n : length c.list.result.now ≡ length c.left.inside.kinds = ap length c.list.ensures.value in
+    ap length x ∙ narrow-size c.left.inside.kinds c.left.inside.entries.items c.left.invariant ∙ ap (λ n. row_start (2 * n)) (sym n)
 
 pub raise_rows-requires-clause-as_many : goal.raise_rows-requires-clause-as_many
 raise_rows-requires-clause-as_many c =
-    let x : c.as_mut_slice.result.now ≡ c.left.inside.entries.items = c.as_mut_slice.ensures.value ∙ c.in_ok-entries.ensures.items ∙ c.as_slice-2.ensures.value in
-    let o : c.as_slice-3.result.now ≡ c.right.inside.entries.items = c.as_slice-3.ensures.value in
-    let k : c.in_ok-kinds.kinds.items ≡ c.left.inside.kinds.items = c.in_ok-kinds.ensures.items ∙ c.as_slice.ensures.value in
-    let kk : c.right.inside.kinds.items ≡ c.left.inside.kinds.items = ap (λ (m : HalfMatrix). m.kinds) c.right.view_is ∙ c.requires.same_kinds ∙ sym (ap (λ (m : HalfMatrix). m.kinds) c.left.view_is) in
-    ap length o ∙ narrow-size c.right.inside.kinds.items c.right.inside.entries.items c.right.invariant ∙ ap (λ (k : List Bool). row_start (2 * length k)) kk
-    ∙ sym (narrow-size c.left.inside.kinds.items c.left.inside.entries.items c.left.invariant) ∙ sym (ap length x)
+    let x : c.as_mut_slice.result.now ≡ c.left.inside.entries.items = c.as_mut_slice.ensures.value ∙ c.in_ok-entries.ensures.items ∙ c.as_slice.ensures.value in
+    let o : c.as_slice-2.result.now ≡ c.right.inside.entries.items = c.as_slice-2.ensures.value in
+    let k : c.in_ok-kinds.kinds ≡ c.left.inside.kinds = c.in_ok-kinds.ensures.items in
+    let kk : c.right.inside.kinds ≡ c.left.inside.kinds = ap (λ (m : HalfMatrix). m.kinds) c.right.view_is ∙ c.requires.same_kinds ∙ sym (ap (λ (m : HalfMatrix). m.kinds) c.left.view_is) in
+    ap length o ∙ narrow-size c.right.inside.kinds c.right.inside.entries.items c.right.invariant ∙ ap (λ (k : List Bool). row_start (2 * length k)) kk
+    ∙ sym (narrow-size c.left.inside.kinds c.left.inside.entries.items c.left.invariant) ∙ sym (ap length x)
 
 pub raise_rows-requires-clause-entries : goal.raise_rows-requires-clause-entries
 raise_rows-requires-clause-entries c =
-    let x : c.as_mut_slice.result.now ≡ c.left.inside.entries.items = c.as_mut_slice.ensures.value ∙ c.in_ok-entries.ensures.items ∙ c.as_slice-2.ensures.value in
+    let x : c.as_mut_slice.result.now ≡ c.left.inside.entries.items = c.as_mut_slice.ensures.value ∙ c.in_ok-entries.ensures.items ∙ c.as_slice.ensures.value in
     subst (AreEntries (2 ^ 25)) (sym x) c.left.invariant.entries
 
 pub raise_rows-requires-clause-others : goal.raise_rows-requires-clause-others
-raise_rows-requires-clause-others c = subst (AreEntries (2 ^ 25)) (sym c.as_slice-3.ensures.value) c.right.invariant.entries
+raise_rows-requires-clause-others c = subst (AreEntries (2 ^ 25)) (sym c.as_slice-2.ensures.value) c.right.invariant.entries
 
 pub returns-then-raise_rows : goal.returns-then-raise_rows
 returns-then-raise_rows c =
-    let x : c.as_mut_slice.result.now ≡ c.left.inside.entries.items = c.as_mut_slice.ensures.value ∙ c.in_ok-entries.ensures.items ∙ c.as_slice-2.ensures.value in
-    let o : c.as_slice-3.result.now ≡ c.right.inside.entries.items = c.as_slice-3.ensures.value in
-    let k : c.in_ok-kinds.kinds.items ≡ c.left.inside.kinds.items = c.in_ok-kinds.ensures.items ∙ c.as_slice.ensures.value in
-    let kk : c.right.inside.kinds.items ≡ c.left.inside.kinds.items = ap (λ (m : HalfMatrix). m.kinds) c.right.view_is ∙ c.requires.same_kinds ∙ sym (ap (λ (m : HalfMatrix). m.kinds) c.left.view_is) in
+    let x : c.as_mut_slice.result.now ≡ c.left.inside.entries.items = c.as_mut_slice.ensures.value ∙ c.in_ok-entries.ensures.items ∙ c.as_slice.ensures.value in
+    let o : c.as_slice-2.result.now ≡ c.right.inside.entries.items = c.as_slice-2.ensures.value in
+    let k : c.in_ok-kinds.kinds ≡ c.left.inside.kinds = c.in_ok-kinds.ensures.items in
+    let kk : c.right.inside.kinds ≡ c.left.inside.kinds = ap (λ (m : HalfMatrix). m.kinds) c.right.view_is ∙ c.requires.same_kinds ∙ sym (ap (λ (m : HalfMatrix). m.kinds) c.left.view_is) in
     let w : (with_items c.in_ok-entries.entries c.raise_rows.new.entries).items ≡ c.raise_rows.new.entries = with_items_is c.in_ok-entries.entries c.raise_rows.new.entries (c.raise_rows.auto.entries ∙ c.as_mut_slice.ensures.len) in
-    let n : c.len.result ≡ length c.left.inside.kinds.items = omega arith in
+    let n : length c.list.result.now ≡ length c.left.inside.kinds = ap length c.list.ensures.value in
     let true_is : c.raise_rows.result ≡ true = cc in
-    let kept : Widens c.args.thresholds.now (2 * length c.left.inside.kinds.items) c.left.inside.entries.items c.right.inside.entries.items c.raise_rows.new.entries =
+    let kept : Widens c.args.thresholds.now (2 * length c.left.inside.kinds) c.left.inside.entries.items c.right.inside.entries.items c.raise_rows.new.entries =
     λ i j hi wj. subst (λ (v : List ℤ). IsWidened c.args.thresholds.now (is_single i j) (at v (row_start i + j)) (at c.right.inside.entries.items (row_start i + j)) (at c.raise_rows.new.entries (row_start i + j))) x
     (subst (λ (v : List ℤ). IsWidened c.args.thresholds.now (is_single i j) (at c.as_mut_slice.result.now (row_start i + j)) (at v (row_start i + j)) (at c.raise_rows.new.entries (row_start i + j))) o (c.raise_rows.ensures.kept true_is i j (omega arith) wj)) in
     record {
-      widens = subst (λ (a : HalfMatrix). HasEntries a.kinds (widened c.args.thresholds.now a c.args.right.now) (held c.in_ok-kinds.kinds.items (with_items c.in_ok-entries.entries c.raise_rows.new.entries).items)) c.left.view_is
-          (subst (λ (b : HalfMatrix). HasEntries c.left.inside.kinds.items (widened c.args.thresholds.now (held c.left.inside.kinds.items c.left.inside.entries.items) b) (held c.in_ok-kinds.kinds.items (with_items c.in_ok-entries.entries c.raise_rows.new.entries).items)) c.right.view_is
-          (subst (λ (k : List Bool). HasEntries c.left.inside.kinds.items (widened c.args.thresholds.now (held c.left.inside.kinds.items c.left.inside.entries.items) (held c.right.inside.kinds.items c.right.inside.entries.items)) (held k (with_items c.in_ok-entries.entries c.raise_rows.new.entries).items)) (sym k)
-          (subst (λ (x : List ℤ). HasEntries c.left.inside.kinds.items (widened c.args.thresholds.now (held c.left.inside.kinds.items c.left.inside.entries.items) (held c.right.inside.kinds.items c.right.inside.entries.items)) (held c.left.inside.kinds.items x)) (sym w)
-          (widened-held c.args.thresholds.now c.left.inside.kinds.items c.right.inside.kinds.items c.left.inside.entries.items c.right.inside.entries.items c.raise_rows.new.entries c.left.invariant c.right.invariant kk (c.raise_rows.auto.entries ∙ ap length x) kept (c.raise_rows.ensures.entries true_is)))));
+      widens = subst (λ (a : HalfMatrix). HasEntries a.kinds (widened c.args.thresholds.now a c.args.right.now) (held c.in_ok-kinds.kinds (with_items c.in_ok-entries.entries c.raise_rows.new.entries).items)) c.left.view_is
+          (subst (λ (b : HalfMatrix). HasEntries c.left.inside.kinds (widened c.args.thresholds.now (held c.left.inside.kinds c.left.inside.entries.items) b) (held c.in_ok-kinds.kinds (with_items c.in_ok-entries.entries c.raise_rows.new.entries).items)) c.right.view_is
+          (subst (λ (k : List Bool). HasEntries c.left.inside.kinds (widened c.args.thresholds.now (held c.left.inside.kinds c.left.inside.entries.items) (held c.right.inside.kinds c.right.inside.entries.items)) (held k (with_items c.in_ok-entries.entries c.raise_rows.new.entries).items)) (sym k)
+          (subst (λ (x : List ℤ). HasEntries c.left.inside.kinds (widened c.args.thresholds.now (held c.left.inside.kinds c.left.inside.entries.items) (held c.right.inside.kinds c.right.inside.entries.items)) (held c.left.inside.kinds x)) (sym w)
+          (widened-held c.args.thresholds.now c.left.inside.kinds c.right.inside.kinds c.left.inside.entries.items c.right.inside.entries.items c.raise_rows.new.entries c.left.invariant c.right.invariant kk (c.raise_rows.auto.entries ∙ ap length x) kept (c.raise_rows.ensures.entries true_is)))));
     }
 
 pub invariant_of-result : goal.invariant_of-result
 invariant_of-result c =
-    let x : c.as_mut_slice.result.now ≡ c.left.inside.entries.items = c.as_mut_slice.ensures.value ∙ c.in_ok-entries.ensures.items ∙ c.as_slice-2.ensures.value in
-    let o : c.as_slice-3.result.now ≡ c.right.inside.entries.items = c.as_slice-3.ensures.value in
-    let k : c.in_ok-kinds.kinds.items ≡ c.left.inside.kinds.items = c.in_ok-kinds.ensures.items ∙ c.as_slice.ensures.value in
-    let kk : c.right.inside.kinds.items ≡ c.left.inside.kinds.items = ap (λ (m : HalfMatrix). m.kinds) c.right.view_is ∙ c.requires.same_kinds ∙ sym (ap (λ (m : HalfMatrix). m.kinds) c.left.view_is) in
+    let x : c.as_mut_slice.result.now ≡ c.left.inside.entries.items = c.as_mut_slice.ensures.value ∙ c.in_ok-entries.ensures.items ∙ c.as_slice.ensures.value in
+    let o : c.as_slice-2.result.now ≡ c.right.inside.entries.items = c.as_slice-2.ensures.value in
+    let k : c.in_ok-kinds.kinds ≡ c.left.inside.kinds = c.in_ok-kinds.ensures.items in
+    let kk : c.right.inside.kinds ≡ c.left.inside.kinds = ap (λ (m : HalfMatrix). m.kinds) c.right.view_is ∙ c.requires.same_kinds ∙ sym (ap (λ (m : HalfMatrix). m.kinds) c.left.view_is) in
     let w : (with_items c.in_ok-entries.entries c.raise_rows.new.entries).items ≡ c.raise_rows.new.entries = with_items_is c.in_ok-entries.entries c.raise_rows.new.entries (c.raise_rows.auto.entries ∙ c.as_mut_slice.ensures.len) in
-    let n : c.len.result ≡ length c.left.inside.kinds.items = omega arith in
+    let n : length c.list.result.now ≡ length c.left.inside.kinds = ap length c.list.ensures.value in
     let true_is : c.raise_rows.result ≡ true = cc in
-    let kept : Widens c.args.thresholds.now (2 * length c.left.inside.kinds.items) c.left.inside.entries.items c.right.inside.entries.items c.raise_rows.new.entries =
+    let kept : Widens c.args.thresholds.now (2 * length c.left.inside.kinds) c.left.inside.entries.items c.right.inside.entries.items c.raise_rows.new.entries =
     λ i j hi wj. subst (λ (v : List ℤ). IsWidened c.args.thresholds.now (is_single i j) (at v (row_start i + j)) (at c.right.inside.entries.items (row_start i + j)) (at c.raise_rows.new.entries (row_start i + j))) x
     (subst (λ (v : List ℤ). IsWidened c.args.thresholds.now (is_single i j) (at c.as_mut_slice.result.now (row_start i + j)) (at v (row_start i + j)) (at c.raise_rows.new.entries (row_start i + j))) o (c.raise_rows.ensures.kept true_is i j (omega arith) wj)) in
     subst (λ (k : List Bool). IsNarrow k (with_items c.in_ok-entries.entries c.raise_rows.new.entries).items) (sym k)
-    (subst (λ (x : List ℤ). IsNarrow c.left.inside.kinds.items x) (sym w) (widened-narrow c.args.thresholds.now c.left.inside.kinds.items c.right.inside.kinds.items c.left.inside.entries.items c.right.inside.entries.items c.raise_rows.new.entries c.left.invariant c.right.invariant kk (c.raise_rows.auto.entries ∙ ap length x) kept (c.raise_rows.ensures.entries true_is)))
+    (subst (λ (x : List ℤ). IsNarrow c.left.inside.kinds x) (sym w) (widened-narrow c.args.thresholds.now c.left.inside.kinds c.right.inside.kinds c.left.inside.entries.items c.right.inside.entries.items c.raise_rows.new.entries c.left.invariant c.right.invariant kk (c.raise_rows.auto.entries ∙ ap length x) kept (c.raise_rows.ensures.entries true_is)))

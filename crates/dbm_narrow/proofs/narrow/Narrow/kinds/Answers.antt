@@ -10,4 +10,4 @@ returns-clause-matrix c = subst IsMatrix c.self.view_is c.self.invariant.matrix
 
 pub returns-clause-within : goal.returns-clause-within
 returns-clause-within c = subst (λ (m : HalfMatrix). AreWithin (nodes m) (2 ^ 25) (entry m)) c.self.view_is
-    (held-within (2 ^ 25) c.self.inside.kinds.items c.self.inside.entries.items (2 * length c.self.inside.kinds.items) (omega arith) c.self.invariant.entries)
+    (held-within (2 ^ 25) c.self.inside.kinds c.self.inside.entries.items (2 * length c.self.inside.kinds) (omega arith) c.self.invariant.entries)

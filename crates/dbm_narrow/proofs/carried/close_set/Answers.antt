@@ -1,0 +1,28 @@
+use Rattle.std.specs.Prelude.{◌≡◌, List, Bool, ℤ}
+use Rattle.std.proofs.Common.{sym, ◌∙◌, ap, subst}
+use Rattle.dbm_close.specs.CloseOf.{close_of}
+use Rattle.dbm_close.specs.declared.closed.Closed.TheVariants.{Matrix}
+use Rattle.dbm_core.specs.Half.{HalfMatrix, entry, nodes}
+use Rattle.dbm_incremental.specs.ClosedMatrices.{IsStrong}
+use Rattle.dbm_narrow.specs.Entries.{held}
+use Rattle.dbm_narrow.specs.Rounds.{IsNarrow}
+use Rattle.dbm_narrow.proofs.carried.close_set.Goals as goal
+
+pub close_strong-requires-clause-narrow : goal.close_strong-requires-clause-narrow
+close_strong-requires-clause-narrow c =
+    subst (λ (k : List Bool). IsNarrow k c.as_slice.result.now) (sym c.list.ensures.value) (subst (λ (x : List ℤ). IsNarrow c.set.inside.kinds x) (sym c.as_slice.ensures.value) c.set.invariant)
+
+pub close_strong-requires-clause-strong : goal.close_strong-requires-clause-strong
+close_strong-requires-clause-strong c =
+    let e : held c.list.result.now c.as_slice.result.now ≡ c.args.set = ap (λ k. held k c.as_slice.result.now) c.list.ensures.value ∙ ap (held c.set.inside.kinds) c.as_slice.ensures.value ∙ c.set.view_is in
+    subst (λ (m : HalfMatrix). IsStrong (nodes m) (entry m)) (sym e) c.requires.strong
+
+pub returns-in-Closed : goal.returns-in-Closed
+returns-in-Closed c =
+    let e : held c.list.result.now c.as_slice.result.now ≡ c.args.set = ap (λ k. held k c.as_slice.result.now) c.list.ensures.value ∙ ap (held c.set.inside.kinds) c.as_slice.ensures.value ∙ c.set.view_is in
+    record { closing = ap close_of (sym e) ∙ c.in-Closed.ensures.outcome.0 ∙ ap Matrix e }
+
+pub returns-in-Empty : goal.returns-in-Empty
+returns-in-Empty c =
+    let e : held c.list.result.now c.as_slice.result.now ≡ c.args.set = ap (λ k. held k c.as_slice.result.now) c.list.ensures.value ∙ ap (held c.set.inside.kinds) c.as_slice.ensures.value ∙ c.set.view_is in
+    record { closing = ap close_of (sym e) ∙ c.in-Empty.ensures.outcome }

@@ -1,0 +1,13 @@
+use Rattle.std.specs.Prelude.{ℕ, ◌*◌, Option, ℤ, length}
+use Rattle.std.proofs.Common.{drop}
+use Rattle.dbm_core.specs.Half.{entry}
+use Rattle.dbm_incremental.proofs.AllLemmas.{IsLoweredSoFar}
+use Rattle.dbm_incremental.specs.Steps.{AreBounds}
+use Rattle.dbm_narrow.specs.Entries.{held}
+use Rattle.dbm_narrow.proofs.met.are_met.Given as goal
+
+abbrev pub invariant-loop-bound : goal.invariant-loop-bound
+invariant-loop-bound l = record {
+  rest : AreBounds (2 * length l.kinds) (drop l.bound-index l.bounds);
+  so_far : (w : ℕ → ℕ → Option ℤ) × IsLoweredSoFar (entry (held l.kinds l.entries)) (2 * length l.kinds) l.bounds (drop l.bound-index l.bounds) (entry (held l.kinds l.entries)) w;
+}

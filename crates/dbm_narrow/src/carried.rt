@@ -1,0 +1,46 @@
+//! A slot that stands for a node plus a number, closed.
+ghost use Rattle.std.specs.Prelude.{◌<◌, IfOk, length};
+ghost use Rattle.dbm_core.specs.Half.{entry, nodes};
+ghost use Rattle.dbm_incremental.specs.ClosedMatrices.{IsClosed, IsStrong};
+ghost use Rattle.dbm_narrow.specs.Carried.{IsClosingStood};
+ghost use Rattle.dbm_narrow.specs.Closed.{IsClosing};
+
+use crate::Narrow;
+use crate::closed::Closing;
+use crate::closing::{ClosingResult, close_strong};
+use crate::stands::stood;
+use base_values::Memory;
+use std::alloc::Global;
+
+/// A closed matrix in which slot q stands for node y plus c, its own or another's, closed: it stays as
+/// it is, unless a range is empty.
+pub fn close_carried(
+    alloc: Global,
+    closed: &Narrow,
+    q: usize,
+    y: usize,
+    c: i128,
+) -> Result<Closing, Memory>
+    requires slot { q < length closed.now.kinds }
+    requires node { y < nodes closed.now }
+    requires closed { IsClosed closed.now }
+    ensures closing { IfOk result (IsClosingStood closed.now q y c) }
+{
+    let _kinds = closed.kinds.list();
+    match stood(alloc, closed, q, y, c)? {
+        None => Ok(Closing::TooWide),
+        Some(set) => Ok(close_set(set)),
+    }
+}
+
+// Closes the matrix that is made.
+fn close_set(set: Narrow) -> Closing
+    requires strong { IsStrong (nodes set) (entry set) }
+    ensures closing { IsClosing set result }
+{
+    match close_strong(set.kinds.list(), set.entries.as_slice()) {
+        ClosingResult::Closed => Closing::Matrix(set),
+        ClosingResult::Empty => Closing::Empty,
+        ClosingResult::TooWide => Closing::TooWide,
+    }
+}
