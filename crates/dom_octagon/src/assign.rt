@@ -20,8 +20,8 @@ use base_values::Memory;
 use dbm_core::{Matrix, other_sign};
 use dom_octagon_meaning::Form;
 use dom_octagon_states::{
-    Bounds, OctagonState, bounds_of, close_equation, close_kept, closed_matrix, forget, is_whole,
-    matrix_of_bounds, stood,
+    Bounds, OctagonState, bounds_of, close_equation, close_kept, close_stood, closed_matrix,
+    forget, is_whole, matrix_of_bounds,
 };
 use num_bounds::Range;
 use std::alloc::Global;
@@ -178,23 +178,6 @@ fn close_constant(alloc: Global, m: &Bounds, x: usize, c: i128) -> Result<Octago
     close_form(alloc, m, x, Form::Constant(c))
 }
 
-/// The same in either form: slot x stands for its own node, where the narrow form fits.
-fn carried_bounds(alloc: Global, m: &Bounds, x: usize, i: usize, c: i128) -> Result<Bounds, Memory>
-    requires tight { IsTight m.now }
-    requires small { IsWithin (2 ^ 64) (Some c) }
-    ensures value { IfOk result (λ r. r ≡ matrices.carried m.now x i c) }
-    ensures ready { IfOk result IsReady }
-{
-    let slots = m.kinds().len();
-    if x < slots && i / 2 == x {
-        match stood(alloc, m, x, i, c)? {
-            Some(set) => return Ok(set),
-            None => {}
-        }
-    }
-    bounds_of(alloc, carried(alloc, m, x, i, c)?)
-}
-
 /// A closed matrix whose slot x gets its own node i and a constant, closed.
 fn close_carried(
     alloc: Global,
@@ -207,7 +190,15 @@ fn close_carried(
     requires small { IsWithin (2 ^ 64) (Some c) }
     ensures exact { IfOk result (λ s. s ≡ close_of (matrices.carried m.now x i c)) }
 {
-    let set = carried_bounds(alloc, m, x, i, c)?;
+    let slots = m.kinds().len();
+    if x < slots && i / 2 == x {
+        match close_stood(alloc, m, x, i, c)? {
+            Some(state) => return Ok(state),
+            None => {}
+        }
+    }
+    let plain = carried(alloc, m, x, i, c)?;
+    let set = bounds_of(alloc, plain)?;
     close_kept(alloc, m, &set)
 }
 

@@ -16,6 +16,7 @@ use Rattle.dbm_incremental.specs.Equations.{ClosesEquated}
 use Rattle.dbm_incremental.specs.Far.{IsBelowHalf}
 use Rattle.dbm_incremental.specs.Steps.{ClosesAllLowered}
 use Rattle.dbm_incremental.specs.declared.bounds.Bound.{Bound}
+use Rattle.dbm_narrow.specs.Carried.{ClosesStood, IsClosingStood}
 use Rattle.dbm_narrow.specs.Closed.{IsClosing, IsClosingEquated, IsClosingLowered}
 use Rattle.dbm_narrow.specs.declared.closed.Closing.{Closing}
 use Rattle.dbm_narrow.specs.declared.closed.Closing.TheVariants.{Empty, Matrix, TooWide}
@@ -78,6 +79,16 @@ pub equated_is : (m : HalfMatrix) (q y : ℕ) (c : ℤ) (a : Closing) → IsClos
 equated_is m q y c Empty h = h
 equated_is m q y c (Matrix n) h = h.0
 equated_is m q y c TooWide h = tt
+
+pub stood_closed : (m : HalfMatrix) (q y : ℕ) (c : ℤ) (a : Closing) → IsClosingStood m q y c a → IsClosedIf a
+stood_closed m q y c Empty h = tt
+stood_closed m q y c (Matrix n) h = h.1
+stood_closed m q y c TooWide h = tt
+
+pub stood_is : (m : HalfMatrix) (q y : ℕ) (c : ℤ) (a : Closing) → IsClosingStood m q y c a → MatchOption (closed_if a) (Unit {0}) (ClosesStood m q y c)
+stood_is m q y c Empty h = h
+stood_is m q y c (Matrix n) h = h.0
+stood_is m q y c TooWide h = tt
 
 -- what holds of a value holds of the answer that is that value
 pub same_if_ok : {A E : Type 0} (r : Result A E) (a : A) (P : A → Type 0) → IfOk r (λ x. x ≡ a) → P a → IfOk r P

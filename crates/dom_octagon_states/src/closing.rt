@@ -7,6 +7,7 @@ ghost use Rattle.dbm_incremental.specs.Answers.{IsClosedAnswer};
 ghost use Rattle.dbm_incremental.specs.ClosedMatrices.{IsClosed, IsWhole};
 ghost use Rattle.dbm_incremental.specs.Equations.{ClosesEquated};
 ghost use Rattle.dbm_incremental.specs.Steps.{AreBounds, ClosesAllLowered};
+ghost use Rattle.dbm_narrow.specs.Carried.{ClosesStood};
 ghost use Rattle.dom_octagon_states.specs.Held.{IsClosedIf, closed_if};
 ghost use Rattle.dom_octagon_states.specs.Limits.{IsReady, IsTight, ObeysTriangles};
 
@@ -141,10 +142,16 @@ pub fn close_after_bounds(
     ensures closed { IfOk result (ClosesAllLowered m.now bounds.now) }
 {
     match &m.held {
-        Held::Small(narrow) => match bounds_small(alloc, narrow.as_ref(), bounds)? {
-            Some(state) => Ok(state),
-            None => bounds_wide(alloc, m, bounds),
-        },
+        Held::Small(narrow) => {
+            if dbm_narrow::meets(narrow.as_ref(), bounds) {
+                let same = m.copy()?;
+                return Ok(bounded(same));
+            }
+            match bounds_small(alloc, narrow.as_ref(), bounds)? {
+                Some(state) => Ok(state),
+                None => bounds_wide(alloc, m, bounds),
+            }
+        }
         Held::Large(_) => bounds_wide(alloc, m, bounds),
     }
 }
@@ -240,4 +247,40 @@ fn equation_wide(
         alloc,
         dbm_incremental::close_equation(alloc, &matrix, q, y, c)?,
     )
+}
+
+/// A closed matrix in which slot q stands for node y plus c, its own or another's, closed, if it fits the
+/// narrow form.
+pub fn close_stood(
+    alloc: Global,
+    m: &Bounds,
+    q: usize,
+    y: usize,
+    c: i128,
+) -> Result<Option<OctagonState>, Memory>
+    requires slot { q < length m.now.kinds }
+    requires node { y < nodes m.now }
+    requires closed { IsClosed m.now }
+    ensures stood { IfOk result (λ o. IfSome o (ClosesStood m.now q y c)) }
+{
+    match &m.held {
+        Held::Small(narrow) => stood_small(alloc, narrow.as_ref(), q, y, c),
+        Held::Large(_) => Ok(None),
+    }
+}
+
+// The same of a narrow matrix.
+fn stood_small(
+    alloc: Global,
+    m: &Narrow,
+    q: usize,
+    y: usize,
+    c: i128,
+) -> Result<Option<OctagonState>, Memory>
+    requires slot { q < length m.now.kinds }
+    requires node { y < nodes m.now }
+    requires closed { IsClosed m.now }
+    ensures stood { IfOk result (λ o. IfSome o (ClosesStood m.now q y c)) }
+{
+    answered_if(alloc, dbm_narrow::close_carried(alloc, m, q, y, c)?)
 }

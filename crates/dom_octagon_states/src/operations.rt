@@ -5,7 +5,6 @@ ghost use Rattle.dbm_core.specs.Half.{HasEntries, entry, nodes};
 ghost use Rattle.dbm_core.specs.Limits.{AreWithin};
 ghost use Rattle.dbm_core.specs.Operations.{forgotten, joined, widened};
 ghost use Rattle.dbm_incremental.specs.ClosedMatrices.{IsClosed, IsWhole};
-ghost use Rattle.dbm_narrow.specs.Standing.{StandsIf};
 ghost use Rattle.dbm_narrow.specs.Widenings.{WidensIf};
 ghost use Rattle.dom_octagon_states.specs.Held.{IsSmallIf};
 ghost use Rattle.dom_octagon_states.specs.Limits.{IsInLimits};
@@ -129,26 +128,4 @@ fn is_small(narrow: &Narrow) -> bool
 {
     let _kinds = narrow.kinds();
     true
-}
-
-/// A closed matrix in which slot q stands for node y plus c, if it fits the narrow form.
-pub fn stood(
-    alloc: Global,
-    m: &Bounds,
-    q: usize,
-    y: usize,
-    c: i128,
-) -> Result<Option<Bounds>, Memory>
-    requires slot { q < length m.now.kinds }
-    requires node { y < nodes m.now }
-    requires closed { IsClosed m.now }
-    ensures stood { IfOk result (StandsIf m.now q y c) }
-{
-    match &m.held {
-        Held::Small(narrow) => match dbm_narrow::stood(alloc, narrow.as_ref(), q, y, c)? {
-            Some(set) => Ok(Some(small(alloc, set)?)),
-            None => Ok(None),
-        },
-        Held::Large(_) => Ok(None),
-    }
 }
