@@ -43,7 +43,8 @@ fn verdict_for<D: Domain>(
     stmt: &SlotStmt,
     found: Found<'_, D::State>,
 ) -> Result<Verdict, Memory>
-    ensures is { IfOk result (λ v. v ≡ verdict_for (D.operations dom.now) (act_of stmt.now) found.entry) }
+    ensures is { IfOk result (λ v. v ≡ verdict_for (D.operations dom.now)
+        (act_of stmt.now) found.entry) }
 {
     match found {
         Found::Absent => Ok(Verdict::Dead),
@@ -64,7 +65,8 @@ pub fn report<D: Domain>(
     requires checked { IsSome (kind_in (act_of stmt.now)) }
     ensures id { IfOk result (λ f. f.id ≡ id) }
     ensures check { IfOk result (λ f. kind_in (act_of stmt.now) ≡ Some f.check) }
-    ensures verdict { IfOk result (λ f. f.verdict ≡ verdict_for (D.operations dom.now) (act_of stmt.now) found.entry) }
+    ensures verdict { IfOk result (λ f. f.verdict ≡ verdict_for (D.operations dom.now)
+        (act_of stmt.now) found.entry) }
 {
     let check = check_there(stmt);
     let verdict = verdict_for(alloc, dom, stmt, found)?;

@@ -91,7 +91,8 @@ impl<T> Items<T> {
 
     /// Takes the last item away, or answers `None` where there is none.
     pub fn pop(&mut self) -> Option<T>
-        ensures last { MatchOption result ((self.old ≡ []) × (self.new ≡ [])) (λ last. self.old ≡ self.new ++ last ∷ []) }
+        ensures last { MatchOption result ((self.old ≡ []) × (self.new ≡ []))
+            (λ last. self.old ≡ self.new ++ last ∷ []) }
     {
         self.items.pop()
     }

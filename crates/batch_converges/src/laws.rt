@@ -8,7 +8,8 @@ use imp_chains::thresholds_rise;
 /// Where states change a stated number of times in the rounds of a loop, from a stated round on, no answer of a
 /// checked program is an Over, from a budget on that is stated from the two.
 pub fn answers_converge<D: Domain>()
-    ensures end { (d : D) (wait : ℕ → ℕ) (most : ℕ → ℕ → ℕ) → Ending (D.operations d) wait most → Grows most → Converge (D.operations d) wait most }
+    ensures end { (d : D) (wait : ℕ → ℕ) (most : ℕ → ℕ → ℕ) → Ending (D.operations d) wait most →
+        Grows most → Converge (D.operations d) wait most }
 {
     thresholds_rise();
 }

@@ -56,9 +56,12 @@ pub fn answer<D: Domain, L: Ledger>(
     steps: &mut Steps<L>,
 ) -> Result<Answer<D::State>, QueryError>
     requires setting { setting.now ≡ setting_of setting.now.engine (routines_of prog.now) }
-    ensures answered { IfOk result (λ a. answer (D.operations dom.now) setting.now.engine (routines_of prog.now) at.now string.now ≡ Answers (value_of a)) }
-    ensures refused { IfErr result (IsRefused (answer (D.operations dom.now) setting.now.engine (routines_of prog.now) at.now string.now)) }
-    ensures sound { IfOk result (Describes (D.covers dom.now) (routines_of prog.now) at.now string.now) }
+    ensures answered { IfOk result (λ a. answer (D.operations dom.now) setting.now.engine
+        (routines_of prog.now) at.now string.now ≡ Answers (value_of a)) }
+    ensures refused { IfErr result (IsRefused (answer (D.operations dom.now) setting.now.engine
+        (routines_of prog.now) at.now string.now)) }
+    ensures sound { IfOk result (Describes (D.covers dom.now)
+        (routines_of prog.now) at.now string.now) }
 {
     let answer = answer_exactly(alloc, dom, prog, setting, at, string, steps);
     answers_are_sound::<D>();
@@ -78,7 +81,8 @@ fn answer_at<D: Domain, L: Ledger>(
     steps: &mut Steps<L>,
 ) -> Result<Answer<D::State>, QueryError>
     requires some { 0 < length plan.now.program }
-    ensures is { IsAnswer (answer_in (D.operations dom.now) plan.now.engine plan.now.program at.now string.now (In place)) result }
+    ensures is { IsAnswer (answer_in (D.operations dom.now) plan.now.engine plan.now.program at.now
+        string.now (In place)) result }
 {
     let chains = chains(alloc, &plan.view(), place, string)?;
     sum_of(alloc, dom, plan, at, chains.as_slice(), steps)
@@ -95,7 +99,8 @@ fn answer_exactly<D: Domain, L: Ledger>(
     steps: &mut Steps<L>,
 ) -> Result<Answer<D::State>, QueryError>
     requires setting { setting.now ≡ setting_of setting.now.engine (routines_of prog.now) }
-    ensures is { IsAnswer (answer (D.operations dom.now) setting.now.engine (routines_of prog.now) at.now string.now) result }
+    ensures is { IsAnswer (answer (D.operations dom.now) setting.now.engine
+        (routines_of prog.now) at.now string.now) result }
 {
     if string.len() > 2 {
         return Err(QueryError::Refused(QueryRefusal::LongString));

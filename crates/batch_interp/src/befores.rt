@@ -36,7 +36,9 @@ pub(crate) fn is_checked(action: &SlotAction) -> bool
 /// Adds a statement, if it has a check.
 #[tactic(auto, using(crate::proofs::Claimed::one_claim, crate::proofs::Claimed::no_claim, crate::proofs::Claimed::claims_both))]
 fn add_claim(number: u32, action: &SlotAction, found: &mut Items<Claim>) -> Result<(), Memory>
-    ensures added { OnOk result (map claim_of found.new ≡ map claim_of found.old ++ claims (checked_one number (effect_of action.now) (check_of (effect_of action.now)))) }
+    ensures added { OnOk result (map claim_of found.new ≡ map claim_of found.old
+        ++ claims (checked_one number (effect_of action.now)
+        (check_of (effect_of action.now)))) }
 {
     if is_checked(action) {
         let action = action.clone()?;
@@ -50,7 +52,8 @@ fn add_claim(number: u32, action: &SlotAction, found: &mut Items<Claim>) -> Resu
 #[cycle(claims)]
 #[tactic(auto, using(imp_slots::specs::BlockFalls::node_falls, crate::proofs::Claimed::claims_step, crate::proofs::Claimed::claims_end))]
 pub(crate) fn add_claims(block: &SlotBlock, found: &mut Items<Claim>) -> Result<(), Memory>
-    ensures added { OnOk result (map claim_of found.new ≡ map claim_of found.old ++ claims (checked_in block.now)) }
+    ensures added { OnOk result (map claim_of found.new ≡ map claim_of found.old
+        ++ claims (checked_in block.now)) }
 {
     for node in block.statements() {
         add_claims_in(node, found)?;
@@ -61,7 +64,8 @@ pub(crate) fn add_claims(block: &SlotBlock, found: &mut Items<Claim>) -> Result<
 #[cycle(claims)]
 #[tactic(auto, using(crate::proofs::Claimed::claims_one, crate::proofs::Claimed::claims_two))]
 fn add_claims_in(node: &SlotNode, found: &mut Items<Claim>) -> Result<(), Memory>
-    ensures added { OnOk result (map claim_of found.new ≡ map claim_of found.old ++ claims (checked_in (before_code node.now Stop))) }
+    ensures added { OnOk result (map claim_of found.new ≡ map claim_of found.old
+        ++ claims (checked_in (before_code node.now Stop))) }
 {
     match node {
         SlotNode::Simple(n, action) => add_claim(*n, action, found),
@@ -87,8 +91,14 @@ pub(crate) fn add_befores<D: Domain, L: Ledger>(
     calls: &mut Items<Entered<D::State>>,
     steps: &mut Steps<L>,
 ) -> Result<(), Memory>
-    ensures added { OnOk result (map value_of found.new ≡ map value_of found.old ++ befores (D.operations interpreter.now.dom.now) interpreter.now.plan.now interpreter.now.frame.now.place interpreter.now.frame.now.sites block.now (value_of before)) }
-    ensures calls { OnOk result (map told_of calls.new ≡ map told_of calls.old ++ calls_from (D.operations interpreter.now.dom.now) interpreter.now.plan.now interpreter.now.frame.now.place interpreter.now.frame.now.sites block.now (value_of before)) }
+    ensures added { OnOk result (map value_of found.new ≡ map value_of found.old
+        ++ befores (D.operations interpreter.now.dom.now) interpreter.now.plan.now
+        interpreter.now.frame.now.place interpreter.now.frame.now.sites block.now
+        (value_of before)) }
+    ensures calls { OnOk result (map told_of calls.new ≡ map told_of calls.old
+        ++ calls_from (D.operations interpreter.now.dom.now) interpreter.now.plan.now
+        interpreter.now.frame.now.place interpreter.now.frame.now.sites block.now
+        (value_of before)) }
 {
     let mut now = before;
     for node in block.statements() {
@@ -109,8 +119,14 @@ fn add_in_front<D: Domain, L: Ledger>(
     calls: &mut Items<Entered<D::State>>,
     steps: &mut Steps<L>,
 ) -> Result<(), Memory>
-    ensures added { OnOk result (map value_of found.new ≡ map value_of found.old ++ in_front (D.operations interpreter.now.dom.now) interpreter.now.plan.now interpreter.now.frame.now.place interpreter.now.frame.now.sites node.now (value_of before.now)) }
-    ensures calls { OnOk result (map told_of calls.new ≡ map told_of calls.old ++ calls_inside (D.operations interpreter.now.dom.now) interpreter.now.plan.now interpreter.now.frame.now.place interpreter.now.frame.now.sites node.now (value_of before.now)) }
+    ensures added { OnOk result (map value_of found.new ≡ map value_of found.old
+        ++ in_front (D.operations interpreter.now.dom.now) interpreter.now.plan.now
+        interpreter.now.frame.now.place interpreter.now.frame.now.sites node.now
+        (value_of before.now)) }
+    ensures calls { OnOk result (map told_of calls.new ≡ map told_of calls.old
+        ++ calls_inside (D.operations interpreter.now.dom.now) interpreter.now.plan.now
+        interpreter.now.frame.now.place interpreter.now.frame.now.sites node.now
+        (value_of before.now)) }
 {
     match node {
         SlotNode::Simple(_, action) => add_one(
@@ -156,8 +172,14 @@ fn add_inside<D: Domain, L: Ledger>(
     calls: &mut Items<Entered<D::State>>,
     steps: &mut Steps<L>,
 ) -> Result<(), Memory>
-    ensures added { OnOk result (map value_of found.new ≡ map value_of found.old ++ in_front (D.operations interpreter.now.dom.now) interpreter.now.plan.now interpreter.now.frame.now.place interpreter.now.frame.now.sites (node.While n cond.now body.now) (value_of before.now)) }
-    ensures calls { OnOk result (map told_of calls.new ≡ map told_of calls.old ++ calls_inside (D.operations interpreter.now.dom.now) interpreter.now.plan.now interpreter.now.frame.now.place interpreter.now.frame.now.sites (node.While n cond.now body.now) (value_of before.now)) }
+    ensures added { OnOk result (map value_of found.new ≡ map value_of found.old
+        ++ in_front (D.operations interpreter.now.dom.now) interpreter.now.plan.now
+        interpreter.now.frame.now.place interpreter.now.frame.now.sites
+        (node.While n cond.now body.now) (value_of before.now)) }
+    ensures calls { OnOk result (map told_of calls.new ≡ map told_of calls.old
+        ++ calls_inside (D.operations interpreter.now.dom.now) interpreter.now.plan.now
+        interpreter.now.frame.now.place interpreter.now.frame.now.sites
+        (node.While n cond.now body.now) (value_of before.now)) }
 {
     let head = head_from(interpreter, n, cond, body, before, steps)?;
     let inside = assumed(interpreter, cond, true, &head, steps)?;
@@ -173,7 +195,8 @@ fn add_one<D: Domain>(
     before: &Answer<D::State>,
     found: &mut Items<Answer<D::State>>,
 ) -> Result<(), Memory>
-    ensures added { OnOk result (map value_of found.new ≡ map value_of found.old ++ before_one (check_of (effect_of action.now)) (value_of before.now)) }
+    ensures added { OnOk result (map value_of found.new ≡ map value_of found.old
+        ++ before_one (check_of (effect_of action.now)) (value_of before.now)) }
 {
     if is_checked(action) {
         found.push(copy_of(alloc, dom, before)?)

@@ -35,7 +35,8 @@ pub fn behind_action<D: Domain, L: Ledger>(
     state: &D::State,
     steps: &mut Steps<L>,
 ) -> Result<D::State, Memory>
-    ensures value { IfOk result (λ t. t ≡ (D.operations dom.now).post (Does (effect_of action.now)) state.now) }
+    ensures value { IfOk result (λ t. t ≡ (D.operations dom.now).post
+        (Does (effect_of action.now)) state.now) }
 {
     let stmt = SlotStmt::Simple(action.clone()?);
     dom.post(alloc, &stmt, state, steps)
@@ -64,7 +65,9 @@ fn next_iterate<D: Domain, L: Ledger>(
     end: &D::State,
     steps: &mut Steps<L>,
 ) -> Result<D::State, Memory>
-    ensures value { IfOk result (λ t. t ≡ next_of (D.operations interpreter.now.dom.now) interpreter.now.plan.now.engine (thresholds_at interpreter.now.plan.now interpreter.now.frame.now.place) k state.now end.now) }
+    ensures value { IfOk result (λ t. t ≡ next_of (D.operations interpreter.now.dom.now)
+        interpreter.now.plan.now.engine (thresholds_at interpreter.now.plan.now
+        interpreter.now.frame.now.place) k state.now end.now) }
 {
     if k < interpreter.plan.delay() {
         interpreter.dom.join(interpreter.alloc, state, end, steps)
@@ -87,7 +90,9 @@ pub fn joined_states<D: Domain, L: Ledger>(
     others: &[D::State],
     steps: &mut Steps<L>,
 ) -> Result<D::State, Memory>
-    ensures value { IfOk result (λ t. (e : LoopOptions) → plain.State t ≡ joined (D.operations dom.now) e (plain.State first) (states others.now)) }
+    ensures value { IfOk result (λ t. (e : LoopOptions) →
+        plain.State t ≡ joined (D.operations dom.now) e (plain.State first)
+        (states others.now)) }
 {
     let mut all = first;
     for other in others {
@@ -107,7 +112,10 @@ pub(crate) fn block_answer<D: Domain, L: Ledger>(
     leaving: &mut Items<D::State>,
     steps: &mut Steps<L>,
 ) -> Result<Answer<D::State>, Memory>
-    ensures is { IfOk result (Ends leaving.old leaving.new (passed (D.operations interpreter.now.dom.now) interpreter.now.plan.now interpreter.now.frame.now.place interpreter.now.frame.now.sites block.now (plain.State state))) }
+    ensures is { IfOk result (Ends leaving.old leaving.new
+        (passed (D.operations interpreter.now.dom.now) interpreter.now.plan.now
+        interpreter.now.frame.now.place interpreter.now.frame.now.sites block.now
+        (plain.State state))) }
 {
     let mut now = state;
     for node in block.statements() {
@@ -128,7 +136,10 @@ pub(crate) fn node_answer<D: Domain, L: Ledger>(
     leaving: &mut Items<D::State>,
     steps: &mut Steps<L>,
 ) -> Result<Answer<D::State>, Memory>
-    ensures is { IfOk result (Ends leaving.old leaving.new (passed (D.operations interpreter.now.dom.now) interpreter.now.plan.now interpreter.now.frame.now.place interpreter.now.frame.now.sites (before_code node.now Stop) (plain.State state.now))) }
+    ensures is { IfOk result (Ends leaving.old leaving.new
+        (passed (D.operations interpreter.now.dom.now) interpreter.now.plan.now
+        interpreter.now.frame.now.place interpreter.now.frame.now.sites
+        (before_code node.now Stop) (plain.State state.now))) }
 {
     match node {
         SlotNode::Simple(_, action) => {
@@ -162,7 +173,11 @@ fn block_under<D: Domain, L: Ledger>(
     leaving: &mut Items<D::State>,
     steps: &mut Steps<L>,
 ) -> Result<Answer<D::State>, Memory>
-    ensures is { IfOk result (Ends leaving.old leaving.new (passed (D.operations interpreter.now.dom.now) interpreter.now.plan.now interpreter.now.frame.now.place interpreter.now.frame.now.sites block.now (plain.State ((D.operations interpreter.now.dom.now).assume cond.now sense state.now)))) }
+    ensures is { IfOk result (Ends leaving.old leaving.new
+        (passed (D.operations interpreter.now.dom.now) interpreter.now.plan.now
+        interpreter.now.frame.now.place interpreter.now.frame.now.sites block.now
+        (plain.State ((D.operations interpreter.now.dom.now).assume cond.now sense
+        state.now)))) }
 {
     let inside = interpreter
         .dom
@@ -181,7 +196,10 @@ fn if_answer<D: Domain, L: Ledger>(
     leaving: &mut Items<D::State>,
     steps: &mut Steps<L>,
 ) -> Result<Answer<D::State>, Memory>
-    ensures is { IfOk result (Ends leaving.old leaving.new (passed (D.operations interpreter.now.dom.now) interpreter.now.plan.now interpreter.now.frame.now.place interpreter.now.frame.now.sites (If 0 cond.now then.now els.now Stop) (plain.State state.now))) }
+    ensures is { IfOk result (Ends leaving.old leaving.new
+        (passed (D.operations interpreter.now.dom.now) interpreter.now.plan.now
+        interpreter.now.frame.now.place interpreter.now.frame.now.sites
+        (If 0 cond.now then.now els.now Stop) (plain.State state.now))) }
 {
     let left = match block_under(interpreter, cond, true, then, state, leaving, steps)? {
         Answer::State(left) => left,
@@ -208,7 +226,9 @@ fn while_answer<D: Domain, L: Ledger>(
     state: &D::State,
     steps: &mut Steps<L>,
 ) -> Result<Answer<D::State>, Memory>
-    ensures is { IfOk result (λ a. value_of a ≡ (passed (D.operations interpreter.now.dom.now) interpreter.now.plan.now interpreter.now.frame.now.place interpreter.now.frame.now.sites (While n cond.now body.now Stop) (plain.State state.now)).value) }
+    ensures is { IfOk result (λ a. value_of a ≡ (passed (D.operations interpreter.now.dom.now)
+        interpreter.now.plan.now interpreter.now.frame.now.place interpreter.now.frame.now.sites
+        (While n cond.now body.now Stop) (plain.State state.now)).value) }
 {
     match loop_head(interpreter, n, cond, body, state, steps)? {
         Fixed::At { head, leaving } => {
@@ -238,7 +258,15 @@ pub(crate) fn loop_head<D: Domain, L: Ledger>(
     state: &D::State,
     steps: &mut Steps<L>,
 ) -> Result<Fixed<D::State>, Memory>
-    ensures is { IfOk result (IsFixed (D.operations interpreter.now.dom.now) (head_of (D.operations interpreter.now.dom.now) interpreter.now.plan.now.engine (thresholds_at interpreter.now.plan.now interpreter.now.frame.now.place) interpreter.now.frame.now.sites n cond.now (passed (D.operations interpreter.now.dom.now) interpreter.now.plan.now interpreter.now.frame.now.place interpreter.now.frame.now.sites body.now) (plain.State state.now)) cond.now (passed (D.operations interpreter.now.dom.now) interpreter.now.plan.now interpreter.now.frame.now.place interpreter.now.frame.now.sites body.now)) }
+    ensures is { IfOk result (IsFixed (D.operations interpreter.now.dom.now)
+        (head_of (D.operations interpreter.now.dom.now) interpreter.now.plan.now.engine
+        (thresholds_at interpreter.now.plan.now interpreter.now.frame.now.place)
+        interpreter.now.frame.now.sites n cond.now (passed
+        (D.operations interpreter.now.dom.now) interpreter.now.plan.now
+        interpreter.now.frame.now.place interpreter.now.frame.now.sites body.now)
+        (plain.State state.now)) cond.now (passed (D.operations interpreter.now.dom.now)
+        interpreter.now.plan.now interpreter.now.frame.now.place interpreter.now.frame.now.sites
+        body.now)) }
 {
     let mut now = interpreter.dom.copy(interpreter.alloc, state)?;
     for k in 0..interpreter.plan.budget() {
@@ -269,7 +297,9 @@ fn call_answer<D: Domain, L: Ledger>(
     state: &D::State,
     steps: &mut Steps<L>,
 ) -> Result<Answer<D::State>, Memory>
-    ensures is { IfOk result (λ a. value_of a ≡ (passed (D.operations interpreter.now.dom.now) interpreter.now.plan.now interpreter.now.frame.now.place interpreter.now.frame.now.sites (Call n call.now callee Stop) (plain.State state.now)).value) }
+    ensures is { IfOk result (λ a. value_of a ≡ (passed (D.operations interpreter.now.dom.now)
+        interpreter.now.plan.now interpreter.now.frame.now.place interpreter.now.frame.now.sites
+        (Call n call.now callee Stop) (plain.State state.now)).value) }
 {
     let entered = interpreter
         .dom
@@ -294,7 +324,9 @@ fn callee_answer<D: Domain, L: Ledger>(
     entered: D::State,
     steps: &mut Steps<L>,
 ) -> Result<Answer<D::State>, Memory>
-    ensures is { IfOk result (λ a. value_of a ≡ calls_in (D.operations interpreter.now.dom.now) interpreter.now.plan.now interpreter.now.frame.now.place interpreter.now.frame.now.sites n callee (plain.State entered)) }
+    ensures is { IfOk result (λ a. value_of a ≡ calls_in (D.operations interpreter.now.dom.now)
+        interpreter.now.plan.now interpreter.now.frame.now.place interpreter.now.frame.now.sites
+        n callee (plain.State entered)) }
 {
     match interpreter.plan.callee(interpreter.frame.place, callee) {
         None => Ok(Answer::State(entered)),

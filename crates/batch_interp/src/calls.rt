@@ -63,7 +63,8 @@ fn add_handed<S: Drop>(
     all: &mut Items<Handed<S>>,
 ) -> Result<(), Memory>
     ensures rest { OnOk result (behind_first (reverse so_far.old) ≡ reverse so_far.new) }
-    ensures added { OnOk result (all.new ≡ all.old ++ handed_on (first_of (reverse so_far.old)) next ∷ []) }
+    ensures added { OnOk result (all.new ≡ all.old ++ handed_on (first_of (reverse so_far.old)) next
+        ∷ []) }
 {
     let handed = handed_on(alloc, so_far.pop(), next)?;
     all.push(handed)
@@ -118,7 +119,8 @@ pub(crate) fn main_handed<D: Domain, L: Ledger>(
     steps: &mut Steps<L>,
 ) -> Result<Items<Handed<D::State>>, Memory>
     requires some { 0 < length plan.now.program }
-    ensures handed { IfOk result (AreHanded (D.operations dom.now) plan.now (length plan.now.program)) }
+    ensures handed { IfOk result (AreHanded (D.operations dom.now) plan.now
+        (length plan.now.program)) }
 {
     let main = enter_main(alloc, dom, plan, steps)?;
     let mut calls = Items::new(alloc);

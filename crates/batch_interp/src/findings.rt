@@ -44,7 +44,8 @@ fn finding<D: Domain>(
     claim: &Claim,
     known: Option<&Answer<D::State>>,
 ) -> Result<Finding, Memory>
-    ensures is { IfOk result (λ f. (e : LoopOptions) → f ≡ found_from (D.operations dom.now) e (claim_of claim.now) (option_map value_of (option_copied known.entry))) }
+    ensures is { IfOk result (λ f. (e : LoopOptions) → f ≡ found_from (D.operations dom.now) e
+        (claim_of claim.now) (option_map value_of (option_copied known.entry))) }
 {
     let id = StmtId::new(claim.number);
     let stmt = SlotStmt::Simple(claim.action.clone()?);
@@ -59,7 +60,9 @@ fn add_findings<D: Domain>(
     totals: &Items<Answer<D::State>>,
     found: &mut Items<Finding>,
 ) -> Result<(), Memory>
-    ensures added { OnOk result ((e : LoopOptions) → found.new ≡ found.old ++ all_found (D.operations dom.now) e (map claim_of claims.now) (map value_of totals.now)) }
+    ensures added { OnOk result ((e : LoopOptions) → found.new ≡ found.old
+        ++ all_found (D.operations dom.now) e (map claim_of claims.now)
+        (map value_of totals.now)) }
 {
     for (i, claim) in claims.iter().enumerate() {
         found.push(finding(alloc, dom, claim, totals.get(i))?)?;
@@ -75,7 +78,9 @@ pub(crate) fn findings_of<D: Domain>(
     body: &SlotBlock,
     known: &Items<Answer<D::State>>,
 ) -> Result<Items<Finding>, Memory>
-    ensures are { IfOk result (λ fs. (e : LoopOptions) → fs ≡ all_found (D.operations dom.now) e (claims (checked_in body.now)) (map value_of known.now)) }
+    ensures are { IfOk result (λ fs. (e : LoopOptions) →
+        fs ≡ all_found (D.operations dom.now) e (claims (checked_in body.now))
+        (map value_of known.now)) }
 {
     let mut claims = Items::new(alloc);
     add_claims(body, &mut claims)?;

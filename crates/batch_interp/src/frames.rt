@@ -32,9 +32,13 @@ impl<'a> Model for Plan<'a> {
 
     ghost coded = { plan_code };
 
-    ghost view = { λ a. record { program = routines_of a.prog.now; engine = a.setting.now.engine } };
+    ghost view = { λ a. record {
+      program = routines_of a.prog.now;
+      engine = a.setting.now.engine;
+    } };
 
-    ghost invariant = { λ a. a.setting.now.thresholds ≡ map (rising.thresholds a.setting.now.engine.widening) (routines_of a.prog.now) };
+    ghost invariant = { λ a. a.setting.now.thresholds ≡ map
+        (rising.thresholds a.setting.now.engine.widening) (routines_of a.prog.now) };
 }
 
 /// The procedure of a block, and the call statements from main to it, the last one first.
@@ -59,7 +63,10 @@ impl<'a> Plan<'a> {
     /// The plan of a program by its setting.
     pub(crate) fn new(prog: &'a Checked, setting: &'a Setting) -> Plan<'a>
         requires setting { setting.now ≡ setting_of setting.now.engine (routines_of prog.now) }
-        ensures is { result ≡ record { program = routines_of prog.now; engine = setting.now.engine } }
+        ensures is { result ≡ record {
+          program = routines_of prog.now;
+          engine = setting.now.engine;
+        } }
     {
         Plan { prog, setting }
     }
@@ -136,7 +143,10 @@ impl CallFrame {
 
     /// The frame of a procedure that this one calls. It fails only when memory runs out.
     pub fn callee(&self, alloc: Global, site: u32, place: usize) -> Result<CallFrame, Memory>
-        ensures is { IfOk result (λ f. f ≡ record { place = place; sites = site ∷ self.now.sites }) }
+        ensures is { IfOk result (λ f. f ≡ record {
+          place = place;
+          sites = site ∷ self.now.sites;
+        }) }
     {
         let mut sites = Items::with_capacity(alloc, 8)?;
         sites.push(StmtId::new(site))?;

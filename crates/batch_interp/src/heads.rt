@@ -57,8 +57,14 @@ fn add_heads<D: Domain, L: Ledger>(
     calls: &mut Items<Entered<D::State>>,
     steps: &mut Steps<L>,
 ) -> Result<(), Memory>
-    ensures added { OnOk result (map loop_value found.new ≡ map loop_value found.old ++ loop_values (D.operations interpreter.now.dom.now) interpreter.now.plan.now interpreter.now.frame.now.place interpreter.now.frame.now.sites block.now (value_of before)) }
-    ensures calls { OnOk result (map told_of calls.new ≡ map told_of calls.old ++ calls_from (D.operations interpreter.now.dom.now) interpreter.now.plan.now interpreter.now.frame.now.place interpreter.now.frame.now.sites block.now (value_of before)) }
+    ensures added { OnOk result (map loop_value found.new ≡ map loop_value found.old
+        ++ loop_values (D.operations interpreter.now.dom.now) interpreter.now.plan.now
+        interpreter.now.frame.now.place interpreter.now.frame.now.sites block.now
+        (value_of before)) }
+    ensures calls { OnOk result (map told_of calls.new ≡ map told_of calls.old
+        ++ calls_from (D.operations interpreter.now.dom.now) interpreter.now.plan.now
+        interpreter.now.frame.now.place interpreter.now.frame.now.sites block.now
+        (value_of before)) }
 {
     let mut now = before;
     for node in block.statements() {
@@ -78,8 +84,14 @@ fn add_heads_in<D: Domain, L: Ledger>(
     calls: &mut Items<Entered<D::State>>,
     steps: &mut Steps<L>,
 ) -> Result<(), Memory>
-    ensures added { OnOk result (map loop_value found.new ≡ map loop_value found.old ++ values_inside (D.operations interpreter.now.dom.now) interpreter.now.plan.now interpreter.now.frame.now.place interpreter.now.frame.now.sites node.now (value_of before.now)) }
-    ensures calls { OnOk result (map told_of calls.new ≡ map told_of calls.old ++ calls_inside (D.operations interpreter.now.dom.now) interpreter.now.plan.now interpreter.now.frame.now.place interpreter.now.frame.now.sites node.now (value_of before.now)) }
+    ensures added { OnOk result (map loop_value found.new ≡ map loop_value found.old
+        ++ values_inside (D.operations interpreter.now.dom.now) interpreter.now.plan.now
+        interpreter.now.frame.now.place interpreter.now.frame.now.sites node.now
+        (value_of before.now)) }
+    ensures calls { OnOk result (map told_of calls.new ≡ map told_of calls.old
+        ++ calls_inside (D.operations interpreter.now.dom.now) interpreter.now.plan.now
+        interpreter.now.frame.now.place interpreter.now.frame.now.sites node.now
+        (value_of before.now)) }
 {
     match node {
         SlotNode::If(_, cond, then, els) => {
@@ -111,8 +123,14 @@ fn add_loop<D: Domain, L: Ledger>(
     calls: &mut Items<Entered<D::State>>,
     steps: &mut Steps<L>,
 ) -> Result<(), Memory>
-    ensures added { OnOk result (map loop_value found.new ≡ map loop_value found.old ++ values_inside (D.operations interpreter.now.dom.now) interpreter.now.plan.now interpreter.now.frame.now.place interpreter.now.frame.now.sites (node.While n cond.now body.now) (value_of before.now)) }
-    ensures calls { OnOk result (map told_of calls.new ≡ map told_of calls.old ++ calls_inside (D.operations interpreter.now.dom.now) interpreter.now.plan.now interpreter.now.frame.now.place interpreter.now.frame.now.sites (node.While n cond.now body.now) (value_of before.now)) }
+    ensures added { OnOk result (map loop_value found.new ≡ map loop_value found.old
+        ++ values_inside (D.operations interpreter.now.dom.now) interpreter.now.plan.now
+        interpreter.now.frame.now.place interpreter.now.frame.now.sites
+        (node.While n cond.now body.now) (value_of before.now)) }
+    ensures calls { OnOk result (map told_of calls.new ≡ map told_of calls.old
+        ++ calls_inside (D.operations interpreter.now.dom.now) interpreter.now.plan.now
+        interpreter.now.frame.now.place interpreter.now.frame.now.sites
+        (node.While n cond.now body.now) (value_of before.now)) }
 {
     let value = head_from(interpreter, n, cond, body, before, steps)?;
     let inside = assumed(interpreter, cond, true, &value, steps)?;
@@ -132,8 +150,12 @@ fn heads_of<D: Domain, L: Ledger>(
     steps: &mut Steps<L>,
 ) -> Result<LoopsUnder<D::State>, Memory>
     ensures chain { IfOk result (λ u. reverse u.chain ≡ entered.now.frame.sites) }
-    ensures is { IfOk result (λ u. map loop_value u.heads ≡ loop_values (D.operations dom.now) plan.now entered.now.frame.place entered.now.frame.sites body.now (value_of entered.now.before)) }
-    ensures calls { OnOk result (map told_of calls.new ≡ map told_of calls.old ++ calls_from (D.operations dom.now) plan.now entered.now.frame.place entered.now.frame.sites body.now (value_of entered.now.before)) }
+    ensures is { IfOk result (λ u. map loop_value u.heads ≡
+        loop_values (D.operations dom.now) plan.now entered.now.frame.place
+        entered.now.frame.sites body.now (value_of entered.now.before)) }
+    ensures calls { OnOk result (map told_of calls.new ≡ map told_of calls.old
+        ++ calls_from (D.operations dom.now) plan.now entered.now.frame.place
+        entered.now.frame.sites body.now (value_of entered.now.before)) }
 {
     let before = copy_of(alloc, dom, &entered.before)?;
     let chain = entered.frame.chain(alloc)?;
@@ -167,8 +189,11 @@ fn loops_under<D: Domain, L: Ledger>(
 ) -> Result<Walked<D::State>, Memory>
     requires checked { IsChecked plan.now.program }
     requires within { place < length plan.now.program }
-    requires entered { AreEntered (D.operations dom.now) plan.now place (chains plan.now.program place) entered.now }
-    ensures loops { IfOk result (λ w. map under_told w.loops ≡ told_under (D.operations dom.now) plan.now.engine plan.now.program (loops (body_at plan.now.program place)) (chains plan.now.program place)) }
+    requires entered { AreEntered (D.operations dom.now) plan.now place
+        (chains plan.now.program place) entered.now }
+    ensures loops { IfOk result (λ w. map under_told w.loops ≡
+        told_under (D.operations dom.now) plan.now.engine plan.now.program
+        (loops (body_at plan.now.program place)) (chains plan.now.program place)) }
     ensures calls { IfOk result (λ w. AreHandedBy (D.operations dom.now) plan.now place w.calls) }
 {
     let body = plan.body(place);
@@ -198,7 +223,9 @@ fn loops_at<D: Domain, L: Ledger>(
     requires checked { IsChecked plan.now.program }
     requires within { place < length plan.now.program }
     requires handed { AreHanded (D.operations dom.now) plan.now (suc place) calls }
-    ensures loops { IfOk result (λ w. map under_told w.loops ≡ told_under (D.operations dom.now) plan.now.engine plan.now.program (loops (body_at plan.now.program place)) (chains plan.now.program place)) }
+    ensures loops { IfOk result (λ w. map under_told w.loops ≡
+        told_under (D.operations dom.now) plan.now.engine plan.now.program
+        (loops (body_at plan.now.program place)) (chains plan.now.program place)) }
     ensures calls { IfOk result (λ w. AreHanded (D.operations dom.now) plan.now place w.calls) }
 {
     chains_go_through_callers();
@@ -229,7 +256,9 @@ pub fn loop_heads<D: Domain, L: Ledger>(
     steps: &mut Steps<L>,
 ) -> Result<Items<LoopsUnder<D::State>>, Memory>
     requires setting { setting.now ≡ setting_of setting.now.engine (routines_of prog.now) }
-    ensures exact { IfOk result (λ us. map under_told us ≡ all_loops_told (D.operations dom.now) setting.now.engine (routines_of prog.now) 0 (routines_of prog.now)) }
+    ensures exact { IfOk result (λ us. map under_told us ≡
+        all_loops_told (D.operations dom.now) setting.now.engine (routines_of prog.now) 0
+        (routines_of prog.now)) }
 {
     let count = few_routines(prog).len();
     let plan = Plan::new(prog, setting);

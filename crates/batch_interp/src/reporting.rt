@@ -42,7 +42,9 @@ fn findings_at<D: Domain, L: Ledger>(
     requires checked { IsChecked plan.now.program }
     requires within { place < length plan.now.program }
     requires handed { AreHanded (D.operations dom.now) plan.now (suc place) calls }
-    ensures findings { IfOk result (λ w. w.findings ≡ map (finding (D.operations dom.now) plan.now.engine plan.now.program) (checked_in (body_at plan.now.program place))) }
+    ensures findings { IfOk result (λ w. w.findings ≡ map
+        (finding (D.operations dom.now) plan.now.engine plan.now.program)
+        (checked_in (body_at plan.now.program place))) }
     ensures calls { IfOk result (λ w. AreHanded (D.operations dom.now) plan.now place w.calls) }
 {
     chains_go_through_callers();
@@ -71,8 +73,10 @@ pub fn batch_report<D: Domain, L: Ledger>(
     steps: &mut Steps<L>,
 ) -> Result<Findings, Memory>
     requires setting { setting.now ≡ setting_of setting.now.engine (routines_of prog.now) }
-    ensures exact { IfOk result (λ all. all ≡ report (D.operations dom.now) setting.now.engine (routines_of prog.now)) }
-    ensures sound { IfOk result (λ all. (f : Finding) → Contains all f → IsFindingSound (routines_of prog.now) f) }
+    ensures exact { IfOk result (λ all. all ≡ report (D.operations dom.now) setting.now.engine
+        (routines_of prog.now)) }
+    ensures sound { IfOk result (λ all. (f : Finding) → Contains all f →
+        IsFindingSound (routines_of prog.now) f) }
 {
     let found = all_findings(alloc, dom, prog, setting, steps);
     reports_are_sound::<D>();
@@ -89,7 +93,8 @@ fn all_findings<D: Domain, L: Ledger>(
     steps: &mut Steps<L>,
 ) -> Result<Findings, Memory>
     requires setting { setting.now ≡ setting_of setting.now.engine (routines_of prog.now) }
-    ensures is { IfOk result (λ all. all ≡ report (D.operations dom.now) setting.now.engine (routines_of prog.now)) }
+    ensures is { IfOk result (λ all. all ≡ report (D.operations dom.now) setting.now.engine
+        (routines_of prog.now)) }
 {
     let count = few_routines(prog).len();
     let plan = Plan::new(prog, setting);

@@ -60,7 +60,8 @@ pub(crate) fn assumed<D: Domain, L: Ledger>(
     before: &Answer<D::State>,
     steps: &mut Steps<L>,
 ) -> Result<Answer<D::State>, Memory>
-    ensures is { IfOk result (λ a. value_of a ≡ lift ((D.operations interpreter.now.dom.now).assume cond.now sense) (value_of before.now)) }
+    ensures is { IfOk result (λ a. value_of a ≡ lift ((D.operations interpreter.now.dom.now).assume
+        cond.now sense) (value_of before.now)) }
 {
     match before {
         Answer::State(state) => Ok(Answer::State(
@@ -82,7 +83,9 @@ pub(crate) fn behind_block<D: Domain, L: Ledger>(
     before: Answer<D::State>,
     steps: &mut Steps<L>,
 ) -> Result<Answer<D::State>, Memory>
-    ensures is { IfOk result (λ a. value_of a ≡ (passed (D.operations interpreter.now.dom.now) interpreter.now.plan.now interpreter.now.frame.now.place interpreter.now.frame.now.sites block.now (value_of before)).value) }
+    ensures is { IfOk result (λ a. value_of a ≡ (passed (D.operations interpreter.now.dom.now)
+        interpreter.now.plan.now interpreter.now.frame.now.place interpreter.now.frame.now.sites
+        block.now (value_of before)).value) }
 {
     match before {
         Answer::State(state) => {
@@ -100,7 +103,9 @@ pub(crate) fn behind_node<D: Domain, L: Ledger>(
     before: Answer<D::State>,
     steps: &mut Steps<L>,
 ) -> Result<Answer<D::State>, Memory>
-    ensures is { IfOk result (λ a. value_of a ≡ (passed (D.operations interpreter.now.dom.now) interpreter.now.plan.now interpreter.now.frame.now.place interpreter.now.frame.now.sites (before_code node.now Stop) (value_of before)).value) }
+    ensures is { IfOk result (λ a. value_of a ≡ (passed (D.operations interpreter.now.dom.now)
+        interpreter.now.plan.now interpreter.now.frame.now.place interpreter.now.frame.now.sites
+        (before_code node.now Stop) (value_of before)).value) }
 {
     match before {
         Answer::State(state) => {
@@ -120,7 +125,12 @@ fn head_of_state<D: Domain, L: Ledger>(
     state: &D::State,
     steps: &mut Steps<L>,
 ) -> Result<Answer<D::State>, Memory>
-    ensures is { IfOk result (λ a. value_of a ≡ (head_of (D.operations interpreter.now.dom.now) interpreter.now.plan.now.engine (thresholds_at interpreter.now.plan.now interpreter.now.frame.now.place) interpreter.now.frame.now.sites n cond.now (passed (D.operations interpreter.now.dom.now) interpreter.now.plan.now interpreter.now.frame.now.place interpreter.now.frame.now.sites body.now) (State state.now)).value) }
+    ensures is { IfOk result (λ a. value_of a ≡ (head_of (D.operations interpreter.now.dom.now)
+        interpreter.now.plan.now.engine (thresholds_at interpreter.now.plan.now
+        interpreter.now.frame.now.place) interpreter.now.frame.now.sites n cond.now
+        (passed (D.operations interpreter.now.dom.now) interpreter.now.plan.now
+        interpreter.now.frame.now.place interpreter.now.frame.now.sites body.now)
+        (State state.now)).value) }
 {
     match loop_head(interpreter, n, cond, body, state, steps)? {
         Fixed::At { head, leaving: _ } => Ok(Answer::State(head)),
@@ -137,7 +147,12 @@ pub(crate) fn head_answer<D: Domain, L: Ledger>(
     before: Answer<D::State>,
     steps: &mut Steps<L>,
 ) -> Result<Answer<D::State>, Memory>
-    ensures is { IfOk result (λ a. value_of a ≡ (head_of (D.operations interpreter.now.dom.now) interpreter.now.plan.now.engine (thresholds_at interpreter.now.plan.now interpreter.now.frame.now.place) interpreter.now.frame.now.sites n cond.now (passed (D.operations interpreter.now.dom.now) interpreter.now.plan.now interpreter.now.frame.now.place interpreter.now.frame.now.sites body.now) (value_of before)).value) }
+    ensures is { IfOk result (λ a. value_of a ≡ (head_of (D.operations interpreter.now.dom.now)
+        interpreter.now.plan.now.engine (thresholds_at interpreter.now.plan.now
+        interpreter.now.frame.now.place) interpreter.now.frame.now.sites n cond.now
+        (passed (D.operations interpreter.now.dom.now) interpreter.now.plan.now
+        interpreter.now.frame.now.place interpreter.now.frame.now.sites body.now)
+        (value_of before)).value) }
 {
     match before {
         Answer::State(state) => head_of_state(interpreter, n, cond, body, &state, steps),
@@ -154,7 +169,12 @@ pub(crate) fn head_from<D: Domain, L: Ledger>(
     before: &Answer<D::State>,
     steps: &mut Steps<L>,
 ) -> Result<Answer<D::State>, Memory>
-    ensures is { IfOk result (λ a. value_of a ≡ (head_of (D.operations interpreter.now.dom.now) interpreter.now.plan.now.engine (thresholds_at interpreter.now.plan.now interpreter.now.frame.now.place) interpreter.now.frame.now.sites n cond.now (passed (D.operations interpreter.now.dom.now) interpreter.now.plan.now interpreter.now.frame.now.place interpreter.now.frame.now.sites body.now) (value_of before.now)).value) }
+    ensures is { IfOk result (λ a. value_of a ≡ (head_of (D.operations interpreter.now.dom.now)
+        interpreter.now.plan.now.engine (thresholds_at interpreter.now.plan.now
+        interpreter.now.frame.now.place) interpreter.now.frame.now.sites n cond.now
+        (passed (D.operations interpreter.now.dom.now) interpreter.now.plan.now
+        interpreter.now.frame.now.place interpreter.now.frame.now.sites body.now)
+        (value_of before.now)).value) }
 {
     match before {
         Answer::State(state) => head_of_state(interpreter, n, cond, body, state, steps),
@@ -187,7 +207,12 @@ pub(crate) fn seek<'a, D: Domain, L: Ledger>(
     number: u32,
     steps: &mut Steps<L>,
 ) -> Result<Option<Seen<'a, D::State>>, Memory>
-    ensures is { IfOk result (λ s. option_map (spot_of (D.operations interpreter.now.dom.now) interpreter.now.plan.now interpreter.now.frame.now.place interpreter.now.frame.now.sites) s ≡ find number (places (D.operations interpreter.now.dom.now) interpreter.now.plan.now interpreter.now.frame.now.place interpreter.now.frame.now.sites block.now (value_of before))) }
+    ensures is { IfOk result (λ s. option_map (spot_of (D.operations interpreter.now.dom.now)
+        interpreter.now.plan.now interpreter.now.frame.now.place
+        interpreter.now.frame.now.sites) s ≡ find number
+        (places (D.operations interpreter.now.dom.now) interpreter.now.plan.now
+        interpreter.now.frame.now.place interpreter.now.frame.now.sites block.now
+        (value_of before))) }
 {
     let mut now = before;
     for node in block.statements() {
@@ -211,7 +236,12 @@ fn seek_inside<'a, D: Domain, L: Ledger>(
     number: u32,
     steps: &mut Steps<L>,
 ) -> Result<Option<Seen<'a, D::State>>, Memory>
-    ensures is { IfOk result (λ s. option_map (spot_of (D.operations interpreter.now.dom.now) interpreter.now.plan.now interpreter.now.frame.now.place interpreter.now.frame.now.sites) s ≡ find number (inner_of (D.operations interpreter.now.dom.now) interpreter.now.plan.now interpreter.now.frame.now.place interpreter.now.frame.now.sites node.now (value_of before))) }
+    ensures is { IfOk result (λ s. option_map (spot_of (D.operations interpreter.now.dom.now)
+        interpreter.now.plan.now interpreter.now.frame.now.place
+        interpreter.now.frame.now.sites) s ≡ find number
+        (inner_of (D.operations interpreter.now.dom.now) interpreter.now.plan.now
+        interpreter.now.frame.now.place interpreter.now.frame.now.sites node.now
+        (value_of before))) }
 {
     match node {
         SlotNode::If(_, cond, then, els) => {
@@ -242,7 +272,13 @@ fn seek_under<'a, D: Domain, L: Ledger>(
     number: u32,
     steps: &mut Steps<L>,
 ) -> Result<Option<Seen<'a, D::State>>, Memory>
-    ensures is { IfOk result (λ s. option_map (spot_of (D.operations interpreter.now.dom.now) interpreter.now.plan.now interpreter.now.frame.now.place interpreter.now.frame.now.sites) s ≡ find number (places (D.operations interpreter.now.dom.now) interpreter.now.plan.now interpreter.now.frame.now.place interpreter.now.frame.now.sites block.now (lift ((D.operations interpreter.now.dom.now).assume cond.now sense) (value_of before)))) }
+    ensures is { IfOk result (λ s. option_map (spot_of (D.operations interpreter.now.dom.now)
+        interpreter.now.plan.now interpreter.now.frame.now.place
+        interpreter.now.frame.now.sites) s ≡ find number
+        (places (D.operations interpreter.now.dom.now) interpreter.now.plan.now
+        interpreter.now.frame.now.place interpreter.now.frame.now.sites block.now
+        (lift ((D.operations interpreter.now.dom.now).assume cond.now sense)
+        (value_of before)))) }
 {
     let inside = assumed(interpreter, cond, sense, &before, steps)?;
     seek(interpreter, block, inside, number, steps)

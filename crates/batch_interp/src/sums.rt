@@ -24,7 +24,8 @@ fn first<D: Domain, L: Ledger>(
     next: Answer<D::State>,
     steps: &mut Steps<L>,
 ) -> Result<Answer<D::State>, Memory>
-    ensures is { IfOk result (λ a. value_of a ≡ sum_with (D.operations dom.now) None (value_of next)) }
+    ensures is { IfOk result (λ a. value_of a ≡ sum_with (D.operations dom.now) None
+        (value_of next)) }
 {
     match next {
         Answer::State(state) => Ok(Answer::State(joined(alloc, dom, None, &state, steps)?)),
@@ -40,7 +41,8 @@ fn behind_state<D: Domain, L: Ledger>(
     next: Answer<D::State>,
     steps: &mut Steps<L>,
 ) -> Result<Answer<D::State>, Memory>
-    ensures is { IfOk result (λ a. value_of a ≡ sum_with (D.operations dom.now) (Some (plain.State before)) (value_of next)) }
+    ensures is { IfOk result (λ a. value_of a ≡ sum_with (D.operations dom.now)
+        (Some (plain.State before)) (value_of next)) }
 {
     match next {
         Answer::State(state) => {
@@ -59,7 +61,8 @@ fn behind<D: Domain, L: Ledger>(
     next: Answer<D::State>,
     steps: &mut Steps<L>,
 ) -> Result<Answer<D::State>, Memory>
-    ensures is { IfOk result (λ a. value_of a ≡ sum_with (D.operations dom.now) (Some (value_of before)) (value_of next)) }
+    ensures is { IfOk result (λ a. value_of a ≡ sum_with (D.operations dom.now)
+        (Some (value_of before)) (value_of next)) }
 {
     match before {
         Answer::State(state) => behind_state(alloc, dom, state, next, steps),
@@ -76,7 +79,8 @@ pub(crate) fn added<D: Domain, L: Ledger>(
     next: Answer<D::State>,
     steps: &mut Steps<L>,
 ) -> Result<Answer<D::State>, Memory>
-    ensures is { IfOk result (λ a. value_of a ≡ sum_with (D.operations dom.now) (option_map value_of so_far) (value_of next)) }
+    ensures is { IfOk result (λ a. value_of a ≡ sum_with (D.operations dom.now)
+        (option_map value_of so_far) (value_of next)) }
 {
     match so_far {
         None => first(alloc, dom, next, steps),
@@ -94,7 +98,10 @@ pub(crate) fn sum_of<D: Domain, L: Ledger>(
     steps: &mut Steps<L>,
 ) -> Result<Answer<D::State>, QueryError>
     requires some { 0 < length plan.now.program }
-    ensures is { IsAnswer (sum_of (D.operations dom.now) plan.now.engine (all_values (D.operations dom.now) plan.now.engine (value_at (D.operations dom.now) plan.now.engine plan.now.program at.now) (map reverse chains.now))) result }
+    ensures is { IsAnswer (sum_of (D.operations dom.now) plan.now.engine
+        (all_values (D.operations dom.now) plan.now.engine
+        (value_at (D.operations dom.now) plan.now.engine plan.now.program at.now)
+        (map reverse chains.now))) result }
 {
     let mut all = None;
     for chain in chains {

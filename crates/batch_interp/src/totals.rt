@@ -43,8 +43,12 @@ fn befores_of<D: Domain, L: Ledger>(
     calls: &mut Items<Entered<D::State>>,
     steps: &mut Steps<L>,
 ) -> Result<Items<Answer<D::State>>, Memory>
-    ensures is { IfOk result (λ vs. map value_of vs ≡ befores (D.operations dom.now) plan.now entered.now.frame.place entered.now.frame.sites body.now (value_of entered.now.before)) }
-    ensures calls { OnOk result (map told_of calls.new ≡ map told_of calls.old ++ calls_from (D.operations dom.now) plan.now entered.now.frame.place entered.now.frame.sites body.now (value_of entered.now.before)) }
+    ensures is { IfOk result (λ vs. map value_of vs ≡ befores
+        (D.operations dom.now) plan.now entered.now.frame.place entered.now.frame.sites body.now
+        (value_of entered.now.before)) }
+    ensures calls { OnOk result (map told_of calls.new ≡ map told_of calls.old
+        ++ calls_from (D.operations dom.now) plan.now entered.now.frame.place
+        entered.now.frame.sites body.now (value_of entered.now.before)) }
 {
     let before = copy_of(alloc, dom, &entered.before)?;
     let mut found = Items::new(alloc);
@@ -68,8 +72,11 @@ fn add_total<D: Domain, L: Ledger>(
     all: &mut Items<Answer<D::State>>,
     steps: &mut Steps<L>,
 ) -> Result<(), Memory>
-    ensures rest { OnOk result (behind_first (map value_of (reverse so_far.old)) ≡ map value_of (reverse so_far.new)) }
-    ensures added { OnOk result (map value_of all.new ≡ map value_of all.old ++ sum_with (D.operations dom.now) (first_of (map value_of (reverse so_far.old))) (value_of next) ∷ []) }
+    ensures rest { OnOk result (behind_first (map value_of (reverse so_far.old)) ≡
+        map value_of (reverse so_far.new)) }
+    ensures added { OnOk result (map value_of all.new ≡ map value_of all.old
+        ++ sum_with (D.operations dom.now) (first_of (map value_of (reverse so_far.old)))
+        (value_of next) ∷ []) }
 {
     let total = added(alloc, dom, so_far.pop(), next, steps)?;
     all.push(total)
@@ -85,7 +92,8 @@ fn all_added<D: Domain, L: Ledger>(
     more: Items<Answer<D::State>>,
     steps: &mut Steps<L>,
 ) -> Result<Items<Answer<D::State>>, Memory>
-    ensures is { IfOk result (λ all. map value_of all ≡ all_added (D.operations dom.now) (map value_of (reverse so_far)) (map value_of (reverse more))) }
+    ensures is { IfOk result (λ all. map value_of all ≡ all_added (D.operations dom.now)
+        (map value_of (reverse so_far)) (map value_of (reverse more))) }
 {
     let mut before = so_far;
     let mut left = more;
@@ -108,8 +116,11 @@ pub(crate) fn totals<D: Domain, L: Ledger>(
 ) -> Result<Summed<D::State>, Memory>
     requires checked { IsChecked plan.now.program }
     requires within { place < length plan.now.program }
-    requires entered { AreEntered (D.operations dom.now) plan.now place (chains plan.now.program place) entered.now }
-    ensures known { IfOk result (λ t. AreTotals (D.operations dom.now) plan.now (chains plan.now.program place) (claims (checked_in (body_at plan.now.program place))) (map value_of t.known)) }
+    requires entered { AreEntered (D.operations dom.now) plan.now place
+        (chains plan.now.program place) entered.now }
+    ensures known { IfOk result (λ t. AreTotals (D.operations dom.now) plan.now
+        (chains plan.now.program place) (claims (checked_in (body_at plan.now.program place)))
+        (map value_of t.known)) }
     ensures calls { IfOk result (λ t. AreHandedBy (D.operations dom.now) plan.now place t.calls) }
 {
     let body = plan.body(place);

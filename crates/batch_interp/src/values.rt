@@ -25,7 +25,10 @@ fn before_number<D: Domain, L: Ledger>(
     number: u32,
     steps: &mut Steps<L>,
 ) -> Result<Option<Answer<D::State>>, Memory>
-    ensures is { IfOk result (λ o. option_map value_of o ≡ if_some (find number (places (D.operations interpreter.now.dom.now) interpreter.now.plan.now interpreter.now.frame.now.place interpreter.now.frame.now.sites body.now (value_of before))) (λ s. Some s.before)) }
+    ensures is { IfOk result (λ o. option_map value_of o ≡
+        if_some (find number (places (D.operations interpreter.now.dom.now)
+        interpreter.now.plan.now interpreter.now.frame.now.place interpreter.now.frame.now.sites
+        body.now (value_of before))) (λ s. Some s.before)) }
 {
     match seek(interpreter, body, before, number, steps)? {
         None => Ok(None),
@@ -41,7 +44,10 @@ fn after_number<D: Domain, L: Ledger>(
     number: u32,
     steps: &mut Steps<L>,
 ) -> Result<Option<Answer<D::State>>, Memory>
-    ensures is { IfOk result (λ o. option_map value_of o ≡ if_some (find number (places (D.operations interpreter.now.dom.now) interpreter.now.plan.now interpreter.now.frame.now.place interpreter.now.frame.now.sites body.now (value_of before))) (λ s. Some s.after)) }
+    ensures is { IfOk result (λ o. option_map value_of o ≡
+        if_some (find number (places (D.operations interpreter.now.dom.now)
+        interpreter.now.plan.now interpreter.now.frame.now.place interpreter.now.frame.now.sites
+        body.now (value_of before))) (λ s. Some s.after)) }
 {
     match seek(interpreter, body, before, number, steps)? {
         None => Ok(None),
@@ -58,7 +64,10 @@ fn head_of_seen<D: Domain, L: Ledger>(
     seen: Seen<D::State>,
     steps: &mut Steps<L>,
 ) -> Result<Option<Answer<D::State>>, Memory>
-    ensures is { IfOk result (λ o. option_map value_of o ≡ if_some (head_at (D.operations interpreter.now.dom.now) interpreter.now.plan.now interpreter.now.frame.now.place interpreter.now.frame.now.sites seen.entry.node.now (value_of seen.entry.before)) (λ h. Some h.value)) }
+    ensures is { IfOk result (λ o. option_map value_of o ≡
+        if_some (head_at (D.operations interpreter.now.dom.now) interpreter.now.plan.now
+        interpreter.now.frame.now.place interpreter.now.frame.now.sites seen.entry.node.now
+        (value_of seen.entry.before)) (λ h. Some h.value)) }
 {
     match seen.node {
         SlotNode::While(n, cond, body) => {
@@ -77,7 +86,10 @@ fn head_of_number<D: Domain, L: Ledger>(
     number: u32,
     steps: &mut Steps<L>,
 ) -> Result<Option<Answer<D::State>>, Memory>
-    ensures is { IfOk result (λ o. option_map value_of o ≡ if_some (find number (places (D.operations interpreter.now.dom.now) interpreter.now.plan.now interpreter.now.frame.now.place interpreter.now.frame.now.sites body.now (value_of before))) head_value) }
+    ensures is { IfOk result (λ o. option_map value_of o ≡
+        if_some (find number (places (D.operations interpreter.now.dom.now)
+        interpreter.now.plan.now interpreter.now.frame.now.place interpreter.now.frame.now.sites
+        body.now (value_of before))) head_value) }
 {
     match seek(interpreter, body, before, number, steps)? {
         None => Ok(None),
@@ -93,8 +105,12 @@ fn end_of<D: Domain, L: Ledger>(
     name: &Text,
     steps: &mut Steps<L>,
 ) -> Result<Option<Answer<D::State>>, Memory>
-    requires there { slice_get interpreter.now.plan.now.program interpreter.now.frame.now.place ≡ Some routine.now }
-    ensures is { IfOk result (λ o. option_map value_of o ≡ value_in (D.operations interpreter.now.dom.now) interpreter.now.plan.now.engine (earlier interpreter.now.plan.now.program (suc interpreter.now.frame.now.place)) interpreter.now.frame.now.sites (value_of before) (End name.now)) }
+    requires there { slice_get interpreter.now.plan.now.program interpreter.now.frame.now.place ≡
+        Some routine.now }
+    ensures is { IfOk result (λ o. option_map value_of o ≡
+        value_in (D.operations interpreter.now.dom.now) interpreter.now.plan.now.engine
+        (earlier interpreter.now.plan.now.program (suc interpreter.now.frame.now.place))
+        interpreter.now.frame.now.sites (value_of before) (End name.now)) }
 {
     if name == routine.name() {
         let end = behind_block(interpreter, routine.body(), before, steps)?;
@@ -112,8 +128,12 @@ fn value_within<D: Domain, L: Ledger>(
     at: &Location,
     steps: &mut Steps<L>,
 ) -> Result<Option<Answer<D::State>>, Memory>
-    requires there { slice_get interpreter.now.plan.now.program interpreter.now.frame.now.place ≡ Some routine.now }
-    ensures is { IfOk result (λ o. option_map value_of o ≡ value_in (D.operations interpreter.now.dom.now) interpreter.now.plan.now.engine (earlier interpreter.now.plan.now.program (suc interpreter.now.frame.now.place)) interpreter.now.frame.now.sites (value_of before) at.now) }
+    requires there { slice_get interpreter.now.plan.now.program interpreter.now.frame.now.place ≡
+        Some routine.now }
+    ensures is { IfOk result (λ o. option_map value_of o ≡
+        value_in (D.operations interpreter.now.dom.now) interpreter.now.plan.now.engine
+        (earlier interpreter.now.plan.now.program (suc interpreter.now.frame.now.place))
+        interpreter.now.frame.now.sites (value_of before) at.now) }
 {
     let body = routine.body();
     match at {
@@ -134,7 +154,10 @@ fn value_in<D: Domain, L: Ledger>(
     steps: &mut Steps<L>,
 ) -> Result<Option<Answer<D::State>>, Memory>
     requires there { entered.frame.place < length plan.now.program }
-    ensures is { IfOk result (λ o. option_map value_of o ≡ value_in (D.operations dom.now) plan.now.engine (earlier plan.now.program (suc entered.frame.place)) entered.frame.sites (value_of entered.before) at.now) }
+    ensures is { IfOk result (λ o. option_map value_of o ≡
+        value_in (D.operations dom.now) plan.now.engine
+        (earlier plan.now.program (suc entered.frame.place)) entered.frame.sites
+        (value_of entered.before) at.now) }
 {
     let Entered { frame, before } = entered;
     let routine = &plan.routines()[frame.place];
@@ -157,7 +180,9 @@ pub(crate) fn value_at<D: Domain, L: Ledger>(
     steps: &mut Steps<L>,
 ) -> Result<Option<Answer<D::State>>, Memory>
     requires some { 0 < length plan.now.program }
-    ensures is { IfOk result (λ o. option_map value_of o ≡ value_at (D.operations dom.now) plan.now.engine plan.now.program at.now (reverse chain.now)) }
+    ensures is { IfOk result (λ o. option_map value_of o ≡
+        value_at (D.operations dom.now) plan.now.engine plan.now.program at.now
+        (reverse chain.now)) }
 {
     match enter_chain(alloc, dom, plan, chain, steps)? {
         None => Ok(None),

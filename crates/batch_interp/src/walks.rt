@@ -33,8 +33,12 @@ pub(crate) fn enter_main<D: Domain, L: Ledger>(
     steps: &mut Steps<L>,
 ) -> Result<Entered<D::State>, Memory>
     requires some { 0 < length plan.now.program }
-    ensures is { IfOk result (λ e. entry (D.operations dom.now) plan.now.engine (reverse plan.now.program) [] ≡ Some (entered_of plan.now.program e)) }
-    ensures main { IfOk result (λ e. e.frame ≡ record { place = length plan.now.program - 1; sites = [] }) }
+    ensures is { IfOk result (λ e. entry (D.operations dom.now) plan.now.engine
+        (reverse plan.now.program) [] ≡ Some (entered_of plan.now.program e)) }
+    ensures main { IfOk result (λ e. e.frame ≡ record {
+      place = length plan.now.program - 1;
+      sites = [];
+    }) }
 {
     let routines = plan.routines();
     let frame = CallFrame::main(alloc, routines);
@@ -53,7 +57,8 @@ fn entered_value<D: Domain, L: Ledger>(
     before: &Answer<D::State>,
     steps: &mut Steps<L>,
 ) -> Result<Answer<D::State>, Memory>
-    ensures is { IfOk result (λ a. value_of a ≡ lift ((D.operations dom.now).enter call.now.entering) (value_of before.now)) }
+    ensures is { IfOk result (λ a. value_of a ≡ lift ((D.operations dom.now).enter
+        call.now.entering) (value_of before.now)) }
 {
     match before {
         Answer::State(state) => Ok(Answer::State(dom.enter(alloc, call, state, steps)?)),
@@ -73,7 +78,14 @@ pub(crate) fn enter<D: Domain, L: Ledger>(
     before: &Answer<D::State>,
     steps: &mut Steps<L>,
 ) -> Result<Entered<D::State>, Memory>
-    ensures is { IfOk result (λ e. told_of e ≡ (record { place = callee; sites = site ∷ interpreter.now.frame.now.sites }, lift ((D.operations interpreter.now.dom.now).enter call.now.entering) (value_of before.now))) }
+    ensures is { IfOk result (λ e. told_of e ≡ (
+      record {
+        place = callee;
+        sites = site ∷ interpreter.now.frame.now.sites;
+      },
+      lift ((D.operations interpreter.now.dom.now).enter call.now.entering)
+          (value_of before.now),
+    )) }
 {
     let before = entered_value(interpreter.alloc, interpreter.dom, call, before, steps)?;
     let frame = interpreter.frame.callee(interpreter.alloc, site, callee)?;
@@ -89,7 +101,10 @@ fn enter_callee<D: Domain, L: Ledger>(
     before: Answer<D::State>,
     steps: &mut Steps<L>,
 ) -> Result<Option<Entered<D::State>>, Memory>
-    ensures is { IfOk result (λ o. IsEntered interpreter.now.plan.now.program (site ∷ interpreter.now.frame.now.sites) o (called_from (D.operations interpreter.now.dom.now) interpreter.now.plan.now.program interpreter.now.frame.now.place (value_of before) (Some (call.now, callee)))) }
+    ensures is { IfOk result (λ o. IsEntered interpreter.now.plan.now.program
+        (site ∷ interpreter.now.frame.now.sites) o (called_from
+        (D.operations interpreter.now.dom.now) interpreter.now.plan.now.program
+        interpreter.now.frame.now.place (value_of before) (Some (call.now, callee)))) }
 {
     match interpreter.plan.callee(interpreter.frame.place, callee) {
         None => Ok(None),
@@ -107,7 +122,11 @@ fn enter_seen<D: Domain, L: Ledger>(
     seen: Seen<D::State>,
     steps: &mut Steps<L>,
 ) -> Result<Option<Entered<D::State>>, Memory>
-    ensures is { IfOk result (λ o. IsEntered interpreter.now.plan.now.program (site ∷ interpreter.now.frame.now.sites) o (called_from (D.operations interpreter.now.dom.now) interpreter.now.plan.now.program interpreter.now.frame.now.place (value_of seen.entry.before) (call_at seen.entry.node.now))) }
+    ensures is { IfOk result (λ o. IsEntered interpreter.now.plan.now.program
+        (site ∷ interpreter.now.frame.now.sites) o (called_from
+        (D.operations interpreter.now.dom.now) interpreter.now.plan.now.program
+        interpreter.now.frame.now.place (value_of seen.entry.before)
+        (call_at seen.entry.node.now))) }
 {
     match seen.node {
         SlotNode::Call(_, call, callee) => {
@@ -134,7 +153,9 @@ fn enter_call<D: Domain, L: Ledger>(
     steps: &mut Steps<L>,
 ) -> Result<Option<Entered<D::State>>, Memory>
     requires there { caller.frame.place < length plan.now.program }
-    ensures is { IfOk result (λ o. IsEntered plan.now.program (site ∷ caller.frame.sites) o (entered (D.operations dom.now) plan.now.engine site caller.frame.sites (entered_of plan.now.program caller))) }
+    ensures is { IfOk result (λ o. IsEntered plan.now.program (site ∷ caller.frame.sites) o
+        (entered (D.operations dom.now) plan.now.engine site caller.frame.sites
+        (entered_of plan.now.program caller))) }
 {
     let Entered { frame, before } = caller;
     let body = plan.routines()[frame.place].body();
@@ -159,7 +180,9 @@ pub(crate) fn enter_chain<D: Domain, L: Ledger>(
     steps: &mut Steps<L>,
 ) -> Result<Option<Entered<D::State>>, Memory>
     requires some { 0 < length plan.now.program }
-    ensures is { IfOk result (λ o. IsEntered plan.now.program (reverse chain.now) o (entry (D.operations dom.now) plan.now.engine (reverse plan.now.program) (reverse chain.now))) }
+    ensures is { IfOk result (λ o. IsEntered plan.now.program (reverse chain.now) o
+        (entry (D.operations dom.now) plan.now.engine (reverse plan.now.program)
+        (reverse chain.now))) }
 {
     let mut now = enter_main(alloc, dom, plan, steps)?;
     for site in chain {

@@ -17,8 +17,14 @@ pub fn products_answer_pairs<A: Domain, B: Domain>()
 /// round on, a pair changes from the later of the two rounds on at most as often as both together, and from
 /// the budget on that this states no answer of a checked program is an Over.
 pub fn products_converge<A: Domain, B: Domain>()
-    ensures changes { (a : A) (b : B) (u v : ℕ → ℕ) (f g : ℕ → ℕ → ℕ) → Ending (A.operations a) u f → Ending (B.operations b) v g → Ending (product (A.operations a) (B.operations b)) (later_of_both u v) (changes_of_both f g) }
-    ensures end { (a : A) (b : B) (u v : ℕ → ℕ) (f g : ℕ → ℕ → ℕ) → Ending (A.operations a) u f → Ending (B.operations b) v g → Grows f → Grows g → Converge (product (A.operations a) (B.operations b)) (later_of_both u v) (changes_of_both f g) }
+    ensures changes { (a : A) (b : B) (u v : ℕ → ℕ) (f g : ℕ → ℕ → ℕ) →
+        Ending (A.operations a) u f → Ending (B.operations b) v g →
+        Ending (product (A.operations a) (B.operations b)) (later_of_both u v)
+        (changes_of_both f g) }
+    ensures end { (a : A) (b : B) (u v : ℕ → ℕ) (f g : ℕ → ℕ → ℕ) → Ending (A.operations a) u f →
+        Ending (B.operations b) v g → Grows f → Grows g →
+        Converge (product (A.operations a) (B.operations b)) (later_of_both u v)
+        (changes_of_both f g) }
 {
     thresholds_rise();
 }

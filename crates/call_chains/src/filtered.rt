@@ -68,7 +68,8 @@ pub fn chains(
     proc: ProcId,
     string: &[u32],
 ) -> Result<Items<Chain>, Memory>
-    ensures is { IfOk result (λ found. found ≡ map reverse (selected (routines_of prog.now) proc string.now)) }
+    ensures is { IfOk result (λ found. found ≡ map reverse
+        (selected (routines_of prog.now) proc string.now)) }
 {
     let all = chains_to(alloc, prog, proc)?;
     let calls = last_first(alloc, string)?;
@@ -84,7 +85,8 @@ pub fn targets(
     at: &Location,
     string: &[u32],
 ) -> Result<Items<Chain>, Memory>
-    ensures is { IfOk result (λ found. found ≡ map reverse (targets_of (routines_of prog.now) at.now string.now)) }
+    ensures is { IfOk result (λ found. found ≡ map reverse
+        (targets_of (routines_of prog.now) at.now string.now)) }
 {
     match place_of(prog, at) {
         Ok(place) => chains(alloc, prog, place, string),

@@ -70,7 +70,8 @@ fn count_of(counts: &BTreeMap<u64, u32>, number: u64) -> u32
 
 /// One more for a number.
 fn add_one(counts: &mut BTreeMap<u64, u32>, number: u64) -> Result<(), Memory>
-    ensures more { OnOk result ((f : ℕ → ℕ) → Tells counts.old.entries (λ n. capped (f n)) → Tells counts.new.entries (λ n. capped (f n + one_if (n == number)))) }
+    ensures more { OnOk result ((f : ℕ → ℕ) → Tells counts.old.entries (λ n. capped (f n)) →
+        Tells counts.new.entries (λ n. capped (f n + one_if (n == number)))) }
 {
     let count = count_of(counts, number);
     counts.insert(number, count.saturating_add(1))?;
@@ -79,7 +80,8 @@ fn add_one(counts: &mut BTreeMap<u64, u32>, number: u64) -> Result<(), Memory>
 
 /// One less for a number.
 fn take_one(counts: &mut BTreeMap<u64, u32>, number: u64) -> Result<(), Memory>
-    ensures less { OnOk result ((f : ℕ → ℕ) → Tells counts.old.entries f → Tells counts.new.entries (λ n. f n - one_if (n == number))) }
+    ensures less { OnOk result ((f : ℕ → ℕ) → Tells counts.old.entries f →
+        Tells counts.new.entries (λ n. f n - one_if (n == number))) }
 {
     let count = count_of(counts, number);
     if count > 1 {
@@ -92,7 +94,8 @@ fn take_one(counts: &mut BTreeMap<u64, u32>, number: u64) -> Result<(), Memory>
 
 /// One more for each of these numbers.
 fn add_each(counts: &mut BTreeMap<u64, u32>, numbers: &[u64]) -> Result<(), Memory>
-    ensures more { OnOk result ((f : ℕ → ℕ) → Tells counts.old.entries (λ n. capped (f n)) → Tells counts.new.entries (λ n. capped (f n + occurs n numbers.now))) }
+    ensures more { OnOk result ((f : ℕ → ℕ) → Tells counts.old.entries (λ n. capped (f n)) →
+        Tells counts.new.entries (λ n. capped (f n + occurs n numbers.now))) }
 {
     for item in numbers {
         add_one(counts, *item)?;
@@ -102,7 +105,8 @@ fn add_each(counts: &mut BTreeMap<u64, u32>, numbers: &[u64]) -> Result<(), Memo
 
 /// One less for each of these numbers.
 fn take_each(counts: &mut BTreeMap<u64, u32>, numbers: &[u64]) -> Result<(), Memory>
-    ensures less { OnOk result ((f : ℕ → ℕ) → Tells counts.old.entries f → Tells counts.new.entries (λ n. f n - occurs n numbers.now)) }
+    ensures less { OnOk result ((f : ℕ → ℕ) → Tells counts.old.entries f →
+        Tells counts.new.entries (λ n. f n - occurs n numbers.now)) }
 {
     for item in numbers {
         take_one(counts, *item)?;
@@ -122,7 +126,8 @@ impl Counts {
 
     /// One statement more, which has these numbers.
     pub(crate) fn add(&mut self, alloc: Global, numbers: &[Number]) -> Result<(), Memory>
-        ensures more { OnOk result ((f : ℕ → ℕ) → Tells self.old (λ n. capped (f n)) → Tells self.new (λ n. capped (f n + one_if (has n numbers.now)))) }
+        ensures more { OnOk result ((f : ℕ → ℕ) → Tells self.old (λ n. capped (f n)) →
+            Tells self.new (λ n. capped (f n + one_if (has n numbers.now)))) }
     {
         let once = rising(alloc, numbers)?;
         add_each(&mut self.counts, once.as_slice())?;
@@ -131,7 +136,8 @@ impl Counts {
 
     /// One statement less, which had these numbers.
     pub(crate) fn take(&mut self, alloc: Global, numbers: &[Number]) -> Result<(), Memory>
-        ensures less { OnOk result ((f : ℕ → ℕ) → Tells self.old f → Tells self.new (λ n. f n - one_if (has n numbers.now))) }
+        ensures less { OnOk result ((f : ℕ → ℕ) → Tells self.old f →
+            Tells self.new (λ n. f n - one_if (has n numbers.now))) }
     {
         let once = rising(alloc, numbers)?;
         take_each(&mut self.counts, once.as_slice())?;

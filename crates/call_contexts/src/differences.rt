@@ -76,7 +76,8 @@ impl Differences {
 
     /// One statement goes, and one comes in its place.
     fn add(&mut self, goes: Items<Number>, comes: Items<Number>) -> Result<(), Memory>
-        ensures more { OnOk result (AreMore self.old.lost self.old.gained goes comes self.new.lost self.new.gained) }
+        ensures more { OnOk result (AreMore self.old.lost self.old.gained goes comes self.new.lost
+            self.new.gained) }
     {
         if are_same(goes.as_slice(), comes.as_slice()) {
             return Ok(());
@@ -94,7 +95,9 @@ impl Differences {
         put: &Put,
         proc: ProcId,
     ) -> Result<(), Memory>
-        ensures more { OnOk result (AreMore self.old.lost self.old.gained (numbers_in proc (entry_of (entries_of old.now) put.now.number)) (numbers_in proc put.now.entry) self.new.lost self.new.gained) }
+        ensures more { OnOk result (AreMore self.old.lost self.old.gained
+            (numbers_in proc (entry_of (entries_of old.now) put.now.number))
+            (numbers_in proc put.now.entry) self.new.lost self.new.gained) }
     {
         let goes = numbers_in(alloc, old.entry(StmtId::new(put.number)), proc)?;
         let comes = numbers_in(alloc, put.entry.entry(), proc)?;
@@ -109,7 +112,8 @@ impl Differences {
         puts: &[Put],
         proc: ProcId,
     ) -> Result<Differences, Memory>
-        ensures are { IfOk result (λ d. AreDifferent (lost proc (entry_of (entries_of old.now)) puts.now) (gained proc puts.now) d.lost d.gained) }
+        ensures are { IfOk result (λ d. AreDifferent (lost proc
+            (entry_of (entries_of old.now)) puts.now) (gained proc puts.now) d.lost d.gained) }
     {
         let mut found = Differences::none(alloc);
         for put in puts {

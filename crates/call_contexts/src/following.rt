@@ -40,10 +40,12 @@ fn loops_over(
     before: &Loops,
 ) -> Result<Loops, Memory>
     requires brings { Brings old.now new.now puts.now }
-    requires touched { (k : ℕ) → contains nat_cmp touched.now k ≡ touches (entry_of (entries_of old.now)) puts.now k }
+    requires touched { (k : ℕ) → contains nat_cmp touched.now k ≡
+        touches (entry_of (entries_of old.now)) puts.now k }
     requires before { slice_get (all_loops (routines_of old.now)) proc ≡ Some before.now }
     requires there { proc < length new.now }
-    ensures are { IfOk result (λ loops. slice_get (all_loops (routines_of new.now)) proc ≡ Some loops) }
+    ensures are { IfOk result (λ loops. slice_get (all_loops (routines_of new.now)) proc ≡
+        Some loops) }
 {
     if touched.contains(&proc.place()) {
         before.after(alloc, old, new, puts, proc)
@@ -66,7 +68,8 @@ impl Setting {
         requires fine { IsFine program }
         requires falling { AreFalling change.now.entries.items }
         requires before { self.now ≡ setting_of self.now.engine (routines_of table.now.program) }
-        ensures is { IfOk result (λ setting. setting ≡ setting_of self.now.engine (routines_of program)) }
+        ensures is { IfOk result (λ setting. setting ≡ setting_of self.now.engine
+            (routines_of program)) }
     {
         let old = table.view();
         let new = table.changed(change);
@@ -85,7 +88,8 @@ impl Setting {
     ) -> Result<Setting, Memory>
         requires brings { Brings old.now new.now puts.now }
         requires before { self.now ≡ setting_of self.now.engine (routines_of old.now) }
-        ensures is { IfOk result (λ setting. setting ≡ setting_of self.now.engine (routines_of new.now)) }
+        ensures is { IfOk result (λ setting. setting ≡ setting_of self.now.engine
+            (routines_of new.now)) }
     {
         let touched = touched_places(alloc, old, puts)?;
         let mut setting = no_parts(alloc, self.budget, self.widening);
@@ -107,9 +111,11 @@ impl Setting {
     ) -> Result<Part, Memory>
         requires brings { Brings old.now new.now puts.now }
         requires before { self.now ≡ setting_of self.now.engine (routines_of old.now) }
-        requires touched { (k : ℕ) → contains nat_cmp touched.now k ≡ touches (entry_of (entries_of old.now)) puts.now k }
+        requires touched { (k : ℕ) → contains nat_cmp touched.now k ≡
+            touches (entry_of (entries_of old.now)) puts.now k }
         requires there { proc < length new.now }
-        ensures is { IfOk result (λ part. IsPart self.now.engine.widening (routines_of new.now) proc part.thresholds part.tally part.loops) }
+        ensures is { IfOk result (λ part. IsPart self.now.engine.widening
+            (routines_of new.now) proc part.thresholds part.tally part.loops) }
     {
         let place = proc.place() as usize;
         let (Some(thresholds), Some(tally), Some(before)) = (
@@ -129,7 +135,8 @@ impl Setting {
 
     /// Whether a procedure may have other thresholds, where these are touched.
     fn recounts(&self, touched: &BTreeSet<u32>, proc: ProcId) -> bool
-        ensures is { result ≡ (self.now.engine.widening.thresholds && contains nat_cmp touched.now proc) }
+        ensures is { result ≡ (self.now.engine.widening.thresholds && contains nat_cmp touched.now
+            proc) }
     {
         self.widening.thresholds && touched.contains(&proc.place())
     }
@@ -148,11 +155,14 @@ impl Setting {
     ) -> Result<Part, Memory>
         requires brings { Brings old.now new.now puts.now }
         requires widens { self.now.engine.widening.thresholds ≡ true }
-        requires thresholds { slice_get (all_thresholds self.now.engine.widening (routines_of old.now)) proc ≡ Some before.now }
-        requires tally { slice_get (all_tallies self.now.engine.widening (routines_of old.now)) proc ≡ Some tally.now }
+        requires thresholds { slice_get (all_thresholds self.now.engine.widening
+            (routines_of old.now)) proc ≡ Some before.now }
+        requires tally { slice_get (all_tallies self.now.engine.widening (routines_of old.now))
+            proc ≡ Some tally.now }
         requires loops { slice_get (all_loops (routines_of new.now)) proc ≡ Some loops }
         requires there { proc < length new.now }
-        ensures is { IfOk result (λ part. IsPart self.now.engine.widening (routines_of new.now) proc part.thresholds part.tally part.loops) }
+        ensures is { IfOk result (λ part. IsPart self.now.engine.widening
+            (routines_of new.now) proc part.thresholds part.tally part.loops) }
     {
         let differences = Differences::new(alloc, old, puts, proc)?;
         if differences.are_none() {
@@ -181,9 +191,13 @@ impl Setting {
         is_kept: bool,
     ) -> Result<Thresholds, Memory>
         requires widens { self.now.engine.widening.thresholds ≡ true }
-        requires counts { slice_get (all_tallies self.now.engine.widening (routines_of new.now)) proc ≡ Some counts.now }
-        requires kept { OnTrue is_kept (slice_get (all_thresholds self.now.engine.widening (routines_of new.now)) proc ≡ Some before.now) }
-        ensures are { IfOk result (λ thresholds. slice_get (all_thresholds self.now.engine.widening (routines_of new.now)) proc ≡ Some thresholds) }
+        requires counts { slice_get (all_tallies self.now.engine.widening (routines_of new.now))
+            proc ≡ Some counts.now }
+        requires kept { OnTrue is_kept (slice_get (all_thresholds self.now.engine.widening
+            (routines_of new.now)) proc ≡ Some before.now) }
+        ensures are { IfOk result (λ thresholds. slice_get
+            (all_thresholds self.now.engine.widening (routines_of new.now)) proc ≡
+            Some thresholds) }
     {
         if is_kept {
             return Ok(before.clone()?);

@@ -18,8 +18,10 @@ pub fn joined<D: Domain, L: Ledger>(
     steps: &mut Steps<L>,
 ) -> Result<D::State, Memory>
     ensures value { IfOk result (λ t. t ≡ joined (D.operations dom.now) so_far next.now) }
-    ensures ticked { IfOk result (λ _. steps.new ≡ steps.old + joined_ticks (D.counted dom.now) so_far) }
-    ensures no_memory { IfErr result (λ _. (steps.new ≡ steps.old + D.counted dom.now) ⊎ (steps.new ≡ steps.old + joined_ticks (D.counted dom.now) so_far)) }
+    ensures ticked { IfOk result (λ _. steps.new ≡ steps.old
+        + joined_ticks (D.counted dom.now) so_far) }
+    ensures no_memory { IfErr result (λ _. (steps.new ≡ steps.old + D.counted dom.now) ⊎
+        (steps.new ≡ steps.old + joined_ticks (D.counted dom.now) so_far)) }
 {
     let alone = dom.shed(alloc, next, steps)?;
     match so_far {

@@ -75,7 +75,8 @@ fn add_action(action: &SlotAction, found: &mut Items<Number>) -> Result<(), Memo
 }
 
 fn add_argument(argument: &Argument, found: &mut Items<Number>) -> Result<(), Memory>
-    ensures added { OnOk result (found.new ≡ found.old ++ argument_literals (argument_of argument.now ∷ [])) }
+    ensures added { OnOk result (found.new ≡ found.old ++ argument_literals
+        (argument_of argument.now ∷ [])) }
 {
     match argument {
         Argument::Int(e) => add_term(e, found),
@@ -85,7 +86,8 @@ fn add_argument(argument: &Argument, found: &mut Items<Number>) -> Result<(), Me
 }
 
 fn add_arguments(arguments: &[Argument], found: &mut Items<Number>) -> Result<(), Memory>
-    ensures added { OnOk result (found.new ≡ found.old ++ argument_literals (map argument_of arguments.now)) }
+    ensures added { OnOk result (found.new ≡ found.old ++ argument_literals
+        (map argument_of arguments.now)) }
 {
     for argument in arguments {
         add_argument(argument, found)?;
@@ -123,7 +125,8 @@ pub(crate) fn numbers_of(alloc: Global, form: &SlotForm) -> Result<Items<Number>
 
 /// Adds the numbers of the statement of a number, if it is there.
 fn add_entry(prog: &View<'_>, stmt: StmtId, found: &mut Items<Number>) -> Result<(), Memory>
-    ensures added { OnOk result (found.new ≡ found.old ++ literals_in (entry_of (entries_of prog.now) stmt)) }
+    ensures added { OnOk result (found.new ≡ found.old ++ literals_in
+        (entry_of (entries_of prog.now) stmt)) }
 {
     match prog.entry(stmt) {
         Some(entry) => add_form(&entry.form, found),
@@ -137,7 +140,8 @@ pub(crate) fn add_statements(
     stmts: &[StmtId],
     found: &mut Items<Number>,
 ) -> Result<(), Memory>
-    ensures added { OnOk result (found.new ≡ found.old ++ literals_by (entry_of (entries_of prog.now)) stmts.now) }
+    ensures added { OnOk result (found.new ≡ found.old ++ literals_by
+        (entry_of (entries_of prog.now)) stmts.now) }
 {
     for stmt in stmts {
         add_entry(prog, *stmt, found)?;

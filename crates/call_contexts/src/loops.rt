@@ -59,7 +59,8 @@ fn is_loop_of(stmt: Option<&Entry>, proc: ProcId) -> bool
 
 /// Adds a number, if it is that of a loop.
 fn add_number(found: &mut BTreeSet<u32>, number: u32, is_loop: bool) -> Result<(), Memory>
-    ensures added { OnOk result ((n : ℕ) → contains nat_cmp found.new n ≡ (contains nat_cmp found.old n || (is_loop && (n == number)))) }
+    ensures added { OnOk result ((n : ℕ) → contains nat_cmp found.new n ≡
+        (contains nat_cmp found.old n || (is_loop && (n == number)))) }
 {
     if is_loop {
         found.insert(number)?;
@@ -74,7 +75,9 @@ fn add_loop(
     stmt: StmtId,
     found: &mut BTreeSet<u32>,
 ) -> Result<(), Memory>
-    ensures added { OnOk result ((n : ℕ) → contains nat_cmp found.new n ≡ (contains nat_cmp found.old n || (loop_in proc (entry_of (entries_of prog.now) stmt) && (n == stmt)))) }
+    ensures added { OnOk result ((n : ℕ) → contains nat_cmp found.new n ≡
+        (contains nat_cmp found.old n || (loop_in proc (entry_of (entries_of prog.now) stmt) &&
+        (n == stmt)))) }
 {
     let is_loop = is_loop_of(prog.entry(stmt), proc);
     add_number(found, stmt.number(), is_loop)
@@ -87,7 +90,9 @@ fn add_loops(
     stmts: &[StmtId],
     found: &mut BTreeSet<u32>,
 ) -> Result<(), Memory>
-    ensures added { OnOk result ((n : ℕ) → contains nat_cmp found.new n ≡ (contains nat_cmp found.old n || (has n stmts.now && loop_in proc (entry_of (entries_of prog.now) n)))) }
+    ensures added { OnOk result ((n : ℕ) → contains nat_cmp found.new n ≡
+        (contains nat_cmp found.old n || (has n stmts.now && loop_in proc
+        (entry_of (entries_of prog.now) n)))) }
 {
     for stmt in stmts {
         add_loop(prog, proc, *stmt, found)?;
@@ -109,7 +114,8 @@ fn place_among(stmts: &[StmtId], stmt: StmtId) -> Result<usize, usize>
 fn bring(stmts: &mut Vec<StmtId>, stmt: StmtId) -> Result<(), Memory>
     requires rising { IsStrictlySortedBy nat_cmp stmts.old.items }
     ensures rising { OnOk result (IsStrictlySortedBy nat_cmp stmts.new.items) }
-    ensures brought { OnOk result ((n : ℕ) → has n stmts.new.items ≡ ((n == stmt) || has n stmts.old.items)) }
+    ensures brought { OnOk result ((n : ℕ) → has n stmts.new.items ≡
+        ((n == stmt) || has n stmts.old.items)) }
 {
     if let Err(place) = place_among(stmts.as_slice(), stmt) {
         stmts.insert(place, stmt)?;
@@ -132,7 +138,8 @@ fn take(stmts: &mut Vec<StmtId>, stmt: StmtId)
 fn set_loop(stmts: &mut Vec<StmtId>, stmt: StmtId, is_loop: bool) -> Result<(), Memory>
     requires rising { IsStrictlySortedBy nat_cmp stmts.old.items }
     ensures rising { OnOk result (IsStrictlySortedBy nat_cmp stmts.new.items) }
-    ensures set { OnOk result ((n : ℕ) → has n stmts.new.items ≡ (if n == stmt then is_loop else has n stmts.old.items)) }
+    ensures set { OnOk result ((n : ℕ) → has n stmts.new.items ≡
+        (if n == stmt then is_loop else has n stmts.old.items)) }
 {
     if is_loop {
         bring(stmts, stmt)
@@ -152,7 +159,9 @@ fn set_loops(
 ) -> Result<(), Memory>
     requires rising { IsStrictlySortedBy nat_cmp stmts.old.items }
     ensures rising { OnOk result (IsStrictlySortedBy nat_cmp stmts.new.items) }
-    ensures set { OnOk result ((n : ℕ) → has n stmts.new.items ≡ (if has n (put_numbers puts.now) then loop_in proc (entry_of (entries_of prog.now) n) else has n stmts.old.items)) }
+    ensures set { OnOk result ((n : ℕ) → has n stmts.new.items ≡
+        (if has n (put_numbers puts.now) then loop_in proc (entry_of (entries_of prog.now) n)
+        else has n stmts.old.items)) }
 {
     for put in puts {
         let stmt = StmtId::new(put.number);
@@ -164,14 +173,17 @@ fn set_loops(
 
 /// Whether a statement is a loop of a procedure in both programs or in none.
 fn is_alike(old: &View<'_>, new: &View<'_>, stmt: StmtId, proc: ProcId) -> bool
-    ensures alike { OnTrue result (loop_in proc (entry_of (entries_of old.now) stmt) ≡ loop_in proc (entry_of (entries_of new.now) stmt)) }
+    ensures alike { OnTrue result (loop_in proc (entry_of (entries_of old.now) stmt) ≡
+        loop_in proc (entry_of (entries_of new.now) stmt)) }
 {
     is_loop_of(old.entry(stmt), proc) == is_loop_of(new.entry(stmt), proc)
 }
 
 /// Whether a change neither takes loops from a procedure nor brings some to it.
 fn keeps_loops(old: &View<'_>, new: &View<'_>, puts: &[Put], proc: ProcId) -> bool
-    ensures kept { OnTrue result ((n : ℕ) → has n (put_numbers puts.now) ≡ true → loop_in proc (entry_of (entries_of old.now) n) ≡ loop_in proc (entry_of (entries_of new.now) n)) }
+    ensures kept { OnTrue result ((n : ℕ) → has n (put_numbers puts.now) ≡ true →
+        loop_in proc (entry_of (entries_of old.now) n) ≡
+        loop_in proc (entry_of (entries_of new.now) n)) }
 {
     for put in puts {
         if !is_alike(old, new, StmtId::new(put.number), proc) {
@@ -207,7 +219,8 @@ impl Loops {
     /// their logarithm.
     pub(crate) fn new(alloc: Global, prog: &View<'_>, proc: ProcId) -> Result<Loops, Memory>
         requires there { proc < length prog.now }
-        ensures are { IfOk result (λ loops. slice_get (all_loops (routines_of prog.now)) proc ≡ Some loops) }
+        ensures are { IfOk result (λ loops. slice_get (all_loops (routines_of prog.now)) proc ≡
+            Some loops) }
     {
         prog.procs();
         let stmts = prog.statements(alloc, proc)?;
@@ -238,7 +251,8 @@ impl Loops {
         requires brings { Brings old.now new.now puts.now }
         requires before { slice_get (all_loops (routines_of old.now)) proc ≡ Some self.now }
         requires there { proc < length new.now }
-        ensures are { IfOk result (λ loops. slice_get (all_loops (routines_of new.now)) proc ≡ Some loops) }
+        ensures are { IfOk result (λ loops. slice_get (all_loops (routines_of new.now)) proc ≡
+            Some loops) }
     {
         if keeps_loops(old, new, puts, proc) {
             return Ok(self.clone()?);

@@ -114,7 +114,8 @@ impl Part {
         proc: ProcId,
     ) -> Result<Part, Memory>
         requires there { proc < length prog.now }
-        ensures is { IfOk result (λ part. IsPart widening (routines_of prog.now) proc part.thresholds part.tally part.loops) }
+        ensures is { IfOk result (λ part. IsPart widening
+            (routines_of prog.now) proc part.thresholds part.tally part.loops) }
     {
         let thresholds = Thresholds::new(alloc, thresholds(alloc, widening, prog, proc)?)?;
         let tally = NumberTally::new(alloc, tally(alloc, widening, prog, proc)?)?;

@@ -31,7 +31,8 @@ pub(crate) fn is_loop(part: &Stmt) -> bool
 
 /// The procedure of a loop.
 fn loop_holder(prog: &View<'_>, stmt: StmtId) -> Result<ProcId, QueryRefusal>
-    ensures is { found_of result ≡ found_loop (is_while stmt (routines_of prog.now)) (found_or NoStatement (holder stmt (routines_of prog.now))) }
+    ensures is { found_of result ≡ found_loop (is_while stmt (routines_of prog.now))
+        (found_or NoStatement (holder stmt (routines_of prog.now))) }
 {
     prog.procs();
     match prog.entry(stmt) {

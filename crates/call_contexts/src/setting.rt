@@ -33,12 +33,22 @@ impl Model for Setting {
 
     ghost coded = { setting_code };
 
-    ghost view = { λ a. record { engine = record { budget = a.budget; widening = a.widening }; thresholds = a.thresholds; tallies = a.tallies; loops = a.loops } };
+    ghost view = { λ a. record {
+      engine = record { budget = a.budget; widening = a.widening };
+      thresholds = a.thresholds;
+      tallies = a.tallies;
+      loops = a.loops;
+    } };
 }
 
 /// A setting of no procedures yet.
 pub(crate) fn no_parts(alloc: Global, budget: u32, widening: Widening) -> Setting
-    ensures is { result ≡ record { engine = engine_of budget widening; thresholds = []; tallies = []; loops = [] } }
+    ensures is { result ≡ record {
+      engine = engine_of budget widening;
+      thresholds = [];
+      tallies = [];
+      loops = [];
+    } }
 {
     Setting {
         budget,
@@ -58,7 +68,8 @@ impl Setting {
         budget: u32,
         widening: Widening,
     ) -> Result<Setting, Memory>
-        ensures is { IfOk result (λ setting. setting ≡ setting_of (engine_of budget widening) (routines_of prog.now)) }
+        ensures is { IfOk result (λ setting. setting ≡ setting_of (engine_of budget widening)
+            (routines_of prog.now)) }
     {
         let mut setting = no_parts(alloc, budget, widening);
         for place in 0..procedure_count(prog) {
@@ -70,7 +81,8 @@ impl Setting {
     /// Adds the part of one more procedure.
     pub(crate) fn push(&mut self, part: Part) -> Result<(), Memory>
         ensures engine { self.new.engine ≡ self.old.engine }
-        ensures thresholds { OnOk result (self.new.thresholds ≡ self.old.thresholds ++ part.thresholds ∷ []) }
+        ensures thresholds { OnOk result (self.new.thresholds ≡ self.old.thresholds
+            ++ part.thresholds ∷ []) }
         ensures tallies { OnOk result (self.new.tallies ≡ self.old.tallies ++ part.tally ∷ []) }
         ensures loops { OnOk result (self.new.loops ≡ self.old.loops ++ part.loops ∷ []) }
     {

@@ -32,7 +32,8 @@ fn add_longer(
     site: StmtId,
     found: &mut Items<Items<StmtId>>,
 ) -> Result<(), Memory>
-    ensures added { OnOk result (found.new ≡ found.old ++ map (λ (z : List ℕ). site ∷ z) chains.now) }
+    ensures added { OnOk result (found.new ≡ found.old ++ map
+        (λ (z : List ℕ). site ∷ z) chains.now) }
 {
     for chain in chains {
         found.push(with_call(alloc, site, chain.as_slice())?)?;
@@ -47,7 +48,8 @@ fn chains_to_caller<'a>(
     table: &'a [Items<Items<StmtId>>],
     site: StmtId,
 ) -> &'a [Items<StmtId>]
-    ensures are { result.now ≡ chains_by (chains_in table.now main) (entry_of (entries_of prog.now) site) }
+    ensures are { result.now ≡ chains_by (chains_in table.now main)
+        (entry_of (entries_of prog.now) site) }
 {
     let Some(entry) = prog.entry(site) else {
         return &[];
@@ -67,7 +69,8 @@ fn through(
     table: &[Items<Items<StmtId>>],
     sites: &[StmtId],
 ) -> Result<Items<Items<StmtId>>, Memory>
-    ensures is { IfOk result (λ found. found ≡ through_sites (chains_in table.now main) (entry_of (entries_of prog.now)) sites.now) }
+    ensures is { IfOk result (λ found. found ≡ through_sites (chains_in table.now main)
+        (entry_of (entries_of prog.now)) sites.now) }
 {
     let mut found = Items::new(alloc);
     for site in sites {

@@ -22,7 +22,9 @@ fn count_statement(
     stmt: StmtId,
     counts: &mut Counts,
 ) -> Result<(), Memory>
-    ensures more { OnOk result ((f : ℕ → ℕ) → Tells counts.old (λ n. capped (f n)) → Tells counts.new (λ n. capped (f n + one_if (has n (literals_in (entry_of (entries_of prog.now) stmt)))))) }
+    ensures more { OnOk result ((f : ℕ → ℕ) → Tells counts.old (λ n. capped (f n)) →
+        Tells counts.new (λ n. capped (f n + one_if (has n
+        (literals_in (entry_of (entries_of prog.now) stmt)))))) }
 {
     match prog.entry(stmt) {
         Some(entry) => {
@@ -41,7 +43,9 @@ fn count_statements(
     stmts: &[StmtId],
     counts: &mut Counts,
 ) -> Result<(), Memory>
-    ensures more { OnOk result ((f : ℕ → ℕ) → Tells counts.old (λ n. capped (f n)) → Tells counts.new (λ n. capped (f n + times n (lists_by (entry_of (entries_of prog.now)) stmts.now)))) }
+    ensures more { OnOk result ((f : ℕ → ℕ) → Tells counts.old (λ n. capped (f n)) →
+        Tells counts.new (λ n. capped (f n + times n
+        (lists_by (entry_of (entries_of prog.now)) stmts.now)))) }
 {
     for stmt in stmts {
         count_statement(alloc, prog, *stmt, counts)?;
@@ -59,7 +63,8 @@ pub(crate) fn tally(
     proc: ProcId,
 ) -> Result<Counts, Memory>
     requires there { proc < length prog.now }
-    ensures is { IfOk result (λ counts. slice_get (all_tallies widening (routines_of prog.now)) proc ≡ Some counts) }
+    ensures is { IfOk result (λ counts. slice_get (all_tallies widening (routines_of prog.now))
+        proc ≡ Some counts) }
 {
     prog.procs();
     let mut counts = Counts::new(alloc);
@@ -73,7 +78,8 @@ pub(crate) fn tally(
 
 /// One statement more for each of these.
 fn add_all(alloc: Global, counts: &mut Counts, lists: &[Items<Number>]) -> Result<(), Memory>
-    ensures more { OnOk result ((f : ℕ → ℕ) → Tells counts.old (λ n. capped (f n)) → Tells counts.new (λ n. capped (f n + times n lists.now))) }
+    ensures more { OnOk result ((f : ℕ → ℕ) → Tells counts.old (λ n. capped (f n)) →
+        Tells counts.new (λ n. capped (f n + times n lists.now))) }
 {
     for numbers in lists {
         counts.add(alloc, numbers.as_slice())?;
@@ -83,7 +89,8 @@ fn add_all(alloc: Global, counts: &mut Counts, lists: &[Items<Number>]) -> Resul
 
 /// One statement less for each of these.
 fn take_all(alloc: Global, counts: &mut Counts, lists: &[Items<Number>]) -> Result<(), Memory>
-    ensures less { OnOk result ((f : ℕ → ℕ) → Tells counts.old f → Tells counts.new (λ n. f n - times n lists.now)) }
+    ensures less { OnOk result ((f : ℕ → ℕ) → Tells counts.old f →
+        Tells counts.new (λ n. f n - times n lists.now)) }
 {
     for numbers in lists {
         counts.take(alloc, numbers.as_slice())?;
@@ -98,7 +105,9 @@ pub(crate) fn changed(
     lost: &[Items<Number>],
     gained: &[Items<Number>],
 ) -> Result<Counts, Memory>
-    ensures told { IfOk result (λ after. (f : ℕ → ℕ) → Tells counts.now f → ((n : ℕ) → f n < 2 ^ 32) → Tells after (λ n. capped ((f n - times n lost.now) + times n gained.now))) }
+    ensures told { IfOk result (λ after. (f : ℕ → ℕ) → Tells counts.now f →
+        ((n : ℕ) → f n < 2 ^ 32) → Tells after (λ n.
+        capped ((f n - times n lost.now) + times n gained.now))) }
 {
     let mut after = counts.copy()?;
     take_all(alloc, &mut after, lost)?;

@@ -15,7 +15,8 @@ use std::collections::BTreeSet;
 /// Adds a threshold in its place, once.
 #[tactic(auto, using(crate::proofs::ThresholdSets::threshold_is_key))]
 fn add_threshold(thresholds: &mut BTreeSet<i64>, threshold: i64) -> Result<(), Memory>
-    ensures added { OnOk result (thresholds.new.keys ≡ with_threshold threshold thresholds.old.keys) }
+    ensures added { OnOk result (thresholds.new.keys ≡ with_threshold threshold
+        thresholds.old.keys) }
 {
     thresholds.insert(threshold)?;
     Ok(())
@@ -57,7 +58,8 @@ pub fn thresholds(
     proc: ProcId,
 ) -> Result<Items<i64>, Memory>
     requires there { proc < length prog.now }
-    ensures is { IfOk result (λ thresholds. slice_get (all_thresholds widening (routines_of prog.now)) proc ≡ Some thresholds) }
+    ensures is { IfOk result (λ thresholds. slice_get (all_thresholds widening
+        (routines_of prog.now)) proc ≡ Some thresholds) }
 {
     prog.procs();
     if !widening.thresholds {

@@ -15,7 +15,8 @@ use std::collections::BTreeSet;
 
 /// Adds the procedure of a statement, if it is there.
 fn add_place(touched: &mut BTreeSet<u32>, stmt: Option<&Entry>) -> Result<(), Memory>
-    ensures added { OnOk result ((k : ℕ) → contains nat_cmp touched.new k ≡ (stands_in (option_copied stmt.entry) k || contains nat_cmp touched.old k)) }
+    ensures added { OnOk result ((k : ℕ) → contains nat_cmp touched.new k ≡
+        (stands_in (option_copied stmt.entry) k || contains nat_cmp touched.old k)) }
 {
     if let Some(entry) = stmt {
         touched.insert(entry.context.proc.place())?;
@@ -29,7 +30,8 @@ pub(crate) fn touched_places(
     old: &View<'_>,
     puts: &[Put],
 ) -> Result<BTreeSet<u32>, Memory>
-    ensures are { IfOk result (λ touched. (k : ℕ) → contains nat_cmp touched k ≡ touches (entry_of (entries_of old.now)) puts.now k) }
+    ensures are { IfOk result (λ touched. (k : ℕ) → contains nat_cmp touched k ≡
+        touches (entry_of (entries_of old.now)) puts.now k) }
 {
     let mut touched = BTreeSet::new(alloc);
     for put in puts {

@@ -60,7 +60,8 @@ impl Names {
     #[inline]
     pub fn add_path(&mut self, before: PathId, frame: NameFrame) -> Result<PathId, Memory>
         requires there { before < length self.old.paths }
-        ensures path { IfOk result (Adds self.old.paths self.new.paths (frame ∷ path_at self.old.paths before)) }
+        ensures path { IfOk result (Adds self.old.paths self.new.paths
+            (frame ∷ path_at self.old.paths before)) }
         ensures names { self.new.names ≡ self.old.names }
         ensures err { OnErr result (self.new ≡ self.old) }
     {
@@ -72,8 +73,10 @@ impl Names {
     #[inline]
     pub fn find(&self, name: &Name) -> Option<usize>
         requires there { name.now.path < length self.now.paths }
-        ensures name { IfSome result (λ n. slice_get self.now.names n ≡ Some (name_in self.now.paths name.now)) }
-        ensures found { (n : ℕ) → slice_get self.now.names n ≡ Some (name_in self.now.paths name.now) → result ≡ Some n }
+        ensures name { IfSome result (λ n. slice_get self.now.names n ≡
+            Some (name_in self.now.paths name.now)) }
+        ensures found { (n : ℕ) → slice_get self.now.names n ≡
+            Some (name_in self.now.paths name.now) → result ≡ Some n }
     {
         self.names.find(name)
     }
@@ -82,7 +85,8 @@ impl Names {
     #[inline]
     pub fn add(&mut self, name: Name) -> Result<usize, Memory>
         requires there { name.path < length self.old.paths }
-        ensures name { IfOk result (Adds self.old.names self.new.names (name_in self.old.paths name)) }
+        ensures name { IfOk result (Adds self.old.names self.new.names
+            (name_in self.old.paths name)) }
         ensures paths { self.new.paths ≡ self.old.paths }
         ensures err { OnErr result (self.new ≡ self.old) }
     {
@@ -106,7 +110,8 @@ impl Names {
     pub fn last_frame(&self, path: PathId) -> Option<(PathId, NameFrame)>
         requires there { path < length self.now.paths }
         ensures empty { IfNone result (path_at self.now.paths path ≡ []) }
-        ensures last { IfSome result (λ r. path_at self.now.paths path ≡ r.1 ∷ path_at self.now.paths r.0) }
+        ensures last { IfSome result (λ r. path_at self.now.paths path ≡
+            r.1 ∷ path_at self.now.paths r.0) }
         ensures before { IfSome result (λ r. r.0 < path) }
     {
         let steps = &self.steps;

@@ -80,7 +80,8 @@ fn turn<'a, V>(
     planned: &mut Vec<usize>,
     stack: &mut Vec<Open<'a>>,
 ) -> Result<(), Memory>
-    ensures turns { OnOk result (Turns graph.now.cells top.entry marks.old planned.old.items marks.new planned.new.items stack.old.items stack.new.items) }
+    ensures turns { OnOk result (Turns graph.now.cells top.entry marks.old planned.old.items
+        marks.new planned.new.items stack.old.items stack.new.items) }
 {
     match next_user(&mut top.users, &*marks) {
         None => {

@@ -22,7 +22,8 @@ use imp_chains::{chains_go_through_callers, places_are_found, thresholds_rise};
 /// sides by the order by which states are compared, and the texts of states are to be UTF-8. Statement numbers are to be
 /// below 2^32, chains to have at most 8 calls, and the certificate fewer than 2^64 bytes.
 pub fn certificates_are_accepted<D: Portable>()
-    ensures accepted { (d : D) → HasUpperBounds (D.operations d) (D.port d).leq → PutsUtf8 (D.operations d) (D.port d) → AreAccepted (D.operations d) (D.port d) }
+    ensures accepted { (d : D) → HasUpperBounds (D.operations d) (D.port d).leq →
+        PutsUtf8 (D.operations d) (D.port d) → AreAccepted (D.operations d) (D.port d) }
 {
     certificates_hold::<D>();
     heads_are_of_frames::<D>();

@@ -29,7 +29,8 @@ pub(crate) fn act<D: Portable, L: Ledger>(
     state: &D::State,
     steps: &mut Steps<L>,
 ) -> Result<Followed<D::State>, Memory>
-    ensures is { IfOk result (λ r. r ≡ Behind ((D.operations dom.now).post (Does (effect_of action.now)) state.now)) }
+    ensures is { IfOk result (λ r. r ≡ Behind ((D.operations dom.now).post
+        (Does (effect_of action.now)) state.now)) }
 {
     let next = behind_action(alloc, dom, action, state, steps)?;
     Ok(Followed::Behind(next))
@@ -75,7 +76,8 @@ pub(crate) fn leave_call<D: Portable, L: Ledger>(
     done: Followed<D::State>,
     steps: &mut Steps<L>,
 ) -> Result<Followed<D::State>, Memory>
-    ensures is { IfOk result (λ r. r ≡ behind_by ((D.operations dom.now).leave call.now.returning state.now) done) }
+    ensures is { IfOk result (λ r. r ≡ behind_by ((D.operations dom.now).leave call.now.returning
+        state.now) done) }
 {
     match done {
         Followed::Behind(done) => Ok(Followed::Behind(dom.leave(
@@ -123,7 +125,8 @@ fn behind_loop<D: Portable, L: Ledger>(
     leaving: &[D::State],
     steps: &mut Steps<L>,
 ) -> Result<Followed<D::State>, Memory>
-    ensures is { IfOk result (λ r. r ≡ Behind (joined (D.operations dom.now) ((D.operations dom.now).assume cond.now false head.now) leaving.now)) }
+    ensures is { IfOk result (λ r. r ≡ Behind (joined (D.operations dom.now)
+        ((D.operations dom.now).assume cond.now false head.now) leaving.now)) }
 {
     let out = dom.assume(alloc, cond, false, head, steps)?;
     let all = joined_states(alloc, dom, out, leaving, steps)?;
@@ -140,7 +143,9 @@ pub(crate) fn end_round<D: Portable, L: Ledger>(
     leaving: &[D::State],
     steps: &mut Steps<L>,
 ) -> Result<Followed<D::State>, Memory>
-    ensures is { IfOk result (λ r. turned (D.operations follower.now.dom.now) (D.port follower.now.dom.now).leq follower.now.frame.now.sites n cond.now head.now (ended leaving.now end) ≡ ended [] r) }
+    ensures is { IfOk result (λ r. turned (D.operations follower.now.dom.now)
+        (D.port follower.now.dom.now).leq follower.now.frame.now.sites n cond.now head.now
+        (ended leaving.now end) ≡ ended [] r) }
 {
     match end {
         Followed::Behind(end) => {

@@ -30,7 +30,10 @@ fn follow_block<D: Portable, L: Ledger>(
     leaving: &mut Items<D::State>,
     steps: &mut Steps<L>,
 ) -> Result<Followed<D::State>, Memory>
-    ensures is { IfOk result (λ r. with_leaving leaving.old (followed_in (D.operations follower.now.dom.now) (D.port follower.now.dom.now).leq follower.now.written.now follower.now.routines.now follower.now.frame.now.place follower.now.frame.now.sites block.now state) ≡ ended leaving.new r) }
+    ensures is { IfOk result (λ r. with_leaving leaving.old
+        (followed_in (D.operations follower.now.dom.now) (D.port follower.now.dom.now).leq
+        follower.now.written.now follower.now.routines.now follower.now.frame.now.place
+        follower.now.frame.now.sites block.now state) ≡ ended leaving.new r) }
 {
     let mut now = state;
     for node in block.statements() {
@@ -51,7 +54,11 @@ fn follow_node<D: Portable, L: Ledger>(
     leaving: &mut Items<D::State>,
     steps: &mut Steps<L>,
 ) -> Result<Followed<D::State>, Memory>
-    ensures is { IfOk result (λ r. with_leaving leaving.old (followed_in (D.operations follower.now.dom.now) (D.port follower.now.dom.now).leq follower.now.written.now follower.now.routines.now follower.now.frame.now.place follower.now.frame.now.sites (before_code node.now Stop) state.now) ≡ ended leaving.new r) }
+    ensures is { IfOk result (λ r. with_leaving leaving.old
+        (followed_in (D.operations follower.now.dom.now) (D.port follower.now.dom.now).leq
+        follower.now.written.now follower.now.routines.now follower.now.frame.now.place
+        follower.now.frame.now.sites (before_code node.now Stop) state.now) ≡
+        ended leaving.new r) }
 {
     match node {
         SlotNode::Simple(_, action) => act(follower.alloc, follower.dom, action, state, steps),
@@ -75,7 +82,11 @@ fn follow_branch<D: Portable, L: Ledger>(
     leaving: &mut Items<D::State>,
     steps: &mut Steps<L>,
 ) -> Result<Followed<D::State>, Memory>
-    ensures is { IfOk result (λ r. with_leaving leaving.old (followed_in (D.operations follower.now.dom.now) (D.port follower.now.dom.now).leq follower.now.written.now follower.now.routines.now follower.now.frame.now.place follower.now.frame.now.sites block.now ((D.operations follower.now.dom.now).assume cond.now sense state.now)) ≡ ended leaving.new r) }
+    ensures is { IfOk result (λ r. with_leaving leaving.old
+        (followed_in (D.operations follower.now.dom.now) (D.port follower.now.dom.now).leq
+        follower.now.written.now follower.now.routines.now follower.now.frame.now.place
+        follower.now.frame.now.sites block.now ((D.operations follower.now.dom.now).assume
+        cond.now sense state.now)) ≡ ended leaving.new r) }
 {
     let inside = follower
         .dom
@@ -94,7 +105,11 @@ fn follow_if<D: Portable, L: Ledger>(
     leaving: &mut Items<D::State>,
     steps: &mut Steps<L>,
 ) -> Result<Followed<D::State>, Memory>
-    ensures is { IfOk result (λ r. with_leaving leaving.old (followed_in (D.operations follower.now.dom.now) (D.port follower.now.dom.now).leq follower.now.written.now follower.now.routines.now follower.now.frame.now.place follower.now.frame.now.sites (If 0 cond.now then.now els.now Stop) state.now) ≡ ended leaving.new r) }
+    ensures is { IfOk result (λ r. with_leaving leaving.old
+        (followed_in (D.operations follower.now.dom.now) (D.port follower.now.dom.now).leq
+        follower.now.written.now follower.now.routines.now follower.now.frame.now.place
+        follower.now.frame.now.sites (If 0 cond.now then.now els.now Stop) state.now) ≡
+        ended leaving.new r) }
 {
     let left = match follow_branch(follower, cond, true, then, state, leaving, steps)? {
         Followed::Behind(left) => left,
@@ -114,7 +129,10 @@ fn follow_while<D: Portable, L: Ledger>(
     state: &D::State,
     steps: &mut Steps<L>,
 ) -> Result<Followed<D::State>, Memory>
-    ensures is { IfOk result (λ r. followed_in (D.operations follower.now.dom.now) (D.port follower.now.dom.now).leq follower.now.written.now follower.now.routines.now follower.now.frame.now.place follower.now.frame.now.sites (While n cond.now body.now Stop) state.now ≡ ended [] r) }
+    ensures is { IfOk result (λ r. followed_in (D.operations follower.now.dom.now)
+        (D.port follower.now.dom.now).leq follower.now.written.now follower.now.routines.now
+        follower.now.frame.now.place follower.now.frame.now.sites
+        (While n cond.now body.now Stop) state.now ≡ ended [] r) }
 {
     match head_of(follower.alloc, follower.written, follower.frame, n)? {
         None => fail(follower.alloc, follower.frame, n, Why::Missing),
@@ -138,7 +156,11 @@ fn follow_round<D: Portable, L: Ledger>(
     head: &D::State,
     steps: &mut Steps<L>,
 ) -> Result<Followed<D::State>, Memory>
-    ensures is { IfOk result (λ r. round (D.operations follower.now.dom.now) (D.port follower.now.dom.now).leq follower.now.frame.now.sites n cond.now (followed_in (D.operations follower.now.dom.now) (D.port follower.now.dom.now).leq follower.now.written.now follower.now.routines.now follower.now.frame.now.place follower.now.frame.now.sites body.now) head.now ≡ ended [] r) }
+    ensures is { IfOk result (λ r. round (D.operations follower.now.dom.now)
+        (D.port follower.now.dom.now).leq follower.now.frame.now.sites n cond.now
+        (followed_in (D.operations follower.now.dom.now) (D.port follower.now.dom.now).leq
+        follower.now.written.now follower.now.routines.now follower.now.frame.now.place
+        follower.now.frame.now.sites body.now) head.now ≡ ended [] r) }
 {
     let mut leaving = Items::new(follower.alloc);
     let end = follow_branch(follower, cond, true, body, head, &mut leaving, steps)?;
@@ -156,7 +178,10 @@ fn follow_call<D: Portable, L: Ledger>(
     state: &D::State,
     steps: &mut Steps<L>,
 ) -> Result<Followed<D::State>, Memory>
-    ensures is { IfOk result (λ r. followed_in (D.operations follower.now.dom.now) (D.port follower.now.dom.now).leq follower.now.written.now follower.now.routines.now follower.now.frame.now.place follower.now.frame.now.sites (Call n call.now callee Stop) state.now ≡ ended [] r) }
+    ensures is { IfOk result (λ r. followed_in (D.operations follower.now.dom.now)
+        (D.port follower.now.dom.now).leq follower.now.written.now follower.now.routines.now
+        follower.now.frame.now.place follower.now.frame.now.sites
+        (Call n call.now callee Stop) state.now ≡ ended [] r) }
 {
     let entered = follower.dom.enter(follower.alloc, call, state, steps)?;
     let done = follow_callee(follower, n, callee as usize, entered, steps)?;
@@ -184,7 +209,9 @@ fn follow_callee<D: Portable, L: Ledger>(
     entered: D::State,
     steps: &mut Steps<L>,
 ) -> Result<Followed<D::State>, Memory>
-    ensures is { IfOk result (EndsSo (calls_in (D.operations follower.now.dom.now) (D.port follower.now.dom.now).leq follower.now.written.now follower.now.routines.now follower.now.frame.now.place follower.now.frame.now.sites n callee entered)) }
+    ensures is { IfOk result (EndsSo (calls_in (D.operations follower.now.dom.now)
+        (D.port follower.now.dom.now).leq follower.now.written.now follower.now.routines.now
+        follower.now.frame.now.place follower.now.frame.now.sites n callee entered)) }
 {
     match callee_at(follower.routines, follower.frame.place, callee) {
         None => Ok(Followed::Behind(entered)),
@@ -212,7 +239,8 @@ pub(crate) fn follow_main<D: Portable, L: Ledger>(
     steps: &mut Steps<L>,
 ) -> Result<Followed<D::State>, Memory>
     requires some { 0 < length routines.now }
-    ensures is { IfOk result (EndsSo (followed_program (D.operations dom.now) (D.port dom.now).leq (state_at written.now) routines.now)) }
+    ensures is { IfOk result (EndsSo (followed_program (D.operations dom.now) (D.port dom.now).leq
+        (state_at written.now) routines.now)) }
 {
     let frame = CallFrame::main(alloc, routines);
     let main = &routines[frame.place];

@@ -37,7 +37,8 @@ fn why_word(why: Why) -> &'static str
 /// Adds that a line is bad.
 #[tactic(auto, using(crate::proofs::LineLemmas::bad_text))]
 fn put_bad(text: &mut Vec<u8>, line: usize) -> Result<(), Memory>
-    ensures line { OnOk result (text.new.items ≡ text.old.items ++ compact_text (verified_data (BadLine line))) }
+    ensures line { OnOk result (text.new.items ≡ text.old.items
+        ++ compact_text (verified_data (BadLine line))) }
 {
     text.extend_from_slice(b"{\"line\":")?;
     put_number(text, line as u64)?;
@@ -47,7 +48,8 @@ fn put_bad(text: &mut Vec<u8>, line: usize) -> Result<(), Memory>
 
 /// Adds a loop and the calls of its chain, as the first members of an object.
 fn put_place(text: &mut Vec<u8>, at: StmtId, chain: &Chain) -> Result<(), Memory>
-    ensures place { OnOk result (text.new.items ≡ (((text.old.items ++ codes "{\"at\":") ++ decimal at) ++ codes ",\"chain\":") ++ compact_text (list_of count chain.now)) }
+    ensures place { OnOk result (text.new.items ≡ (((text.old.items ++ codes "{\"at\":")
+        ++ decimal at) ++ codes ",\"chain\":") ++ compact_text (list_of count chain.now)) }
 {
     text.extend_from_slice(b"{\"at\":")?;
     put_number(text, u64::from(at.number()))?;
@@ -58,7 +60,8 @@ fn put_place(text: &mut Vec<u8>, at: StmtId, chain: &Chain) -> Result<(), Memory
 
 /// Adds that what is written of a loop does not do.
 fn put_no(text: &mut Vec<u8>, at: StmtId, chain: &Chain, why: Why) -> Result<(), Memory>
-    ensures line { OnOk result (text.new.items ≡ text.old.items ++ compact_text (verified_data (No at (reverse chain.now) (why_of why)))) }
+    ensures line { OnOk result (text.new.items ≡ text.old.items
+        ++ compact_text (verified_data (No at (reverse chain.now) (why_of why)))) }
 {
     put_place(text, at, chain)?;
     text.extend_from_slice(b",\"verify\":\"no\",\"why\":")?;
@@ -70,7 +73,8 @@ fn put_no(text: &mut Vec<u8>, at: StmtId, chain: &Chain, why: Why) -> Result<(),
 /// Adds what checking comes to.
 #[tactic(auto, using(crate::proofs::LineLemmas::yes_text))]
 fn put_verified(text: &mut Vec<u8>, verified: &Verified) -> Result<(), Memory>
-    ensures line { OnOk result (text.new.items ≡ text.old.items ++ compact_text (verified_data (verified_of verified.now))) }
+    ensures line { OnOk result (text.new.items ≡ text.old.items
+        ++ compact_text (verified_data (verified_of verified.now))) }
 {
     match verified {
         Verified::Yes => {

@@ -32,7 +32,9 @@ fn verify_written<D: Portable, L: Ledger>(
     steps: &mut Steps<L>,
 ) -> Result<Verified, Memory>
     requires some { 0 < length (routines_of prog.now) }
-    ensures is { IfOk result (λ v. verified_of v ≡ of_followed (followed_program (D.operations dom.now) (D.port dom.now).leq (state_at written.now) (routines_of prog.now))) }
+    ensures is { IfOk result (λ v. verified_of v ≡ of_followed
+        (followed_program (D.operations dom.now) (D.port dom.now).leq (state_at written.now)
+        (routines_of prog.now))) }
 {
     match follow_main(alloc, dom, prog.routines(), written, steps)? {
         Followed::Behind(_) => Ok(Verified::Yes),
@@ -49,7 +51,8 @@ fn verified<D: Portable, L: Ledger>(
     cert: &[u8],
     steps: &mut Steps<L>,
 ) -> Result<Verified, Memory>
-    ensures is { IfOk result (λ v. verified_of v ≡ verify (D.operations dom.now) (D.port dom.now) (routines_of prog.now) cert.now) }
+    ensures is { IfOk result (λ v. verified_of v ≡ verify (D.operations dom.now) (D.port dom.now)
+        (routines_of prog.now) cert.now) }
     ensures faultless { check_fault prog.now ≡ None }
     ensures fit { IsChecked (routines_of prog.now) }
     ensures short { IfOk result (λ _. length cert.now < 2 ^ 64) }
@@ -79,10 +82,15 @@ pub fn verify<D: Portable, L: Ledger>(
     cert: &[u8],
     steps: &mut Steps<L>,
 ) -> Result<Vec<u8>, Memory>
-    ensures line { IfOk result (λ v. v.items ≡ verified_line (verify (D.operations dom.now) (D.port dom.now) (routines_of prog.now) cert.now)) }
-    ensures sound { IfOk result (λ v. v.items ≡ verified_line Yes → CoversRuns (D.covers dom.now) (D.port dom.now) (routines_of prog.now) cert.now) }
-    ensures accepts { HasUpperBounds (D.operations dom.now) (D.port dom.now).leq → PutsUtf8 (D.operations dom.now) (D.port dom.now) → HasSmallNumbers (routines_of prog.now)
-        → IsCertificate (D.operations dom.now) (D.port dom.now) (routines_of prog.now) cert.now → IfOk result (λ v. v.items ≡ verified_line Yes) }
+    ensures line { IfOk result (λ v. v.items ≡ verified_line
+        (verify (D.operations dom.now) (D.port dom.now) (routines_of prog.now) cert.now)) }
+    ensures sound { IfOk result (λ v. v.items ≡ verified_line Yes →
+        CoversRuns (D.covers dom.now) (D.port dom.now) (routines_of prog.now) cert.now) }
+    ensures accepts { HasUpperBounds (D.operations dom.now) (D.port dom.now).leq →
+        PutsUtf8 (D.operations dom.now) (D.port dom.now) →
+        HasSmallNumbers (routines_of prog.now)
+        → IsCertificate (D.operations dom.now) (D.port dom.now) (routines_of prog.now) cert.now →
+        IfOk result (λ v. v.items ≡ verified_line Yes) }
 {
     let verified = verified(alloc, dom, prog, cert, steps)?;
     a_yes_is_sound::<D>();

@@ -17,7 +17,8 @@ use imp_chains::{chains_go_through_callers, places_are_found, thresholds_rise};
 /// interpretation has at the heads of its loops finds nothing, whatever else is written. Joins and widenings are
 /// to be above both sides, by the order by which states are compared.
 pub fn certificates_hold<D: Domain>()
-    ensures hold { (d : D) (leq : D.State → D.State → Bool) → HasUpperBounds (D.operations d) leq → CertificatesHold (D.operations d) leq }
+    ensures hold { (d : D) (leq : D.State → D.State → Bool) → HasUpperBounds (D.operations d) leq →
+        CertificatesHold (D.operations d) leq }
 {
     thresholds_rise();
     places_are_found();

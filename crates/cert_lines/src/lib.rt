@@ -15,7 +15,8 @@ use domain_laws::Domain;
 /// the test of a loop is described, with all its frames, by the state of a line of that loop under the
 /// configuration's call sites.
 pub fn a_yes_is_sound<D: Domain>()
-    ensures sound { (d : D) (port : Portable D.State) → PortableLaws (D.operations d) (D.covers d) port → IsYesSound (D.operations d) (D.covers d) port }
+    ensures sound { (d : D) (port : Portable D.State) → PortableLaws (D.operations d)
+        (D.covers d) port → IsYesSound (D.operations d) (D.covers d) port }
 {
     certificates_are_sound::<D>();
 }

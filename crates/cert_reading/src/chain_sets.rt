@@ -47,7 +47,8 @@ impl ChainSet {
     }
 
     fn insert(&mut self, chain: Items<StmtId>) -> Result<(), Memory>
-        ensures added { OnOk result ((z : List ℕ) → is_chain z self.new ≡ (if bytes_eq z chain then true else is_chain z self.old)) }
+        ensures added { OnOk result ((z : List ℕ) → is_chain z self.new ≡
+            (if bytes_eq z chain then true else is_chain z self.old)) }
     {
         self.chains.insert(chain)?;
         Ok(())
@@ -64,7 +65,8 @@ fn last_first(alloc: Global, chain: &Chain) -> Result<Items<StmtId>, Memory>
 
 /// The set of these chains, which have the outermost call first.
 fn set_of(alloc: Global, chains: &[Chain]) -> Result<ChainSet, Memory>
-    ensures is { IfOk result (λ s. (z : List ℕ) → is_chain z s ≡ is_chain z (map reverse chains.now)) }
+    ensures is { IfOk result (λ s. (z : List ℕ) → is_chain z s ≡
+        is_chain z (map reverse chains.now)) }
 {
     let mut set = ChainSet::new(alloc);
     for chain in chains {

@@ -102,7 +102,8 @@ fn entry_with<D: Portable>(
     text: &[u8],
 ) -> Result<Option<CertEntry<D::State>>, Memory>
     requires chains { AreChains (routines_of prog.now) chains.now.sets }
-    ensures is { IfOk result (λ o. option_map entry_told o ≡ entry_with (D.port dom.now) (routines_of prog.now) at sites text.now) }
+    ensures is { IfOk result (λ o. option_map entry_told o ≡ entry_with (D.port dom.now)
+        (routines_of prog.now) at sites text.now) }
 {
     if !is_loop_under(&prog.view(), chains, at, &sites) {
         return Ok(None);
@@ -124,7 +125,9 @@ fn entry_in<D: Portable>(
     line: &Value,
 ) -> Result<Option<CertEntry<D::State>>, Memory>
     requires chains { AreChains (routines_of prog.now) chains.now.sets }
-    ensures is { IfOk result (λ o. option_map entry_told o ≡ option_and_then (entry_in (D.port dom.now) (routines_of prog.now)) (line_in (view line.now))) }
+    ensures is { IfOk result (λ o. option_map entry_told o ≡
+        option_and_then (entry_in (D.port dom.now) (routines_of prog.now))
+        (line_in (view line.now))) }
 {
     let Some(at) = loop_at(line) else {
         return Ok(None);
@@ -148,7 +151,8 @@ pub(crate) fn entry_of<D: Portable>(
     line: &[u8],
 ) -> Result<Option<CertEntry<D::State>>, Memory>
     requires chains { AreChains (routines_of prog.now) chains.now.sets }
-    ensures is { IfOk result (λ o. option_map entry_told o ≡ entry_of (D.port dom.now) (routines_of prog.now) line.now) }
+    ensures is { IfOk result (λ o. option_map entry_told o ≡
+        entry_of (D.port dom.now) (routines_of prog.now) line.now) }
 {
     match json_of(alloc, line)? {
         Some(value) => entry_in(alloc, dom, prog, chains, &value),

@@ -36,7 +36,8 @@ fn add_line<D: Portable>(
     written: &mut Written<D::State>,
 ) -> Result<bool, Memory>
     requires chains { AreChains (routines_of prog.now) chains.now.sets }
-    ensures added { IfOk result (IsAdded (D.port dom.now) (routines_of prog.now) line.now written.old written.new) }
+    ensures added { IfOk result (IsAdded (D.port dom.now)
+        (routines_of prog.now) line.now written.old written.new) }
 {
     let Some(entry) = entry_of(alloc, dom, prog, chains, line)? else {
         return Ok(false);
@@ -72,7 +73,8 @@ fn read_byte<D: Portable>(
     requires chains { AreChains (routines_of prog.now) chains.now.sets }
     requires room { count.old + 1 < 2 ^ 64 }
     ensures counted { OnOk result (count.new ≤ count.old + 1) }
-    ensures goes { IfOk result (GoesOn (D.port dom.now) (routines_of prog.now) byte written.old count.old line.old.items written.new count.new line.new.items) }
+    ensures goes { IfOk result (GoesOn (D.port dom.now) (routines_of prog.now) byte written.old
+        count.old line.old.items written.new count.new line.new.items) }
 {
     if byte == b'\n' {
         if add_line(alloc, dom, prog, chains, line.as_slice(), written)? {
@@ -99,7 +101,9 @@ fn read_rest<D: Portable>(
     written: Written<D::State>,
 ) -> Result<Lines<D::State>, Memory>
     requires chains { AreChains (routines_of prog.now) chains.now.sets }
-    ensures is { IfOk result (λ r. (all : plain.Entries D.State) → IsReading (D.port dom.now) (routines_of prog.now) written count (last_line line.now) all → IsRead all r) }
+    ensures is { IfOk result (λ r. (all : plain.Entries D.State) →
+        IsReading (D.port dom.now) (routines_of prog.now) written count
+        (last_line line.now) all → IsRead all r) }
 {
     let mut all = written;
     match line {
@@ -123,7 +127,8 @@ fn read_lines<D: Portable>(
     cert: &[u8],
 ) -> Result<Lines<D::State>, Memory>
     requires chains { AreChains (routines_of prog.now) chains.now.sets }
-    ensures is { IfOk result (IsRead (plain.entries (D.port dom.now) (routines_of prog.now) 1 [] (all_lines cert.now))) }
+    ensures is { IfOk result (IsRead (plain.entries (D.port dom.now) (routines_of prog.now) 1 []
+        (all_lines cert.now))) }
     ensures short { length cert.now < 2 ^ 64 }
 {
     let mut written = Written::new(alloc);
@@ -156,7 +161,8 @@ pub fn read_certificate<D: Portable>(
     prog: &Checked,
     cert: &[u8],
 ) -> Result<Lines<D::State>, Memory>
-    ensures is { IfOk result (IsRead (plain.entries (D.port dom.now) (routines_of prog.now) 1 [] (all_lines cert.now))) }
+    ensures is { IfOk result (IsRead (plain.entries (D.port dom.now) (routines_of prog.now) 1 []
+        (all_lines cert.now))) }
     ensures faultless { check_fault prog.now ≡ None }
     ensures fit { IsChecked (routines_of prog.now) }
     ensures short { IfOk result (λ _. length cert.now < 2 ^ 64) }

@@ -54,7 +54,8 @@ impl<S: Drop> Written<S> {
 
     /// Writes the state of a loop under call sites.
     pub(crate) fn insert(&mut self, key: Items<StmtId>, state: S) -> Result<(), Memory>
-        ensures put { OnOk result ((q : List ℕ) → lookup (bytes_eq q) self.new ≡ (if bytes_eq key q then Some state else lookup (bytes_eq q) self.old)) }
+        ensures put { OnOk result ((q : List ℕ) → lookup (bytes_eq q) self.new ≡
+            (if bytes_eq key q then Some state else lookup (bytes_eq q) self.old)) }
     {
         self.states.insert(key, state)?;
         Ok(())

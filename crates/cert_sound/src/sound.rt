@@ -12,7 +12,9 @@ use imp_chains::{places_are_found, thresholds_rise};
 /// its frames, by the state that is written of the loop under the configuration's call sites. The states are
 /// to be of the frames that stand there, and the order by which they are compared is to be sound.
 pub fn certificates_are_sound<D: Domain>()
-    ensures sound { (d : D) (leq : D.State → D.State → Bool) → IsSoundOrder (D.operations d) (D.covers d) leq → AreCertificatesSound (D.operations d) (D.covers d) leq }
+    ensures sound { (d : D) (leq : D.State → D.State → Bool) →
+        IsSoundOrder (D.operations d) (D.covers d) leq →
+        AreCertificatesSound (D.operations d) (D.covers d) leq }
 {
     steps_keep_data();
     thresholds_rise();

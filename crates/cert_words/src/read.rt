@@ -62,7 +62,8 @@ fn read(alloc: Global, text: &[u8]) -> Result<Vec<Option<i128>>, AllocError>
 /// The words that have this text, if there are such. It fails only when memory runs out.
 #[tactic(auto, unfolding(crate::specs::Words::words_of))]
 pub fn words_of(alloc: Global, text: &[u8]) -> Result<Option<Vec<Option<i128>>>, Memory>
-    ensures exact { IfOk result (λ found. option_map (λ v. v.items) found ≡ meant.words_of text.now) }
+    ensures exact { IfOk result (λ found. option_map (λ v. v.items) found ≡
+        meant.words_of text.now) }
 {
     let found = read(alloc, text)?;
     let back = words_text(alloc, &found)?;

@@ -17,7 +17,8 @@ use std::alloc::Global;
 /// Adds a loop under a chain, with the text of its state, as an object.
 #[tactic(auto, using(crate::proofs::LineLemmas::state_text))]
 fn put_state(text: &mut Vec<u8>, stmt: StmtId, chain: &Chain, state: &[u8]) -> Result<(), Memory>
-    ensures object { OnOk result (text.new.items ≡ text.old.items ++ compact_text (line_data stmt chain.now state.now)) }
+    ensures object { OnOk result (text.new.items ≡ text.old.items
+        ++ compact_text (line_data stmt chain.now state.now)) }
 {
     text.extend_from_slice(b"{\"at\":")?;
     put_number(text, u64::from(stmt.number()))?;
@@ -31,7 +32,8 @@ fn put_state(text: &mut Vec<u8>, stmt: StmtId, chain: &Chain, state: &[u8]) -> R
 
 /// Adds the line of a loop under a chain, with the text of its state.
 fn put_line(text: &mut Vec<u8>, stmt: StmtId, chain: &Chain, state: &[u8]) -> Result<(), Memory>
-    ensures line { OnOk result (text.new.items ≡ text.old.items ++ (compact_text (line_data stmt chain.now state.now) ++ 10 ∷ [])) }
+    ensures line { OnOk result (text.new.items ≡ text.old.items
+        ++ (compact_text (line_data stmt chain.now state.now) ++ 10 ∷ [])) }
 {
     put_state(text, stmt, chain, state)?;
     text.push(b'\n')?;
@@ -56,7 +58,10 @@ fn add_line<D: Portable>(
     head: &LoopHead<D::State>,
     text: &mut Vec<u8>,
 ) -> Result<Option<Vec<u8>>, Memory>
-    ensures added { IfOk result (λ o. (engine : LoopOptions) (program : List Routine) (more : Certificate) → behind text.old.items (lines_under (D.operations dom.now) (D.port dom.now) engine program (reverse chain.now) (head_told head.now ∷ []) more) ≡ or_over (bytes_in o) (behind text.new.items more)) }
+    ensures added { IfOk result (λ o. (engine : LoopOptions) (program : List Routine)
+        (more : Certificate) → behind text.old.items
+        (lines_under (D.operations dom.now) (D.port dom.now) engine program (reverse chain.now)
+        (head_told head.now ∷ []) more) ≡ or_over (bytes_in o) (behind text.new.items more)) }
 {
     match &head.value {
         Answer::State(state) => {
@@ -79,7 +84,10 @@ pub(crate) fn add_lines<D: Portable>(
     heads: &[LoopHead<D::State>],
     text: &mut Vec<u8>,
 ) -> Result<Option<Vec<u8>>, Memory>
-    ensures added { IfOk result (λ o. (engine : LoopOptions) (program : List Routine) (more : Certificate) → behind text.old.items (lines_under (D.operations dom.now) (D.port dom.now) engine program (reverse chain.now) (map head_told heads.now) more) ≡ or_over (bytes_in o) (behind text.new.items more)) }
+    ensures added { IfOk result (λ o. (engine : LoopOptions) (program : List Routine)
+        (more : Certificate) → behind text.old.items
+        (lines_under (D.operations dom.now) (D.port dom.now) engine program (reverse chain.now)
+        (map head_told heads.now) more) ≡ or_over (bytes_in o) (behind text.new.items more)) }
 {
     for head in heads {
         match add_line(alloc, dom, chain, head, text)? {

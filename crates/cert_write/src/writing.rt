@@ -25,7 +25,9 @@ fn all_lines<D: Portable>(
     dom: &D,
     loops: &[LoopsUnder<D::State>],
 ) -> Result<Vec<u8>, Memory>
-    ensures text { IfOk result (λ v. (engine : LoopOptions) (program : List Routine) → v.items ≡ behind [] (all_lines (D.operations dom.now) (D.port dom.now) engine program (map under_told loops.now) (Lines []))) }
+    ensures text { IfOk result (λ v. (engine : LoopOptions) (program : List Routine) →
+        v.items ≡ behind [] (all_lines (D.operations dom.now) (D.port dom.now) engine program
+        (map under_told loops.now) (Lines []))) }
 {
     let mut text = Vec::new(alloc);
     for under in loops {
@@ -53,7 +55,9 @@ pub fn certificate<D: Portable, L: Ledger>(
     widening: Widening,
     steps: &mut Steps<L>,
 ) -> Result<Vec<u8>, Memory>
-    ensures text { IfOk result (λ v. v.items ≡ certificate_text (certificate (D.operations dom.now) (D.port dom.now) (engine_of budget widening) (routines_of prog.now))) }
+    ensures text { IfOk result (λ v. v.items ≡ certificate_text
+        (certificate (D.operations dom.now) (D.port dom.now) (engine_of budget widening)
+        (routines_of prog.now))) }
 {
     let setting = Setting::new(alloc, &prog.view(), budget, widening)?;
     let loops = loop_heads(alloc, dom, prog, &setting, steps)?;

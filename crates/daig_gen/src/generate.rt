@@ -120,7 +120,8 @@ fn put_turns(
     size: u32,
 ) -> Result<(), AllocError>
     requires { size ≤ statements }
-    ensures added { OnOk result (lines.new.items ≡ lines.old.items ++ turns statements size draws.old) }
+    ensures added { OnOk result (lines.new.items ≡ lines.old.items
+        ++ turns statements size draws.old) }
 {
     for _ in 0..size {
         put_turn(lines, draws, statements)?;

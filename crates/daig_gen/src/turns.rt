@@ -39,7 +39,8 @@ pub(crate) fn put_turn(
     statements: u64,
 ) -> Result<(), AllocError>
     requires { 0 < statements }
-    ensures added { OnOk result (lines.new.items ≡ lines.old.items ++ turn_lines statements draws.old) }
+    ensures added { OnOk result (lines.new.items ≡ lines.old.items
+        ++ turn_lines statements draws.old) }
     ensures state { OnOk result (draws.new ≡ turn_state draws.old) }
 {
     let turn = ScriptRequest::of(draws.pick(4));
@@ -54,7 +55,8 @@ fn put_lines(
     turn: ScriptRequest,
     statement: u64,
 ) -> Result<(), AllocError>
-    ensures added { OnOk result (lines.new.items ≡ lines.old.items ++ lines_of turn statement draws.old) }
+    ensures added { OnOk result (lines.new.items ≡ lines.old.items
+        ++ lines_of turn statement draws.old) }
     ensures state { OnOk result (draws.new ≡ state_after turn draws.old) }
 {
     match turn {

@@ -51,7 +51,8 @@ impl<V> Graph<V> {
         V: Drop,
         requires absent { map.get self.old.cells cell ≡ None }
         requires inputs { AreCells self.old.cells inputs }
-        ensures fills { OnOk result (self.new.cells ≡ map.insert self.old.cells cell (record { owner = owner; value = value; inputs = inputs })) }
+        ensures fills { OnOk result (self.new.cells ≡ map.insert self.old.cells cell
+            (record { owner = owner; value = value; inputs = inputs })) }
         ensures err { OnErr result (self.new.cells ≡ self.old.cells) }
     {
         make_room(
@@ -145,7 +146,8 @@ fn make_room<V>(
 /// The cell at a key holds this state.
 #[inline]
 fn set_held<V: Drop>(cells: &mut Slab<Cell<V>>, key: usize, held: V)
-    ensures set { (c : _) → get cells.old key ≡ Some c → get cells.new key ≡ Some (record c { value = State held }) }
+    ensures set { (c : _) → get cells.old key ≡ Some c →
+        get cells.new key ≡ Some (record c { value = State held }) }
     ensures others { (k : ℕ) → k ≢ key → get cells.new k ≡ get cells.old k }
 {
     if let Some(cell) = cells.get_mut(key) {

@@ -89,7 +89,8 @@ impl<T: Copy> Lists<T> {
 /// Another member, or none, comes before the one at a key.
 #[inline]
 fn set_before<T: Copy>(members: &mut Slab<Member<T>>, key: Link, before: Link)
-    ensures set { (k : ℕ) (m : _) → key ≡ Some k → get members.old k ≡ Some m → get members.new k ≡ Some (record m { before = before }) }
+    ensures set { (k : ℕ) (m : _) → key ≡ Some k → get members.old k ≡ Some m →
+        get members.new k ≡ Some (record m { before = before }) }
     ensures others { (k : ℕ) → key ≢ Some k → get members.new k ≡ get members.old k }
     ensures len { slab_len members.new ≡ slab_len members.old }
     ensures capacity { members.new.capacity ≡ members.old.capacity }
@@ -103,7 +104,8 @@ fn set_before<T: Copy>(members: &mut Slab<Member<T>>, key: Link, before: Link)
 /// Another member, or none, comes after the one at a key.
 #[inline]
 fn set_next<T: Copy>(members: &mut Slab<Member<T>>, key: Link, next: Link)
-    ensures set { (k : ℕ) (m : _) → key ≡ Some k → get members.old k ≡ Some m → get members.new k ≡ Some (record m { next = next }) }
+    ensures set { (k : ℕ) (m : _) → key ≡ Some k → get members.old k ≡ Some m →
+        get members.new k ≡ Some (record m { next = next }) }
     ensures others { (k : ℕ) → key ≢ Some k → get members.new k ≡ get members.old k }
     ensures len { slab_len members.new ≡ slab_len members.old }
     ensures capacity { members.new.capacity ≡ members.old.capacity }
@@ -119,7 +121,8 @@ fn set_next<T: Copy>(members: &mut Slab<Member<T>>, key: Link, next: Link)
 fn set_first(firsts: &mut Index, list: usize, before: Link, first: Link)
     requires place { before ≡ None → list < length firsts.old }
     ensures first { before ≡ None → key_at firsts.new list ≡ first }
-    ensures others { (q : ℕ) → (before ≡ None → q ≢ list) → key_at firsts.new q ≡ key_at firsts.old q }
+    ensures others { (q : ℕ) → (before ≡ None → q ≢ list) →
+        key_at firsts.new q ≡ key_at firsts.old q }
     ensures places { length firsts.new ≡ length firsts.old }
 {
     if before.key().is_none() {

@@ -13,7 +13,8 @@ impl<V> Graph<V> {
     /// The value of a cell, or `None` where it is not there.
     #[inline]
     pub fn value(&self, cell: usize) -> Option<&Value<V>>
-        ensures value { option_copied result ≡ option_map (λ f. f.value) (map.get self.now.cells cell) }
+        ensures value { option_copied result ≡ option_map
+            (λ f. f.value) (map.get self.now.cells cell) }
     {
         match self.cell(cell) {
             Some(found) => Some(&found.value),
@@ -24,7 +25,8 @@ impl<V> Graph<V> {
     /// The inputs of a cell from left to right, or `None` where it is not there. They are cells.
     #[inline]
     pub fn inputs(&self, cell: usize) -> Option<&[usize]>
-        ensures inputs { option_copied result ≡ option_map (λ f. f.inputs) (map.get self.now.cells cell) }
+        ensures inputs { option_copied result ≡ option_map
+            (λ f. f.inputs) (map.get self.now.cells cell) }
         ensures cells { IfSome result (λ inputs. AreCells self.now.cells inputs.now) }
     {
         match self.cell(cell) {

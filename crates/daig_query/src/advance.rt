@@ -50,12 +50,15 @@ fn turn_walk<D: Domain>(
 ) -> Result<AdvanceResult, Memory>
     requires right { IsRight (D.operations dom.now) flow.now store.old }
     requires targets { AreTargets flow.now (map target_of targets.now) }
-    requires placed { IsPlaced (D.operations dom.now) flow.now (map target_of targets.now) store.old walk.old }
+    requires placed { IsPlaced (D.operations dom.now) flow.now (map target_of targets.now) store.old
+        walk.old }
     requires empty { walk.old.stack.items ≡ [] }
     ensures right { IsRight (D.operations dom.now) flow.now store.new }
     ensures grows { Grows store.old store.new }
-    ensures walk { IsGood (D.operations dom.now) flow.now (map target_of targets.now) store.new walk.new }
-    ensures turns { IfOk result (Turns (D.operations dom.now) flow.now (map target_of targets.now) store.old store.new [] walk.new) }
+    ensures walk { IsGood (D.operations dom.now) flow.now (map target_of targets.now) store.new
+        walk.new }
+    ensures turns { IfOk result (Turns (D.operations dom.now) flow.now
+        (map target_of targets.now) store.old store.new [] walk.new) }
     ensures only { OnlyNames store.old store.new }
 {
     match next_demanded(alloc, dom, flow, store, targets, walk)? {
@@ -82,7 +85,8 @@ fn hand_down(stack: &mut Vec<Open>, cell: usize)
 #[inline]
 fn push_both(stack: &mut Vec<Open>, entry: Open, input: Open) -> Result<(), Memory>
     ensures pushed { OnOk result (stack.new.items ≡ (stack.old.items ++ entry ∷ []) ++ input ∷ []) }
-    ensures err { OnErr result ((stack.new.items ≡ stack.old.items) ⊎ (stack.new.items ≡ stack.old.items ++ entry ∷ [])) }
+    ensures err { OnErr result ((stack.new.items ≡ stack.old.items) ⊎
+        (stack.new.items ≡ stack.old.items ++ entry ∷ [])) }
 {
     stack.push(entry)?;
     stack.push(input)?;
@@ -104,17 +108,24 @@ fn turn_open<D: Domain, L: Ledger>(
     steps: &mut Steps<L>,
 ) -> Result<AdvanceResult, Memory>
     requires right { IsRight (D.operations dom.now) flow.now store.old }
-    requires placed { IsPlaced (D.operations dom.now) flow.now (map target_of targets.now) store.old walk.old }
-    requires stacked { AreStacked (D.operations dom.now) flow.now store.old (place_of (map target_of targets.now) store.old walk.old) (walk.old.stack.items ++ top ∷ []) }
+    requires placed { IsPlaced (D.operations dom.now) flow.now (map target_of targets.now) store.old
+        walk.old }
+    requires stacked { AreStacked (D.operations dom.now) flow.now store.old
+        (place_of (map target_of targets.now) store.old walk.old)
+        (walk.old.stack.items ++ top ∷ []) }
     requires absent { kept store.old (name_of store.old top) ≡ false }
     ensures right { IsRight (D.operations dom.now) flow.now store.new }
     ensures grows { Grows store.old store.new }
-    ensures walk { IsGood (D.operations dom.now) flow.now (map target_of targets.now) store.new walk.new }
-    ensures turns { IfOk result (Turns (D.operations dom.now) flow.now (map target_of targets.now) store.old store.new (stacked_names store.old (walk.old.stack.items ++ top ∷ [])) walk.new) }
+    ensures walk { IsGood (D.operations dom.now) flow.now (map target_of targets.now) store.new
+        walk.new }
+    ensures turns { IfOk result (Turns (D.operations dom.now) flow.now
+        (map target_of targets.now) store.old store.new
+        (stacked_names store.old (walk.old.stack.items ++ top ∷ [])) walk.new) }
     ensures obeys { IfOk result (Obeys spent) }
     ensures err { OnErr result (AddsNoCell store.old store.new) }
     ensures least { steps.old ≤ steps.new }
-    ensures ticked { IfOk result (λ turn. steps.new ≤ steps.old + D.counted dom.now * fills_of turn) }
+    ensures ticked { IfOk result (λ turn. steps.new ≤ steps.old + D.counted dom.now
+        * fills_of turn) }
     ensures most { steps.new ≤ steps.old + D.counted dom.now }
 {
     let mut entry = top;
@@ -149,16 +160,21 @@ fn take_turn<D: Domain, L: Ledger>(
 ) -> Result<AdvanceResult, Memory>
     requires right { IsRight (D.operations dom.now) flow.now store.old }
     requires targets { AreTargets flow.now (map target_of targets.now) }
-    requires walk { IsGood (D.operations dom.now) flow.now (map target_of targets.now) store.old walk.old }
+    requires walk { IsGood (D.operations dom.now) flow.now (map target_of targets.now) store.old
+        walk.old }
     requires absent { IsTopAbsent store.old walk.old.stack.items }
     ensures right { IsRight (D.operations dom.now) flow.now store.new }
     ensures grows { Grows store.old store.new }
-    ensures walk { IsGood (D.operations dom.now) flow.now (map target_of targets.now) store.new walk.new }
-    ensures turns { IfOk result (Turns (D.operations dom.now) flow.now (map target_of targets.now) store.old store.new (stacked_names store.old walk.old.stack.items) walk.new) }
+    ensures walk { IsGood (D.operations dom.now) flow.now (map target_of targets.now) store.new
+        walk.new }
+    ensures turns { IfOk result (Turns (D.operations dom.now) flow.now
+        (map target_of targets.now) store.old store.new
+        (stacked_names store.old walk.old.stack.items) walk.new) }
     ensures obeys { IfOk result (Obeys spent) }
     ensures err { OnErr result (AddsNoCell store.old store.new) }
     ensures least { steps.old ≤ steps.new }
-    ensures ticked { IfOk result (λ turn. steps.new ≤ steps.old + D.counted dom.now * fills_of turn) }
+    ensures ticked { IfOk result (λ turn. steps.new ≤ steps.old + D.counted dom.now
+        * fills_of turn) }
     ensures most { steps.new ≤ steps.old + D.counted dom.now }
 {
     match walk.stack.pop() {
@@ -180,18 +196,26 @@ fn fill_missing<D: Domain, L: Ledger>(
 ) -> Result<Progress, Memory>
     requires right { IsRight (D.operations dom.now) flow.now store.old }
     requires targets { AreTargets flow.now (map target_of targets.now) }
-    requires walk { IsGood (D.operations dom.now) flow.now (map target_of targets.now) store.old walk.old }
-    ensures fills { Fills (D.operations dom.now) flow.now (map target_of targets.now) store.old store.new (cells_added store.old store.new) }
-    ensures walk { IsGood (D.operations dom.now) flow.now (map target_of targets.now) store.new walk.new }
+    requires walk { IsGood (D.operations dom.now) flow.now (map target_of targets.now) store.old
+        walk.old }
+    ensures fills { Fills (D.operations dom.now) flow.now (map target_of targets.now) store.old
+        store.new (cells_added store.old store.new) }
+    ensures walk { IsGood (D.operations dom.now) flow.now (map target_of targets.now) store.new
+        walk.new }
     ensures within { IfSome limit (λ n. cells_added store.old store.new ≤ n) }
     ensures counted { IfOk result (λ p. p.filled ≡ cells_added store.old store.new) }
-    ensures all { IfOk result (λ p. p.done ≡ true → p.filled ≡ length (missing (D.operations dom.now) flow.now (map target_of targets.now) store.old)) }
-    ensures done { IfOk result (λ p. p.done ≡ true → IsDone (D.operations dom.now) flow.now (map target_of targets.now) store.new walk.new) }
-    ensures more { IfOk result (λ p. p.done ≡ false → p.filled < length (missing (D.operations dom.now) flow.now (map target_of targets.now) store.old)) }
+    ensures all { IfOk result (λ p. p.done ≡ true → p.filled ≡
+        length (missing (D.operations dom.now) flow.now
+        (map target_of targets.now) store.old)) }
+    ensures done { IfOk result (λ p. p.done ≡ true → IsDone (D.operations dom.now) flow.now
+        (map target_of targets.now) store.new walk.new) }
+    ensures more { IfOk result (λ p. p.done ≡ false → p.filled < length
+        (missing (D.operations dom.now) flow.now (map target_of targets.now) store.old)) }
     ensures limited { IfOk result (λ p. p.done ≡ false → limit ≡ Some p.filled) }
     ensures least { steps.old ≤ steps.new }
     ensures ticked { IfOk result (λ p. steps.new ≤ steps.old + D.counted dom.now * p.filled) }
-    ensures most { steps.new ≤ steps.old + D.counted dom.now * suc (cells_added store.old store.new) }
+    ensures most { steps.new ≤ steps.old + D.counted dom.now
+        * suc (cells_added store.old store.new) }
 {
     walk.drop_filled(&store.graph);
     let before = store.graph.kept_count();
@@ -235,19 +259,31 @@ impl<D: Domain> Engine<D> {
     ) -> Result<Progress, Memory>
         requires right { IsRight (D.operations self.old.domain) flow.now self.old.store }
         requires targets { AreTargets flow.now (map target_of targets.now) }
-        requires walk { IsGood (D.operations self.old.domain) flow.now (map target_of targets.now) self.old.store walk.old }
+        requires walk { IsGood (D.operations self.old.domain) flow.now
+            (map target_of targets.now) self.old.store walk.old }
         ensures domain { self.new.domain ≡ self.old.domain }
         ensures spare { self.new.spare ≡ self.old.spare }
-        ensures fills { Fills (D.operations self.old.domain) flow.now (map target_of targets.now) self.old.store self.new.store (cells_added self.old.store self.new.store) }
-        ensures walk { IsGood (D.operations self.old.domain) flow.now (map target_of targets.now) self.new.store walk.new }
+        ensures fills { Fills (D.operations self.old.domain) flow.now
+            (map target_of targets.now) self.old.store self.new.store
+            (cells_added self.old.store self.new.store) }
+        ensures walk { IsGood (D.operations self.old.domain) flow.now
+            (map target_of targets.now) self.new.store walk.new }
         ensures within { cells_added self.old.store self.new.store ≤ most }
         ensures counted { IfOk result (λ p. p.filled ≡ cells_added self.old.store self.new.store) }
-        ensures first { IfOk result (λ p. p.filled ≡ min most (length (missing (D.operations self.old.domain) flow.now (map target_of targets.now) self.old.store))) }
-        ensures all { IfOk result (λ p. IsTrue p.done ↔ (length (missing (D.operations self.old.domain) flow.now (map target_of targets.now) self.old.store) ≤ most)) }
-        ensures done { IfOk result (λ p. IsTrue p.done → IsDone (D.operations self.old.domain) flow.now (map target_of targets.now) self.new.store walk.new) }
+        ensures first { IfOk result (λ p. p.filled ≡ min most
+            (length (missing (D.operations self.old.domain) flow.now
+            (map target_of targets.now) self.old.store))) }
+        ensures all { IfOk result (λ p. IsTrue p.done ↔ (length
+            (missing (D.operations self.old.domain) flow.now
+            (map target_of targets.now) self.old.store) ≤ most)) }
+        ensures done { IfOk result (λ p. IsTrue p.done →
+            IsDone (D.operations self.old.domain) flow.now
+            (map target_of targets.now) self.new.store walk.new) }
         ensures least { steps.old ≤ steps.new }
-        ensures ticked { IfOk result (λ p. steps.new ≤ steps.old + D.counted self.old.domain * p.filled) }
-        ensures most { steps.new ≤ steps.old + D.counted self.old.domain * suc (cells_added self.old.store self.new.store) }
+        ensures ticked { IfOk result (λ p. steps.new ≤ steps.old + D.counted self.old.domain
+            * p.filled) }
+        ensures most { steps.new ≤ steps.old + D.counted self.old.domain
+            * suc (cells_added self.old.store self.new.store) }
     {
         let dom = &self.domain;
         fill_missing(
@@ -278,17 +314,24 @@ impl<D: Domain> Engine<D> {
     ) -> Result<usize, Memory>
         requires right { IsRight (D.operations self.old.domain) flow.now self.old.store }
         requires targets { AreTargets flow.now (map target_of targets.now) }
-        requires walk { IsGood (D.operations self.old.domain) flow.now (map target_of targets.now) self.old.store walk.old }
+        requires walk { IsGood (D.operations self.old.domain) flow.now
+            (map target_of targets.now) self.old.store walk.old }
         ensures domain { self.new.domain ≡ self.old.domain }
         ensures spare { self.new.spare ≡ self.old.spare }
-        ensures fills { Fills (D.operations self.old.domain) flow.now (map target_of targets.now) self.old.store self.new.store (cells_added self.old.store self.new.store) }
-        ensures walk { IsGood (D.operations self.old.domain) flow.now (map target_of targets.now) self.new.store walk.new }
+        ensures fills { Fills (D.operations self.old.domain) flow.now
+            (map target_of targets.now) self.old.store self.new.store
+            (cells_added self.old.store self.new.store) }
+        ensures walk { IsGood (D.operations self.old.domain) flow.now
+            (map target_of targets.now) self.new.store walk.new }
         ensures counted { IfOk result (λ n. n ≡ cells_added self.old.store self.new.store) }
-        ensures all { IfOk result (λ n. n ≡ length (missing (D.operations self.old.domain) flow.now (map target_of targets.now) self.old.store)) }
-        ensures done { OnOk result (IsDone (D.operations self.old.domain) flow.now (map target_of targets.now) self.new.store walk.new) }
+        ensures all { IfOk result (λ n. n ≡ length (missing (D.operations self.old.domain) flow.now
+            (map target_of targets.now) self.old.store)) }
+        ensures done { OnOk result (IsDone (D.operations self.old.domain) flow.now
+            (map target_of targets.now) self.new.store walk.new) }
         ensures least { steps.old ≤ steps.new }
         ensures ticked { IfOk result (λ n. steps.new ≤ steps.old + D.counted self.old.domain * n) }
-        ensures most { steps.new ≤ steps.old + D.counted self.old.domain * suc (cells_added self.old.store self.new.store) }
+        ensures most { steps.new ≤ steps.old + D.counted self.old.domain
+            * suc (cells_added self.old.store self.new.store) }
     {
         let dom = &self.domain;
         let progress = fill_missing(

@@ -30,7 +30,9 @@ fn read_cells<D: Domain, L: Ledger>(
     steps: &mut Steps<L>,
 ) -> Result<Option<Value<D::State>>, Memory>
     requires there { (vs : List (PlainValue D.State)) × HoldValues store.now cells.now vs }
-    ensures says { (engine : LoopOptions) (vs : List (PlainValue D.State)) → HoldValues store.now cells.now vs → IfOk result (Says (summed (D.operations dom.now) engine vs)) }
+    ensures says { (engine : LoopOptions) (vs : List (PlainValue D.State)) →
+        HoldValues store.now cells.now vs → IfOk result
+        (Says (summed (D.operations dom.now) engine vs)) }
     ensures least { steps.old ≤ steps.new }
     ensures most { steps.new ≤ steps.old + D.counted dom.now * (2 * length cells.now) }
 {
@@ -58,7 +60,8 @@ impl<D: Domain> Engine<D> {
     /// The state that a cell holds; `None` where it holds an Over.
     pub fn state(&self, cell: usize) -> Option<&D::State>
         requires there { (v : PlainValue D.State) × (value_in self.now.store cell ≡ Some v) }
-        ensures is { (v : PlainValue D.State) → value_in self.now.store cell ≡ Some v → option_copied result ≡ state_of v }
+        ensures is { (v : PlainValue D.State) → value_in self.now.store cell ≡ Some v →
+            option_copied result ≡ state_of v }
     {
         match self.store.graph.value(cell) {
             Some(Value::State(held)) => Some(self.store.states.get(held.state)),
@@ -81,15 +84,26 @@ impl<D: Domain> Engine<D> {
         walk: &Walk,
         steps: &mut Steps<L>,
     ) -> Result<Option<Value<D::State>>, Memory>
-        requires filled { (plan : Plan) × (ts : List PlainTarget) × AreFilled (D.operations self.now.domain) self.now.store walk.now plan ts }
-        ensures read { (plan : Plan) (ts : List PlainTarget) → AreFilled (D.operations self.now.domain) self.now.store walk.now plan ts →
-            IfOk result (Says (summed (D.operations self.now.domain) plan.engine (map (value_of_target (found (D.operations self.now.domain) plan)) ts))) }
-        ensures batch { (plan : Plan) (ts : List PlainTarget) (at : Location) (string : List ℕ) (p : ℕ) → AreFilled (D.operations self.now.domain) self.now.store walk.now plan ts → targets plan.program p at string ≡ Some ts →
-            IfOk result (Says (answer_in (D.operations self.now.domain) plan.engine plan.program at string (In p))) }
-        ensures sound { (plan : Plan) (ts : List PlainTarget) (at : Location) (string : List ℕ) (p : ℕ) → AreFilled (D.operations self.now.domain) self.now.store walk.now plan ts → nat_lt 2 (length string) ≡ false → procedure_of plan.program at ≡ In p → targets plan.program p at string ≡ Some ts →
+        requires filled { (plan : Plan) × (ts : List PlainTarget) ×
+            AreFilled (D.operations self.now.domain) self.now.store walk.now plan ts }
+        ensures read { (plan : Plan) (ts : List PlainTarget) →
+            AreFilled (D.operations self.now.domain) self.now.store walk.now plan ts →
+            IfOk result (Says (summed (D.operations self.now.domain) plan.engine
+            (map (value_of_target (found (D.operations self.now.domain) plan)) ts))) }
+        ensures batch { (plan : Plan) (ts : List PlainTarget) (at : Location) (string : List ℕ)
+            (p : ℕ) → AreFilled (D.operations self.now.domain) self.now.store walk.now plan ts →
+            targets plan.program p at string ≡ Some ts →
+            IfOk result (Says (answer_in (D.operations self.now.domain) plan.engine plan.program at
+            string (In p))) }
+        ensures sound { (plan : Plan) (ts : List PlainTarget) (at : Location) (string : List ℕ)
+            (p : ℕ) → AreFilled (D.operations self.now.domain) self.now.store walk.now plan ts →
+            nat_lt 2 (length string) ≡ false → procedure_of plan.program at ≡ In p →
+            targets plan.program p at string ≡ Some ts →
             IfOk result (Covers (D.covers self.now.domain) plan.program at string) }
         ensures least { steps.old ≤ steps.new }
-        ensures ticked { (plan : Plan) (ts : List PlainTarget) → AreFilled (D.operations self.now.domain) self.now.store walk.now plan ts → steps.new ≤ steps.old + D.counted self.now.domain * (2 * length ts) }
+        ensures ticked { (plan : Plan) (ts : List PlainTarget) →
+            AreFilled (D.operations self.now.domain) self.now.store walk.now plan ts →
+            steps.new ≤ steps.old + D.counted self.now.domain * (2 * length ts) }
     {
         answers_are_sound::<D>();
         read_cells(

@@ -33,7 +33,8 @@ use std::sync::ledger::Ledger;
 /// The first of these cells that holds an Over: its loop and its chain.
 #[inline]
 fn first_over<'a>(graph: &'a Graph<Held>, cells: &[usize]) -> Option<(StmtId, &'a SharedChain)>
-    ensures is { MatchOption result (HasNoOver graph.now.cells cells.now (length cells.now)) (λ r. IsFirstOver graph.now.cells cells.now r.0 r.1.now) }
+    ensures is { MatchOption result (HasNoOver graph.now.cells cells.now (length cells.now))
+        (λ r. IsFirstOver graph.now.cells cells.now r.0 r.1.now) }
 {
     for cell in cells {
         if let Some(Value::Over { head, chain }) = graph.value(*cell) {
@@ -59,7 +60,8 @@ fn held_at(graph: &Graph<Held>, cells: &[usize], place: usize) -> Option<Held>
 fn settled(graph: &Graph<Held>, cells: &[usize]) -> Held
     requires equal { IsEqual (iterate_of graph.now.cells cells.now) (length cells.now - 1) }
     requires small { length cells.now ≤ 2 ^ 32 }
-    ensures is { IfSome (state_in (iterate_of graph.now.cells cells.now (length cells.now - 2))) (λ s. result ≡ record { state = s.state; index = length cells.now - 2 }) }
+    ensures is { IfSome (state_in (iterate_of graph.now.cells cells.now (length cells.now - 2)))
+        (λ s. result ≡ record { state = s.state; index = length cells.now - 2 }) }
 {
     let index = cells.len() - 2;
     match held_at(graph, cells, index) {
@@ -99,7 +101,8 @@ fn fixed<D: Domain>(
     requires ready { IsReady (D.operations dom.now) flow.now store.now row.now entry.now }
     requires states { HasNoOver store.now.graph.cells entry.now.inputs (length entry.now.inputs) }
     requires fixed { (p : _) × (row.now ≡ Fixed head p) }
-    ensures value { IfOk result (λ v. IsValue store.now.states v (found (D.operations dom.now) flow.now (name_of store.now entry.now))) }
+    ensures value { IfOk result (λ v. IsValue store.now.states v
+        (found (D.operations dom.now) flow.now (name_of store.now entry.now))) }
 {
     let cells = entry.inputs.as_slice();
     if converged(&store.graph, flow.budget(), cells) {
@@ -163,7 +166,8 @@ fn operation_number(
     operations: &mut StateTable<Operation>,
     row: &Row<'_>,
 ) -> Result<usize, Memory>
-    ensures is { IfOk result (λ n. (o : Operation) × IsOperationOf row.now o × (slice_get operations.new n ≡ Some o)) }
+    ensures is { IfOk result (λ n. (o : Operation) × IsOperationOf row.now o ×
+        (slice_get operations.new n ≡ Some o)) }
     ensures few { length operations.new ≤ length operations.old + 1 }
     ensures once { OnOk result (AreOnce ⟦<Operation as PartialEq>⟧.eq operations.new) }
     ensures kept { KeepsNumbers operations.old operations.new }
@@ -183,10 +187,13 @@ fn make_state<D: Domain, L: Ledger>(
     right: Option<usize>,
     steps: &mut Steps<L>,
 ) -> Result<usize, Memory>
-    requires there { IsSome (row_result (D.operations dom.now) row.now (state_at states.old left) (state_at states.old right)) }
+    requires there { IsSome (row_result (D.operations dom.now) row.now (state_at states.old left)
+        (state_at states.old right)) }
     requires left { IfSome left (λ n. n < length states.old) }
     requires known { IfSome right (λ n. n < length states.old) }
-    ensures is { IfOk result (λ n. slice_get states.new n ≡ row_result (D.operations dom.now) row.now (state_at states.old left) (state_at states.old right)) }
+    ensures is { IfOk result (λ n. slice_get states.new n ≡
+        row_result (D.operations dom.now) row.now (state_at states.old left)
+        (state_at states.old right)) }
     ensures kept { KeepsNumbers states.old states.new }
     ensures few { length states.new ≤ length states.old + 1 }
     ensures once { IsOnce states.old → IsOnce states.new }
@@ -216,10 +223,13 @@ fn result_of<D: Domain, L: Ledger>(
     steps: &mut Steps<L>,
 ) -> Result<usize, Memory>
     requires right { IsRight (D.operations dom.now) flow.now store.old }
-    requires there { IsSome (row_result (D.operations dom.now) row.now (state_at store.old.states left) (state_at store.old.states right)) }
+    requires there { IsSome (row_result (D.operations dom.now) row.now
+        (state_at store.old.states left) (state_at store.old.states right)) }
     requires left { IfSome left (λ n. n < length store.old.states) }
     requires known { IfSome right (λ n. n < length store.old.states) }
-    ensures is { IfOk result (λ n. state_at store.new.states (Some n) ≡ row_result (D.operations dom.now) row.now (state_at store.old.states left) (state_at store.old.states right)) }
+    ensures is { IfOk result (λ n. state_at store.new.states (Some n) ≡
+        row_result (D.operations dom.now) row.now (state_at store.old.states left)
+        (state_at store.old.states right)) }
     ensures computes { Computes (D.operations dom.now) flow.now store.old store.new }
     ensures least { steps.old ≤ steps.new }
     ensures most { steps.new ≤ steps.old + D.counted dom.now }
@@ -253,7 +263,8 @@ fn applied<D: Domain, L: Ledger>(
     requires ready { IsReady (D.operations dom.now) flow.now store.old row.now entry.now }
     requires states { HasNoOver store.old.graph.cells entry.now.inputs (length entry.now.inputs) }
     requires plain { (n : ℕ) (p : _) → row.now ≢ Fixed n p }
-    ensures value { IfOk result (λ v. IsValue store.new.states v (found (D.operations dom.now) flow.now (name_of store.old entry.now))) }
+    ensures value { IfOk result (λ v. IsValue store.new.states v
+        (found (D.operations dom.now) flow.now (name_of store.old entry.now))) }
     ensures computes { Computes (D.operations dom.now) flow.now store.old store.new }
     ensures least { steps.old ≤ steps.new }
     ensures most { steps.new ≤ steps.old + D.counted dom.now }
@@ -294,7 +305,8 @@ pub(crate) fn compute<D: Domain, L: Ledger>(
     steps: &mut Steps<L>,
 ) -> Result<Value<Held>, Memory>
     requires ready { IsReady (D.operations dom.now) flow.now store.old row.now entry.now }
-    ensures value { IfOk result (λ v. IsValue store.new.states v (found (D.operations dom.now) flow.now (name_of store.old entry.now))) }
+    ensures value { IfOk result (λ v. IsValue store.new.states v
+        (found (D.operations dom.now) flow.now (name_of store.old entry.now))) }
     ensures computes { Computes (D.operations dom.now) flow.now store.old store.new }
     ensures least { steps.old ≤ steps.new }
     ensures most { steps.new ≤ steps.old + D.counted dom.now }

@@ -42,7 +42,8 @@ impl<D: Domain + Drop> Engine<D> {
         ensures bounded { IfOk result (λ e. IsBounded e.spare e.store) }
         ensures domain { IfOk result (λ e. e.domain ≡ domain) }
         ensures empty { IfOk result (λ e. (x : CellName) → kept e.store x ≡ false) }
-        ensures right { IfOk result (λ e. (plan : Plan) → IsChecked plan.program → IsRight (D.operations e.domain) plan e.store) }
+        ensures right { IfOk result (λ e. (plan : Plan) → IsChecked plan.program →
+            IsRight (D.operations e.domain) plan e.store) }
     {
         let spare = memo.saturating_mul(4).saturating_add(SLACK);
         let memo = Memo::new(alloc, memo)?;

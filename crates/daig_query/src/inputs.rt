@@ -19,7 +19,8 @@ use loop_unroll::next_wanted;
 /// Of an operation on one value or two, after so many inputs.
 #[inline]
 fn next_of_operation(row: &Row<'_>, count: usize) -> Option<Input>
-    ensures is { (w : List PathFrame) → option_map (input_name w) result ≡ by_count count (row_in w row.now) }
+    ensures is { (w : List PathFrame) → option_map (input_name w) result ≡
+        by_count count (row_in w row.now) }
 {
     match count {
         0 => row.first(),
@@ -33,8 +34,11 @@ fn next_of_operation(row: &Row<'_>, count: usize) -> Option<Input>
 fn next_iterate(graph: &Graph<Held>, budget: u32, row: &Row<'_>, found: &[usize]) -> Option<Input>
     requires cells { AreCells graph.now.cells found.now }
     requires earlier { GoesOnTo budget (iterate_of graph.now.cells found.now) (length found.now) }
-    ensures stops { StopsWithin budget (iterate_of graph.now.cells found.now) (length found.now) → result ≡ None }
-    ensures goes { ¬ (StopsWithin budget (iterate_of graph.now.cells found.now) (length found.now)) → (w : List PathFrame) → option_map (input_name w) result ≡ iterate_in (length found.now) (row_in w row.now) }
+    ensures stops { StopsWithin budget (iterate_of graph.now.cells found.now) (length found.now) →
+        result ≡ None }
+    ensures goes { ¬ (StopsWithin budget (iterate_of graph.now.cells found.now)
+        (length found.now)) → (w : List PathFrame) →
+        option_map (input_name w) result ≡ iterate_in (length found.now) (row_in w row.now) }
 {
     let index = next_wanted(graph, budget, found)?;
     row.iterate(index as u32)
@@ -54,7 +58,8 @@ fn last_round(graph: &Graph<Held>, budget: u32, cell: usize) -> Option<u32>
 /// Of a join after a loop with breaks: what is before the break in the loop's last round, if it has one.
 #[inline]
 fn next_joined(graph: &Graph<Held>, budget: u32, row: &Row<'_>, found: &[usize]) -> Option<Input>
-    ensures is { (w : List PathFrame) → option_map (input_name w) result ≡ joined_next budget graph.now.cells found.now (row_in w row.now) }
+    ensures is { (w : List PathFrame) → option_map (input_name w) result ≡
+        joined_next budget graph.now.cells found.now (row_in w row.now) }
 {
     match found.len() {
         0 => row.first(),
@@ -73,7 +78,8 @@ pub(crate) fn next_input<D: Domain>(
     entry: &Open,
 ) -> Option<Input>
     requires at { IsAt (D.operations dom.now) flow.now store.now row.now entry.now }
-    ensures next { option_map (input_name (name_of store.now entry.now).path) result ≡ next_of (D.operations dom.now) flow.now store.now entry.now }
+    ensures next { option_map (input_name (name_of store.now entry.now).path) result ≡
+        next_of (D.operations dom.now) flow.now store.now entry.now }
 {
     let found = entry.inputs.as_slice();
     match row {

@@ -58,7 +58,8 @@ pub(crate) fn has_cell(graph: &Graph<Held>, cell: usize) -> bool
 #[inline]
 pub(crate) fn row_of<'a>(flow: &'a Flow<'_>, names: &Names, name: &Name) -> Option<Row<'a>>
     requires there { name.now.path < length names.now.paths }
-    ensures is { option_map (row_in (path_at names.now.paths name.now.path)) result ≡ row_at flow.now (name_in names.now.paths name.now) }
+    ensures is { option_map (row_in (path_at names.now.paths name.now.path)) result ≡
+        row_at flow.now (name_in names.now.paths name.now) }
 {
     let frame = match names.last_frame(name.path) {
         Some((_, frame)) => Some(frame),
@@ -80,7 +81,8 @@ pub(crate) fn next_absent<D: Domain>(
     requires at { IsAt (D.operations dom.now) flow.now store.old row.now entry.old }
     ensures names { OnlyNames store.old store.new }
     ensures right { IsRight (D.operations dom.now) flow.now store.new }
-    ensures looks { IfOk result (Looks (D.operations dom.now) flow.now store.new row.now entry.old entry.new) }
+    ensures looks { IfOk result (Looks (D.operations dom.now) flow.now store.new row.now entry.old
+        entry.new) }
 {
     'inputs: while let Some(input) = next_input(dom, flow, store, row, entry) {
         let name = input.name(&mut store.names, entry.name.path)?;
@@ -108,7 +110,8 @@ pub(crate) fn fill<D: Domain, L: Ledger>(
 ) -> Result<(), Memory>
     requires ready { IsReady (D.operations dom.now) flow.now store.old row.now entry }
     requires absent { kept store.old (name_of store.old entry) ≡ false }
-    ensures puts { OnOk result (Puts (D.operations dom.now) flow.now store.old store.new (name_of store.old entry)) }
+    ensures puts { OnOk result (Puts (D.operations dom.now) flow.now store.old store.new
+        (name_of store.old entry)) }
     ensures err { OnErr result (Computes (D.operations dom.now) flow.now store.old store.new) }
     ensures least { steps.old ≤ steps.new }
     ensures most { steps.new ≤ steps.old + D.counted dom.now }

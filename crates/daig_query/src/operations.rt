@@ -78,7 +78,8 @@ fn apply_binary<D: Domain, L: Ledger>(
     right: &D::State,
     steps: &mut Steps<L>,
 ) -> Result<D::State, Memory>
-    ensures is { IfOk result (λ t. t ≡ binary_state (D.operations dom.now) op.now left.now right.now) }
+    ensures is { IfOk result (λ t. t ≡ binary_state (D.operations dom.now) op.now left.now
+        right.now) }
     ensures ticked { steps.new ≡ steps.old + D.counted dom.now }
 {
     match op {
@@ -98,8 +99,10 @@ pub(crate) fn apply<D: Domain, L: Ledger>(
     right: Option<&D::State>,
     steps: &mut Steps<L>,
 ) -> Result<D::State, Memory>
-    requires there { IsSome (row_result (D.operations dom.now) row.now (option_copied left) (option_copied right)) }
-    ensures is { IfOk result (λ t. row_result (D.operations dom.now) row.now (option_copied left.entry) (option_copied right.entry) ≡ Some t) }
+    requires there { IsSome (row_result (D.operations dom.now) row.now (option_copied left)
+        (option_copied right)) }
+    ensures is { IfOk result (λ t. row_result (D.operations dom.now) row.now
+        (option_copied left.entry) (option_copied right.entry) ≡ Some t) }
     ensures ticked { steps.new ≡ steps.old + D.counted dom.now }
 {
     match (row, left, right) {

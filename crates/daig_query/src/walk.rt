@@ -122,14 +122,17 @@ fn take<D: Domain>(
 ) -> Result<Option<Open>, Memory>
     requires right { IsRight (D.operations dom.now) flow.now store.old }
     requires targets { AreTargets flow.now (map target_of targets.now) }
-    requires placed { IsPlaced (D.operations dom.now) flow.now (map target_of targets.now) store.old walk.old }
+    requires placed { IsPlaced (D.operations dom.now) flow.now (map target_of targets.now) store.old
+        walk.old }
     requires here { slice_get targets.now walk.old.target ≡ Some target.now }
     requires takes { slice_get target.now.steps walk.old.step ≡ Some (TargetStep.Take head) }
     ensures names { OnlyNames store.old store.new }
     ensures right { IsRight (D.operations dom.now) flow.now store.new }
-    ensures placed { IsPlaced (D.operations dom.now) flow.now (map target_of targets.now) store.new walk.new }
+    ensures placed { IsPlaced (D.operations dom.now) flow.now (map target_of targets.now) store.new
+        walk.new }
     ensures stack { walk.new.stack.items ≡ walk.old.stack.items }
-    ensures steps { IfOk result (Steps (D.operations dom.now) flow.now (map target_of targets.now) store.new walk.old walk.new) }
+    ensures steps { IfOk result (Steps (D.operations dom.now) flow.now
+        (map target_of targets.now) store.new walk.old walk.new) }
 {
     let _count = count(targets);
     let _steps = target.steps.len();
@@ -162,14 +165,17 @@ fn last<D: Domain>(
 ) -> Result<Option<Open>, Memory>
     requires right { IsRight (D.operations dom.now) flow.now store.old }
     requires targets { AreTargets flow.now (map target_of targets.now) }
-    requires placed { IsPlaced (D.operations dom.now) flow.now (map target_of targets.now) store.old walk.old }
+    requires placed { IsPlaced (D.operations dom.now) flow.now (map target_of targets.now) store.old
+        walk.old }
     requires here { slice_get targets.now walk.old.target ≡ Some target.now }
     requires behind { length target.now.steps ≤ walk.old.step }
     ensures names { OnlyNames store.old store.new }
     ensures right { IsRight (D.operations dom.now) flow.now store.new }
-    ensures placed { IsPlaced (D.operations dom.now) flow.now (map target_of targets.now) store.new walk.new }
+    ensures placed { IsPlaced (D.operations dom.now) flow.now (map target_of targets.now) store.new
+        walk.new }
     ensures stack { walk.new.stack.items ≡ walk.old.stack.items }
-    ensures steps { IfOk result (Steps (D.operations dom.now) flow.now (map target_of targets.now) store.new walk.old walk.new) }
+    ensures steps { IfOk result (Steps (D.operations dom.now) flow.now
+        (map target_of targets.now) store.new walk.old walk.new) }
 {
     let _count = count(targets);
     let name = Name {
@@ -197,13 +203,16 @@ fn step<D: Domain>(
 ) -> Result<Option<Open>, Memory>
     requires right { IsRight (D.operations dom.now) flow.now store.old }
     requires targets { AreTargets flow.now (map target_of targets.now) }
-    requires placed { IsPlaced (D.operations dom.now) flow.now (map target_of targets.now) store.old walk.old }
+    requires placed { IsPlaced (D.operations dom.now) flow.now (map target_of targets.now) store.old
+        walk.old }
     requires here { slice_get targets.now walk.old.target ≡ Some target.now }
     ensures names { OnlyNames store.old store.new }
     ensures right { IsRight (D.operations dom.now) flow.now store.new }
-    ensures placed { IsPlaced (D.operations dom.now) flow.now (map target_of targets.now) store.new walk.new }
+    ensures placed { IsPlaced (D.operations dom.now) flow.now (map target_of targets.now) store.new
+        walk.new }
     ensures stack { walk.new.stack.items ≡ walk.old.stack.items }
-    ensures steps { IfOk result (Steps (D.operations dom.now) flow.now (map target_of targets.now) store.new walk.old walk.new) }
+    ensures steps { IfOk result (Steps (D.operations dom.now) flow.now
+        (map target_of targets.now) store.new walk.old walk.new) }
 {
     let _steps = target.steps.len();
     match target.steps.get(walk.step) {
@@ -227,12 +236,15 @@ pub(crate) fn next_demanded<D: Domain>(
 ) -> Result<Option<Open>, Memory>
     requires right { IsRight (D.operations dom.now) flow.now store.old }
     requires targets { AreTargets flow.now (map target_of targets.now) }
-    requires placed { IsPlaced (D.operations dom.now) flow.now (map target_of targets.now) store.old walk.old }
+    requires placed { IsPlaced (D.operations dom.now) flow.now (map target_of targets.now) store.old
+        walk.old }
     ensures names { OnlyNames store.old store.new }
     ensures right { IsRight (D.operations dom.now) flow.now store.new }
-    ensures placed { IsPlaced (D.operations dom.now) flow.now (map target_of targets.now) store.new walk.new }
+    ensures placed { IsPlaced (D.operations dom.now) flow.now (map target_of targets.now) store.new
+        walk.new }
     ensures stack { walk.new.stack.items ≡ walk.old.stack.items }
-    ensures asked { IfOk result (IsAsked (D.operations dom.now) flow.now (map target_of targets.now) store.new walk.new) }
+    ensures asked { IfOk result (IsAsked (D.operations dom.now) flow.now
+        (map target_of targets.now) store.new walk.new) }
 {
     'targets: while let Some(target) = targets.get(walk.target) {
         if let Some(entry) = step(alloc, dom, flow, store, targets, walk, target)? {

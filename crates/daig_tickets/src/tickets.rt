@@ -76,7 +76,8 @@ impl<G> Tickets<G> {
     #[tactic(auto, using(crate::proofs::Closing::placed_none, crate::proofs::Closing::placed_some))]
     /// The place of the open ticket of a number. It takes time linear in the open tickets, which are few.
     pub fn place_of(&self, number: u64) -> Option<usize>
-        ensures is { MatchOption result (ticket_of number (tickets self.now) ≡ None) (IsAt self.now number) }
+        ensures is { MatchOption result (ticket_of number (tickets self.now) ≡ None)
+            (IsAt self.now number) }
     {
         place_in(self.open_ones.as_slice(), number)
     }
@@ -91,7 +92,9 @@ impl<G: Drop> Tickets<G> {
         requires room { self.old.next < 2 ^ 63 }
         ensures tickets { AreOpen self.new }
         ensures number { IfOk result (λ n. n ≡ self.old.next) }
-        ensures added { OnOk result (self.new.open_ones.items ≡ self.old.open_ones.items ++ record { number = self.old.next; at = at; string = string; going = Some going } ∷ []) }
+        ensures added { OnOk result (self.new.open_ones.items ≡ self.old.open_ones.items
+            ++ record { number = self.old.next; at = at; string = string; going = Some going }
+            ∷ []) }
         ensures next { OnOk result (self.new.next ≡ self.old.next + 1) }
         ensures unchanged { OnErr result (self.new.open_ones.items ≡ self.old.open_ones.items) }
         ensures same_next { OnErr result (self.new.next ≡ self.old.next) }
@@ -113,8 +116,10 @@ impl<G: Drop> Tickets<G> {
         requires tickets { AreOpen self.old }
         requires there { place < length self.old.open_ones.items }
         ensures tickets { AreOpen self.new }
-        ensures closed { (n : ℕ) → IsAt self.old n place → tickets self.new ≡ without_ticket n (tickets self.old) }
-        ensures rest { self.new.open_ones.items ≡ take place self.old.open_ones.items ++ drop (place + 1) self.old.open_ones.items }
+        ensures closed { (n : ℕ) → IsAt self.old n place →
+            tickets self.new ≡ without_ticket n (tickets self.old) }
+        ensures rest { self.new.open_ones.items ≡ take place self.old.open_ones.items
+            ++ drop (place + 1) self.old.open_ones.items }
         ensures next { self.new.next ≡ self.old.next }
     {
         self.open_ones.remove(place);

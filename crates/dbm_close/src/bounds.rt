@@ -52,7 +52,8 @@ pub fn cut_bound(a: Option<i128>) -> Option<i128>
 
 /// Whether a bound is below -2^64.
 pub fn is_low_bound(a: Option<i128>) -> bool
-    ensures low { MatchBool result (AtMost a (Some (negsuc (2 ^ 64)))) (AtMost (Some (neg_ℤ (pos (2 ^ 64)))) a) }
+    ensures low { MatchBool result (AtMost a (Some (negsuc (2 ^ 64))))
+        (AtMost (Some (neg_ℤ (pos (2 ^ 64)))) a) }
 {
     match a {
         Some(x) => x < -CUT,

@@ -17,7 +17,8 @@ pub fn slot_range(matrix: &Matrix, slot: usize) -> (i128, i128)
     requires within { AreWithin (nodes matrix.now) (2 ^ 70) (entry matrix.now) }
     ensures low { result.0 ≡ slot_low matrix.now.kinds (entry matrix.now) slot }
     ensures high { result.1 ≡ slot_high matrix.now.kinds (entry matrix.now) slot }
-    ensures covers { (x : ℕ → ℤ) → AreInSlots matrix.now.kinds x → IsSatisfiedBy matrix.now x → (result.0 ≤ℤ x slot) × (x slot ≤ℤ result.1) }
+    ensures covers { (x : ℕ → ℤ) → AreInSlots matrix.now.kinds x → IsSatisfiedBy matrix.now x →
+        (result.0 ≤ℤ x slot) × (x slot ≤ℤ result.1) }
 {
     let array = matrix.kinds()[slot];
     let low = low_end(array, matrix.get(2 * slot, 2 * slot + 1));
@@ -58,7 +59,9 @@ fn high_end(array: bool, bound: Option<i128>) -> i128
 pub fn is_range_empty(r: &Matrix, slot: usize) -> bool
     requires slot { slot < length r.now.kinds }
     requires within { AreWithin (nodes r.now) (2 ^ 104) (entry r.now) }
-    ensures empty { MatchBool result (slot_high r.now.kinds (entry r.now) slot <ℤ slot_low r.now.kinds (entry r.now) slot) (slot_low r.now.kinds (entry r.now) slot ≤ℤ slot_high r.now.kinds (entry r.now) slot) }
+    ensures empty { MatchBool result (slot_high r.now.kinds
+        (entry r.now) slot <ℤ slot_low r.now.kinds (entry r.now) slot)
+        (slot_low r.now.kinds (entry r.now) slot ≤ℤ slot_high r.now.kinds (entry r.now) slot) }
 {
     let array = r.kinds()[slot];
     let low = low_end(array, r.get(2 * slot, 2 * slot + 1));
@@ -69,7 +72,8 @@ pub fn is_range_empty(r: &Matrix, slot: usize) -> bool
 /// Step 6: whether a slot's range is empty.
 pub fn has_empty_range(r: &Matrix) -> bool
     requires within { AreWithin (nodes r.now) (2 ^ 104) (entry r.now) }
-    ensures empty { MatchBool result (HasEmptyRange r.now.kinds (entry r.now)) (HasNoEmptyRange r.now.kinds (entry r.now)) }
+    ensures empty { MatchBool result (HasEmptyRange r.now.kinds (entry r.now))
+        (HasNoEmptyRange r.now.kinds (entry r.now)) }
 {
     let kinds = r.kinds();
     for (k, array) in kinds.iter().enumerate() {

@@ -44,8 +44,10 @@ fn finish_pairs(m: &mut Matrix, halves: &[Option<i128>; 32], slot: usize)
     requires small { (i : ℕ) → IsWithin (2 ^ 102) (slice_index_or halves.now i None) }
     ensures matrix { IsMatrix m.new }
     ensures same_kinds { m.new.kinds ≡ m.old.kinds }
-    ensures changed { (i j : ℕ) → i < nodes m.old → j < row_width i → IsOfSlot slot i j → entry m.new i j ≡ cut (halved_bound halves.now i j (entry m.old i j)) }
-    ensures rest { (i j : ℕ) → i < nodes m.old → j < row_width i → (IsOfSlot slot i j → ⊥) → entry m.new i j ≡ entry m.old i j }
+    ensures changed { (i j : ℕ) → i < nodes m.old → j < row_width i → IsOfSlot slot i j →
+        entry m.new i j ≡ cut (halved_bound halves.now i j (entry m.old i j)) }
+    ensures rest { (i j : ℕ) → i < nodes m.old → j < row_width i → (IsOfSlot slot i j → ⊥) →
+        entry m.new i j ≡ entry m.old i j }
 {
     let _slots = m.kinds();
     m.update_slot(
@@ -62,7 +64,8 @@ fn finish_pairs(m: &mut Matrix, halves: &[Option<i128>; 32], slot: usize)
 // Step 5, after the cut: whether a bound to one of the slot's nodes is below -2^64.
 fn has_low_pair(m: &Matrix, slot: usize) -> bool
     requires slot { slot < length m.now.kinds }
-    ensures low { MatchBool result (HasLowPair (nodes m.now) (entry m.now) slot) (HasNoLowPair (nodes m.now) (entry m.now) slot) }
+    ensures low { MatchBool result (HasLowPair (nodes m.now) (entry m.now) slot)
+        (HasNoLowPair (nodes m.now) (entry m.now) slot) }
 {
     let nodes = 2 * m.kinds().len();
     for i in 0..nodes {

@@ -60,7 +60,8 @@ fn has_negative_halves(halves: &[Option<i128>; 32], count: usize) -> bool
     requires few { count ≤ 32 }
     requires even { count % 2 ≡ 0 }
     requires small { (i : ℕ) → IsWithin (2 ^ 102) (slice_index_or halves.now i None) }
-    ensures negative { MatchBool result (HasNegativeHalves count halves.now) (HasNoNegativeHalves count halves.now) }
+    ensures negative { MatchBool result (HasNegativeHalves count halves.now)
+        (HasNoNegativeHalves count halves.now) }
 {
     for i in 0..count {
         if is_negative(plus(halves[i], halves[other_sign(i)])) {
@@ -82,7 +83,8 @@ pub fn halved(halves: &[Option<i128>; 32], i: usize, j: usize, bound: Option<i12
 
 // Step 5, after the cut: whether an entry is below -2^64.
 fn has_low_entry(m: &Matrix) -> bool
-    ensures low { MatchBool result (IsTooLow (nodes m.now) (entry m.now)) (IsNotTooLow (nodes m.now) (entry m.now)) }
+    ensures low { MatchBool result (IsTooLow (nodes m.now) (entry m.now))
+        (IsNotTooLow (nodes m.now) (entry m.now)) }
 {
     let kept = m.kept();
     for bound in kept {
@@ -98,7 +100,8 @@ fn strengthen_and_cut(m: &mut Matrix, halves: &[Option<i128>; 32])
     requires small { (i : ℕ) → IsWithin (2 ^ 102) (slice_index_or halves.now i None) }
     ensures matrix { IsMatrix m.new }
     ensures same_kinds { m.new.kinds ≡ m.old.kinds }
-    ensures kept { (i j : ℕ) → i < nodes m.old → j < row_width i → entry m.new i j ≡ cut (halved_bound halves.now i j (entry m.old i j)) }
+    ensures kept { (i j : ℕ) → i < nodes m.old → j < row_width i →
+        entry m.new i j ≡ cut (halved_bound halves.now i j (entry m.old i j)) }
 {
     let _slots = m.kinds();
     m.update(

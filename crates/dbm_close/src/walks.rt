@@ -16,7 +16,8 @@ use std::alloc::Global;
 pub fn least_weights(alloc: Global, m: &Matrix) -> Result<Option<Matrix>, Memory>
     requires diagonal { IsZeroAtMost (nodes m.now) (entry m.now) }
     requires within { AreWithin (nodes m.now) (2 ^ 70) (entry m.now) }
-    ensures weights { IfOk result (λ o. MatchOption o (HasNegativeWalk (entry m.now) (nodes m.now)) (HasLeastWeights m.now)) }
+    ensures weights { IfOk result (λ o. MatchOption o (HasNegativeWalk (entry m.now) (nodes m.now))
+        (HasLeastWeights m.now)) }
 {
     let slots = m.kinds().len();
     let mut current = m.copy(alloc)?;
@@ -37,7 +38,8 @@ fn is_slot_negative(d: &Matrix, q: usize) -> bool
     requires middle { q < length d.now.kinds }
     requires few { length d.now.kinds ≤ 16 }
     requires within { AreWithin (nodes d.now) (2 ^ 102) (entry d.now) }
-    ensures negative { MatchBool result (IsSlotNegative (entry d.now) q) (IsSlotSound (entry d.now) q) }
+    ensures negative { MatchBool result (IsSlotNegative (entry d.now) q)
+        (IsSlotSound (entry d.now) q) }
 {
     let k = 2 * q;
     if is_negative(d.get(k, k)) {
@@ -51,7 +53,8 @@ fn go_through(d: &mut Matrix, middle: &Middle)
     requires small { IsSmallMiddle middle.now }
     ensures matrix { IsMatrix d.new }
     ensures same_kinds { d.new.kinds ≡ d.old.kinds }
-    ensures kept { (i j : ℕ) → i < nodes d.old → j < row_width i → entry d.new i j ≡ middle_entry middle.now i j (entry d.old i j) }
+    ensures kept { (i j : ℕ) → i < nodes d.old → j < row_width i →
+        entry d.new i j ≡ middle_entry middle.now i j (entry d.old i j) }
 {
     let _slots = d.kinds();
     d.update(
@@ -77,7 +80,8 @@ fn round(d: &mut Matrix, q: usize)
     requires within { AreWithin (nodes d.old) (2 ^ 102) (entry d.old) }
     ensures matrix { IsMatrix d.new }
     ensures same_kinds { d.new.kinds ≡ d.old.kinds }
-    ensures kept { (i j : ℕ) → i < nodes d.old → j < row_width i → entry d.new i j ≡ round_entry (entry d.old) q i j }
+    ensures kept { (i j : ℕ) → i < nodes d.old → j < row_width i →
+        entry d.new i j ≡ round_entry (entry d.old) q i j }
 {
     let _slots = d.kinds();
     let middle = middle_of(d, q);
@@ -86,7 +90,8 @@ fn round(d: &mut Matrix, q: usize)
 
 // Whether an entry of the diagonal is below 0.
 fn is_diagonal_negative(d: &Matrix) -> bool
-    ensures negative { MatchBool result (IsDiagonalNegative (nodes d.now) (entry d.now)) (IsDiagonalSound (nodes d.now) (entry d.now)) }
+    ensures negative { MatchBool result (IsDiagonalNegative (nodes d.now) (entry d.now))
+        (IsDiagonalSound (nodes d.now) (entry d.now)) }
 {
     let slots = d.kinds().len();
     for i in 0..2 * slots {

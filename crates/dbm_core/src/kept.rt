@@ -18,9 +18,12 @@ pub fn update_kept<F: Fn(usize, usize, Option<i128>) -> Option<i128>>(
 )
     requires few { slots ≤ 16 }
     requires size { length entries.old ≡ row_start (2 * slots) }
-    requires callable { (i j : ℕ) → i < 2 * slots → j < row_width i → F.pre value i j (slice_index_or entries.old (row_start i + j) None) }
+    requires callable { (i j : ℕ) → i < 2 * slots → j < row_width i →
+        F.pre value i j (slice_index_or entries.old (row_start i + j) None) }
     ensures size { length entries.new ≡ length entries.old }
-    ensures kept { (i j : ℕ) → i < 2 * slots → j < row_width i → F.post value i j (slice_index_or entries.old (row_start i + j) None) (slice_index_or entries.new (row_start i + j) None) }
+    ensures kept { (i j : ℕ) → i < 2 * slots → j < row_width i →
+        F.post value i j (slice_index_or entries.old (row_start i + j) None)
+        (slice_index_or entries.new (row_start i + j) None) }
 {
     let mut at = 0;
     for i in 0..2 * slots {
@@ -50,10 +53,15 @@ pub fn update_slot_kept<F: Fn(usize, usize, Option<i128>) -> Option<i128>>(
     requires few { slots ≤ 16 }
     requires slot { slot < slots }
     requires size { length entries.old ≡ row_start (2 * slots) }
-    requires callable { (i j : ℕ) → i < 2 * slots → j < row_width i → IsOfSlot slot i j → F.pre value i j (slice_index_or entries.old (row_start i + j) None) }
+    requires callable { (i j : ℕ) → i < 2 * slots → j < row_width i → IsOfSlot slot i j →
+        F.pre value i j (slice_index_or entries.old (row_start i + j) None) }
     ensures size { length entries.new ≡ length entries.old }
-    ensures changed { (i j : ℕ) → i < 2 * slots → j < row_width i → IsOfSlot slot i j → F.post value i j (slice_index_or entries.old (row_start i + j) None) (slice_index_or entries.new (row_start i + j) None) }
-    ensures rest { (i j : ℕ) → i < 2 * slots → j < row_width i → (IsOfSlot slot i j → ⊥) → slice_index_or entries.new (row_start i + j) None ≡ slice_index_or entries.old (row_start i + j) None }
+    ensures changed { (i j : ℕ) → i < 2 * slots → j < row_width i → IsOfSlot slot i j →
+        F.post value i j (slice_index_or entries.old (row_start i + j) None)
+        (slice_index_or entries.new (row_start i + j) None) }
+    ensures rest { (i j : ℕ) → i < 2 * slots → j < row_width i → (IsOfSlot slot i j → ⊥) →
+        slice_index_or entries.new (row_start i + j) None ≡ slice_index_or entries.old
+        (row_start i + j) None }
 {
     for i in 2 * slot..2 * slots {
         for j in first_column(slot, i)..2 * slot + 2 {
@@ -72,7 +80,8 @@ pub fn greater_each(
 ) -> Result<Vec<Option<i128>>, Memory>
     requires same_length { length right.now ≡ length left.now }
     ensures size { IfOk result (λ v. length v.items ≡ length left.now) }
-    ensures greater { IfOk result (λ v. (p : ℕ) → slice_index_or v.items p None ≡ greatest (slice_index_or left.now p None) (slice_index_or right.now p None)) }
+    ensures greater { IfOk result (λ v. (p : ℕ) → slice_index_or v.items p None ≡
+        greatest (slice_index_or left.now p None) (slice_index_or right.now p None)) }
 {
     let mut joined = Vec::with_capacity(alloc, left.len())?;
     for (p, bound) in left.iter().enumerate() {

@@ -53,9 +53,11 @@ impl Eq for Matrix {
 }
 
 impl Hash for Matrix {
-    ghost hash_input = { λ m. fed.slice fed.bool m.kinds ++ fed.slice (fed.option fed.i128) m.kept };
+    ghost hash_input = { λ m. fed.slice fed.bool m.kinds
+        ++ fed.slice (fed.option fed.i128) m.kept };
 
-    ghost respects_eq = { λ a b e. same_matrix-hash (λ m. fed.slice fed.bool m.kinds ++ fed.slice (fed.option fed.i128) m.kept) a b e };
+    ghost respects_eq = { λ a b e. same_matrix-hash (λ m. fed.slice fed.bool m.kinds
+        ++ fed.slice (fed.option fed.i128) m.kept) a b e };
 
     fn hash<H: Hasher>(&self, state: &mut H) {
         self.kinds.hash(state);
@@ -117,8 +119,11 @@ impl Matrix {
         requires column { j < nodes self.old }
         ensures entries { HasEntries self.old.kinds (lowered (entry self.old) i j bound) self.new }
         ensures adds_bound { AddsBound self.old i j bound self.new }
-        ensures diagonal { IsZeroAtMost (nodes self.old) (entry self.old) → IsZeroAtMost (nodes self.new) (entry self.new) }
-        ensures within { (b : ℕ) → IsWithin b (Some bound) → AreWithin (nodes self.old) b (entry self.old) → AreWithin (nodes self.new) b (entry self.new) }
+        ensures diagonal { IsZeroAtMost (nodes self.old) (entry self.old) →
+            IsZeroAtMost (nodes self.new) (entry self.new) }
+        ensures within { (b : ℕ) → IsWithin b (Some bound) →
+            AreWithin (nodes self.old) b (entry self.old) →
+            AreWithin (nodes self.new) b (entry self.new) }
     {
         let entries = self.entries.as_mut_slice();
         lower_kept(entries, i, j, bound);
@@ -132,11 +137,14 @@ impl Matrix {
         value: F,
     ) -> Result<Matrix, Memory>
         requires few_slots { length kinds.now ≤ 16 }
-        requires callable { (i j : ℕ) → i < 2 * length kinds.now → j < row_width i → F.pre value i j }
-        requires diagonal { (h : ℕ) (a b : Option ℤ) → h < length kinds.now → F.post value (2 * h) (2 * h) a → F.post value (2 * h + 1) (2 * h + 1) b → a ≡ b }
+        requires callable { (i j : ℕ) → i < 2 * length kinds.now → j < row_width i →
+            F.pre value i j }
+        requires diagonal { (h : ℕ) (a b : Option ℤ) → h < length kinds.now →
+            F.post value (2 * h) (2 * h) a → F.post value (2 * h + 1) (2 * h + 1) b → a ≡ b }
         ensures matrix { IfOk result IsMatrix }
         ensures same_kinds { IfOk result (λ m. m.kinds ≡ kinds.now) }
-        ensures kept { IfOk result (λ m. (i j : ℕ) → i < 2 * length kinds.now → j < row_width i → F.post value i j (entry m i j)) }
+        ensures kept { IfOk result (λ m. (i j : ℕ) → i < 2 * length kinds.now → j < row_width i →
+            F.post value i j (entry m i j)) }
     {
         let own = Vec::from_slice(alloc, kinds)?;
         let slots = kinds.len();
@@ -155,11 +163,16 @@ impl Matrix {
     /// Gives each kept pair the bound that the closure makes of the pair and its old bound, in
     /// place. It takes no memory.
     pub fn update<F: Fn(usize, usize, Option<i128>) -> Option<i128>>(&mut self, value: F)
-        requires callable { (i j : ℕ) → i < nodes self.old → j < row_width i → F.pre value i j (entry self.old i j) }
-        requires diagonal { (h : ℕ) (a b : Option ℤ) → h < length self.old.kinds → F.post value (2 * h) (2 * h) (entry self.old (2 * h) (2 * h)) a → F.post value (2 * h + 1) (2 * h + 1) (entry self.old (2 * h + 1) (2 * h + 1)) b → a ≡ b }
+        requires callable { (i j : ℕ) → i < nodes self.old → j < row_width i →
+            F.pre value i j (entry self.old i j) }
+        requires diagonal { (h : ℕ) (a b : Option ℤ) → h < length self.old.kinds →
+            F.post value (2 * h) (2 * h) (entry self.old (2 * h) (2 * h)) a →
+            F.post value (2 * h + 1) (2 * h + 1) (entry self.old (2 * h + 1) (2 * h + 1)) b →
+            a ≡ b }
         ensures matrix { IsMatrix self.new }
         ensures same_kinds { self.new.kinds ≡ self.old.kinds }
-        ensures kept { (i j : ℕ) → i < nodes self.old → j < row_width i → F.post value i j (entry self.old i j) (entry self.new i j) }
+        ensures kept { (i j : ℕ) → i < nodes self.old → j < row_width i →
+            F.post value i j (entry self.old i j) (entry self.new i j) }
     {
         let slots = self.kinds.len();
         let entries = self.entries.as_mut_slice();
@@ -175,12 +188,18 @@ impl Matrix {
         value: F,
     )
         requires slot { slot < length self.old.kinds }
-        requires callable { (i j : ℕ) → i < nodes self.old → j < row_width i → IsOfSlot slot i j → F.pre value i j (entry self.old i j) }
-        requires diagonal { (a b : Option ℤ) → F.post value (2 * slot) (2 * slot) (entry self.old (2 * slot) (2 * slot)) a → F.post value (2 * slot + 1) (2 * slot + 1) (entry self.old (2 * slot + 1) (2 * slot + 1)) b → a ≡ b }
+        requires callable { (i j : ℕ) → i < nodes self.old → j < row_width i → IsOfSlot slot i j →
+            F.pre value i j (entry self.old i j) }
+        requires diagonal { (a b : Option ℤ) → F.post value (2 * slot) (2 * slot)
+            (entry self.old (2 * slot) (2 * slot)) a →
+            F.post value (2 * slot + 1) (2 * slot + 1)
+            (entry self.old (2 * slot + 1) (2 * slot + 1)) b → a ≡ b }
         ensures matrix { IsMatrix self.new }
         ensures same_kinds { self.new.kinds ≡ self.old.kinds }
-        ensures changed { (i j : ℕ) → i < nodes self.old → j < row_width i → IsOfSlot slot i j → F.post value i j (entry self.old i j) (entry self.new i j) }
-        ensures rest { (i j : ℕ) → i < nodes self.old → j < row_width i → (IsOfSlot slot i j → ⊥) → entry self.new i j ≡ entry self.old i j }
+        ensures changed { (i j : ℕ) → i < nodes self.old → j < row_width i → IsOfSlot slot i j →
+            F.post value i j (entry self.old i j) (entry self.new i j) }
+        ensures rest { (i j : ℕ) → i < nodes self.old → j < row_width i → (IsOfSlot slot i j → ⊥) →
+            entry self.new i j ≡ entry self.old i j }
     {
         let slots = self.kinds.len();
         let entries = self.entries.as_mut_slice();
@@ -200,7 +219,8 @@ impl Matrix {
         requires same_kinds { other.now.kinds ≡ self.now.kinds }
         ensures matrix { IfOk result IsMatrix }
         ensures same_kinds { IfOk result (λ m. m.kinds ≡ self.now.kinds) }
-        ensures entries { IfOk result (λ m. (i j : ℕ) → entry m i j ≡ joined self.now other.now i j) }
+        ensures entries { IfOk result (λ m. (i j : ℕ) → entry m i j ≡
+            joined self.now other.now i j) }
     {
         let kinds = Vec::from_slice(alloc, self.kinds.as_slice())?;
         let entries = greater_each(alloc, self.entries.as_slice(), other.entries.as_slice())?;

@@ -19,7 +19,8 @@ impl Matrix {
         ensures entries { IfOk result (HasEntries self.now.kinds (joined self.now other.now)) }
         ensures covers_left { IfOk result (Covers self.now) }
         ensures covers_right { IfOk result (Covers other.now) }
-        ensures limited { (b : ℕ) → IsLimited b self.now → IsLimited b other.now → IfOk result (IsLimited b) }
+        ensures limited { (b : ℕ) → IsLimited b self.now → IsLimited b other.now →
+            IfOk result (IsLimited b) }
     {
         let _kinds = self.kinds();
         let _slots = other.kinds();
@@ -28,7 +29,8 @@ impl Matrix {
 
     /// The bounds on a slot dropped: the slot may then have any value. The diagonal stays.
     pub fn forget(&self, alloc: Global, slot: usize) -> Result<Matrix, Memory>
-        ensures entries { IfOk result (HasEntries self.now.kinds (forgotten (entry self.now) slot)) }
+        ensures entries { IfOk result (HasEntries self.now.kinds
+            (forgotten (entry self.now) slot)) }
         ensures frees { IfOk result (Frees self.now slot) }
         ensures limited { (b : ℕ) → IsLimited b self.now → IfOk result (IsLimited b) }
     {
@@ -61,12 +63,16 @@ impl Matrix {
     /// rises at most once for each threshold and once more, and never falls.
     pub fn widen(&self, alloc: Global, thresholds: &[i64], other: &Matrix) -> Result<Matrix, Memory>
         requires same_kinds { other.now.kinds ≡ self.now.kinds }
-        ensures entries { IfOk result (HasEntries self.now.kinds (widened thresholds.now self.now other.now)) }
+        ensures entries { IfOk result (HasEntries self.now.kinds
+            (widened thresholds.now self.now other.now)) }
         ensures covers_left { IfOk result (Covers self.now) }
         ensures covers_right { IfOk result (Covers other.now) }
-        ensures limited { IsLimited (2 ^ 64) self.now → IsLimited (2 ^ 64) other.now → IfOk result (IsLimited (2 ^ 64)) }
-        ensures rises { IfOk result (λ m. (m ≡ self.now) ⊎ (rises thresholds.now m < rises thresholds.now self.now)) }
-        ensures few_rises { rises thresholds.now self.now ≤ nodes self.now * (nodes self.now * (length thresholds.now + 1)) }
+        ensures limited { IsLimited (2 ^ 64) self.now → IsLimited (2 ^ 64) other.now →
+            IfOk result (IsLimited (2 ^ 64)) }
+        ensures rises { IfOk result (λ m. (m ≡ self.now) ⊎
+            (rises thresholds.now m < rises thresholds.now self.now)) }
+        ensures few_rises { rises thresholds.now self.now ≤ nodes self.now
+            * (nodes self.now * (length thresholds.now + 1)) }
     {
         let kinds = self.kinds();
         let _slots = other.kinds();
@@ -78,8 +84,10 @@ impl Matrix {
                 requires column { j < nodes self.now }
                 requires few { nodes self.now < 2 ^ 32 }
                 requires same { other.now.kinds ≡ self.now.kinds }
-                ensures value { result ≡ widened thresholds.entry.now self.entry.now other.entry.now i j }
-                ensures within { IsWithin (2 ^ 64) (entry self.entry.now i j) → IsWithin (2 ^ 64) result }
+                ensures value { result ≡ widened thresholds.entry.now self.entry.now other.entry.now
+                    i j }
+                ensures within { IsWithin (2 ^ 64) (entry self.entry.now i j) →
+                    IsWithin (2 ^ 64) result }
             {
                 widen_one(
                     thresholds,

@@ -97,7 +97,8 @@ pub fn go_over(d: &mut Matrix, ends: &Ends)
     requires small { AreSmallEnds ends.now }
     ensures matrix { IsMatrix d.new }
     ensures same_kinds { d.new.kinds ≡ d.old.kinds }
-    ensures kept { (i j : ℕ) → i < nodes d.old → j < row_width i → entry d.new i j ≡ ends_entry ends.now i j (entry d.old i j) }
+    ensures kept { (i j : ℕ) → i < nodes d.old → j < row_width i →
+        entry d.new i j ≡ ends_entry ends.now i j (entry d.old i j) }
 {
     let _slots = d.kinds();
     d.update(

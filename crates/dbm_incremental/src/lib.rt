@@ -13,8 +13,7 @@
 //! Adding a bound in quadratic time is due to A. Miné, "The Octagon Abstract Domain", 2006, and, with
 //! integers made tight, to A. Chawdhary, E. Robbins and A. King, "Incrementally Closing Octagons",
 //! 2019. `close_after_bounds` makes one copy, goes over the kept entries once for each bound that
-//! is lower, and twice more; `close_equation` makes one copy and goes over the slot's entries, as
-//! `close_slot` does, which copies nothing.
+//! is lower, and twice more; `close_equation` makes one copy and goes over the slot's entries.
 #![tactic(auto)]
 
 ghost use Rattle.dbm_incremental.specs.Laws.{ClosedIsItsClose, CloseIsClosed, ForgetKeepsClosed, ForgetKeepsWhole, JoinKeepsClosed, JoinKeepsWhole};
@@ -27,7 +26,7 @@ mod whole;
 
 pub use bounds::{Bound, close_after_bounds};
 pub use equation::close_equation;
-pub use whole::{close_slot, close_whole, is_whole};
+pub use whole::{close_whole, is_whole};
 
 /// A law, with nothing to run: closing gives a closed matrix or Empty, and closing a closed matrix
 /// gives it again.

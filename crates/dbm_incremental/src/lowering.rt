@@ -23,8 +23,12 @@ pub fn lower(weights: &mut Matrix, i: usize, j: usize, bound: i128) -> bool
     requires small { IsWithin (2 ^ 96) (Some bound) }
     ensures matrix { IsMatrix weights.new }
     ensures same_kinds { weights.new.kinds ≡ weights.old.kinds }
-    ensures lowered { (w : ℕ → ℕ → Option ℤ) → IsCoherent w (nodes weights.old) → AreSoundWeights w (nodes weights.old) (entry weights.old) → MatchBool result (AreSoundWeights (lowered w i j bound) (nodes weights.old) (entry weights.new)) (HasNegativeWalk (lowered w i j bound) (nodes weights.old)) }
-    ensures within { (b : ℕ) → AreWithin (nodes weights.old) b (entry weights.old) → IsWithin b (Some bound) → AreWithin (nodes weights.new) (16 * b) (entry weights.new) }
+    ensures lowered { (w : ℕ → ℕ → Option ℤ) → IsCoherent w (nodes weights.old) →
+        AreSoundWeights w (nodes weights.old) (entry weights.old) →
+        MatchBool result (AreSoundWeights (lowered w i j bound) (nodes weights.old)
+        (entry weights.new)) (HasNegativeWalk (lowered w i j bound) (nodes weights.old)) }
+    ensures within { (b : ℕ) → AreWithin (nodes weights.old) b (entry weights.old) →
+        IsWithin b (Some bound) → AreWithin (nodes weights.new) (16 * b) (entry weights.new) }
 {
     let _slots = weights.kinds();
     if is_not_above(weights.get(i, j), bound) {

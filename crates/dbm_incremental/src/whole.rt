@@ -5,16 +5,17 @@ ghost use Rattle.dbm_close.specs.Close.{IsCloseOf};
 ghost use Rattle.dbm_core.specs.Half.{entry, nodes};
 ghost use Rattle.dbm_core.specs.Limits.{AreWithin, HasZeroDiagonal};
 ghost use Rattle.dbm_incremental.specs.Answers.{IsClosedAnswer};
-ghost use Rattle.dbm_incremental.specs.ClosedMatrices.{AgreesBut, IsClosed, IsWhole};
+ghost use Rattle.dbm_incremental.specs.ClosedMatrices.{IsClosed, IsWhole};
 ghost use Rattle.dbm_incremental.specs.Far.{HasFarEntry, HasNoFarEntry, IsBelowHalf, IsFar};
 
-use dbm_close::{Closed, finish, finish_slot};
+use dbm_close::{Closed, finish};
 use dbm_core::Matrix;
 
 /// Whether no entry is 2^63 or more. A closed matrix then obeys the triangle law: closing has cut no
 /// entry that a walk still needs.
 pub fn is_whole(m: &Matrix) -> bool
-    ensures near { MatchBool result (HasNoFarEntry (nodes m.now) (entry m.now)) (HasFarEntry (nodes m.now) (entry m.now)) }
+    ensures near { MatchBool result (HasNoFarEntry (nodes m.now) (entry m.now))
+        (HasFarEntry (nodes m.now) (entry m.now)) }
     ensures whole { result ≡ true → IsClosed m.now → IsWhole m.now }
 {
     let kept = m.kept();
@@ -47,23 +48,4 @@ pub fn close_whole(matrix: Matrix) -> Closed
 {
     let _kinds = matrix.kinds();
     finish(matrix)
-}
-
-/// Closes a matrix that obeys the triangle law and has the bounds of a closed matrix that obeys it too,
-/// except those on one slot: only the slot's bounds are tightened and strengthened.
-pub fn close_slot(closed: &Matrix, matrix: Matrix, slot: usize) -> Closed
-    requires slot { slot < length matrix.kinds }
-    requires same_kinds { matrix.kinds ≡ closed.now.kinds }
-    requires closed { IsClosed closed.now }
-    requires closed_whole { IsWhole closed.now }
-    requires rest { AgreesBut slot closed.now matrix }
-    requires diagonal { HasZeroDiagonal (nodes matrix) (entry matrix) }
-    requires whole { IsWhole matrix }
-    requires within { AreWithin (nodes matrix) (2 ^ 102) (entry matrix) }
-    ensures closed { IsCloseOf matrix result }
-    ensures stays_closed { IsClosedAnswer result }
-{
-    let _slots = closed.kinds();
-    let _kinds = matrix.kinds();
-    finish_slot(matrix, slot)
 }

@@ -62,7 +62,9 @@ fn argument_ranges(
     arguments: &[Argument],
     ranges: Vec<Range>,
 ) -> Result<Option<Vec<Range>>, AllocError>
-    ensures exact { IfOk result (λ o. option_map (λ r. r.items) o ≡ behind_these ranges.items (operations.argument_ranges slots.now (map argument_of arguments.now))) }
+    ensures exact { IfOk result (λ o. option_map (λ r. r.items) o ≡
+        behind_these ranges.items (operations.argument_ranges slots.now
+        (map argument_of arguments.now))) }
 {
     match arguments {
         [] => Ok(Some(ranges)),

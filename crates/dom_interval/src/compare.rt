@@ -153,7 +153,8 @@ fn is_single(range: Range) -> bool
 /// A side loses an end where the other side is one number, that end. The ranges are not both one
 /// and the same number.
 fn lose_end(a: Option<u32>, own: Range, other: Range, slots: Vec<SlotRange>) -> IntervalState
-    requires apart { (operations.is_single own && (operations.is_single other && int_eq own.lo other.lo)) ≡ false }
+    requires apart { (operations.is_single own && (operations.is_single other && int_eq own.lo
+        other.lo)) ≡ false }
     ensures exact { result ≡ operations.lose_end a own other slots.items }
 {
     if !is_single(other) {

@@ -44,7 +44,8 @@ fn hulls(
     left: &[SlotRange],
     right: &[SlotRange],
 ) -> Result<Vec<SlotRange>, AllocError>
-    ensures exact { IfOk result (λ v. v.items ≡ map (λ p. operations.hull_slot p.0 p.1) (zip left.now right.now)) }
+    ensures exact { IfOk result (λ v. v.items ≡ map (λ p. operations.hull_slot p.0 p.1)
+        (zip left.now right.now)) }
 {
     left.iter()
         .zip(right.iter())

@@ -25,7 +25,8 @@ use std::alloc::{AllocError, Global};
 /// `0 <= e`
 #[tactic(auto, unfolding(dom_numeric::specs::Ranges::range_by))]
 fn not_below_zero(e: &SlotExpr, slots: Vec<SlotRange>) -> IntervalState
-    ensures exact { result ≡ operations.compare_ranges relations.AtMost (Literal 0) e.now slots.items }
+    ensures exact { result ≡ operations.compare_ranges relations.AtMost
+        (Literal 0) e.now slots.items }
 {
     match evaluate(&slots, e) {
         None => empty(),
@@ -57,7 +58,8 @@ fn below_length(a: u32, e: &SlotExpr, slots: Vec<SlotRange>) -> IntervalState
 /// `0 <= e && e < len a`
 #[tactic(auto, unfolding(dom_interval_meaning::specs::Operations::assume))]
 fn in_bounds(a: u32, e: &SlotExpr, slots: Vec<SlotRange>) -> IntervalState
-    ensures exact { result ≡ operations.assume (checks.checked_guard (checks.Within a e.now)) true (Within slots.items) }
+    ensures exact { result ≡ operations.assume (checks.checked_guard (checks.Within a e.now)) true
+        (Within slots.items) }
 {
     match not_below_zero(e, slots).kept {
         Kept::Empty => empty(),
@@ -72,7 +74,8 @@ fn checked(
     action: &SlotAction,
     slots: Vec<SlotRange>,
 ) -> Result<IntervalState, AllocError>
-    ensures exact { IfOk result (λ t. t ≡ past_check operations.assume (checks.check_of (effect_of action.now)) (Within slots.items)) }
+    ensures exact { IfOk result (λ t. t ≡ past_check operations.assume
+        (checks.check_of (effect_of action.now)) (Within slots.items)) }
 {
     match action {
         SlotAction::Assert(c) => assumed(alloc, c, true, within(slots)),
@@ -95,7 +98,8 @@ fn checked(
 
 /// `x = e`
 fn set_int(x: u32, e: &SlotExpr, slots: Vec<SlotRange>) -> IntervalState
-    ensures exact { result ≡ operations.needs (ranges.range_of slots.items e.now) (λ r. Within (ranges.with_range slots.items x r)) }
+    ensures exact { result ≡ operations.needs (ranges.range_of slots.items e.now)
+        (λ r. Within (ranges.with_range slots.items x r)) }
 {
     match evaluate(&slots, e) {
         None => empty(),
@@ -119,7 +123,8 @@ fn make_array(a: u32, e: &SlotExpr, slots: Vec<SlotRange>) -> IntervalState
 
 /// A statement that asks no more than that an expression has a value.
 fn needs_value(e: &SlotExpr, slots: Vec<SlotRange>) -> IntervalState
-    ensures exact { result ≡ operations.needs (ranges.range_of slots.items e.now) (λ r. Within slots.items) }
+    ensures exact { result ≡ operations.needs (ranges.range_of slots.items e.now)
+        (λ r. Within slots.items) }
 {
     match evaluate(&slots, e) {
         None => empty(),
@@ -161,7 +166,8 @@ fn performed(
     action: &SlotAction,
     slots: Vec<SlotRange>,
 ) -> Result<IntervalState, AllocError>
-    ensures exact { IfOk result (λ t. t ≡ operations.post (plain.Does (effect_of action.now)) (Within slots.items)) }
+    ensures exact { IfOk result (λ t. t ≡ operations.post (plain.Does (effect_of action.now))
+        (Within slots.items)) }
 {
     match checked(alloc, action, slots)?.kept {
         Kept::Empty => Ok(empty()),

@@ -24,7 +24,8 @@ use std::alloc::{AllocError, Global};
 /// `0 > e`
 #[tactic(auto, unfolding(dom_numeric::specs::Ranges::range_by))]
 fn below_zero(e: &SlotExpr, slots: Vec<SlotRange>) -> IntervalState
-    ensures exact { result ≡ operations.compare_ranges relations.Greater (Literal 0) e.now slots.items }
+    ensures exact { result ≡ operations.compare_ranges relations.Greater
+        (Literal 0) e.now slots.items }
 {
     match evaluate(&slots, e) {
         None => empty(),
@@ -42,7 +43,8 @@ fn below_zero(e: &SlotExpr, slots: Vec<SlotRange>) -> IntervalState
 /// `e >= len a`
 #[tactic(auto, unfolding(dom_numeric::specs::Ranges::range_by))]
 fn past_length(a: u32, e: &SlotExpr, slots: Vec<SlotRange>) -> IntervalState
-    ensures exact { result ≡ operations.compare_ranges relations.AtLeast e.now (Length a) slots.items }
+    ensures exact { result ≡ operations.compare_ranges relations.AtLeast e.now
+        (Length a) slots.items }
 {
     match evaluate(&slots, e) {
         None => empty(),
@@ -61,7 +63,8 @@ fn out_of_bounds(
     e: &SlotExpr,
     slots: &Vec<SlotRange>,
 ) -> Result<IntervalState, AllocError>
-    ensures exact { IfOk result (λ t. t ≡ operations.assume (checks.checked_guard (checks.Within a e.now)) false (Within slots.now.items)) }
+    ensures exact { IfOk result (λ t. t ≡ operations.assume
+        (checks.checked_guard (checks.Within a e.now)) false (Within slots.now.items)) }
 {
     let below = below_zero(e, copied(slots)?);
     let past = past_length(a, e, copied(slots)?);
@@ -86,7 +89,8 @@ fn index_verdict(
     e: &SlotExpr,
     slots: &Vec<SlotRange>,
 ) -> Result<Verdict, AllocError>
-    ensures exact { IfOk result (λ v. v ≡ verdict_on operations.assume operations.dead (Some (checks.Within a e.now)) (Within slots.now.items)) }
+    ensures exact { IfOk result (λ v. v ≡ verdict_on operations.assume operations.dead
+        (Some (checks.Within a e.now)) (Within slots.now.items)) }
 {
     let failing = out_of_bounds(alloc, a, e, slots)?;
     Ok(safe_if_empty(&failing))
@@ -94,7 +98,8 @@ fn index_verdict(
 
 #[tactic(auto, unfolding(dom_interval_meaning::specs::Operations::dead))]
 fn claim_verdict(alloc: Global, c: &SlotCond, slots: &Vec<SlotRange>) -> Result<Verdict, AllocError>
-    ensures exact { IfOk result (λ v. v ≡ verdict_on operations.assume operations.dead (Some (checks.Claims c.now)) (Within slots.now.items)) }
+    ensures exact { IfOk result (λ v. v ≡ verdict_on operations.assume operations.dead
+        (Some (checks.Claims c.now)) (Within slots.now.items)) }
 {
     let failing = assumed(alloc, c, false, within(copied(slots)?))?;
     Ok(safe_if_empty(&failing))
@@ -106,7 +111,8 @@ fn action_verdict(
     action: &SlotAction,
     slots: &Vec<SlotRange>,
 ) -> Result<Verdict, AllocError>
-    ensures exact { IfOk result (λ v. v ≡ operations.check (Does (effect_of action.now)) (Within slots.now.items)) }
+    ensures exact { IfOk result (λ v. v ≡ operations.check (Does (effect_of action.now))
+        (Within slots.now.items)) }
 {
     match action {
         SlotAction::Assert(c) => claim_verdict(alloc, c, slots),

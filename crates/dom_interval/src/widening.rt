@@ -114,7 +114,8 @@ fn threshold_above(thresholds: &[i64], extremes: Range, end: End) -> End
 }
 
 fn low_end(thresholds: &[i64], extremes: Range, l: End, r: End) -> End
-    ensures exact { result ≡ (if int_le l r then l else widening.threshold_below thresholds.now extremes r) }
+    ensures exact { result ≡ (if int_le l r then l else widening.threshold_below thresholds.now
+        extremes r) }
 {
     if l.value <= r.value {
         l
@@ -124,7 +125,8 @@ fn low_end(thresholds: &[i64], extremes: Range, l: End, r: End) -> End
 }
 
 fn high_end(thresholds: &[i64], extremes: Range, l: End, r: End) -> End
-    ensures exact { result ≡ (if int_le r l then l else widening.threshold_above thresholds.now extremes r) }
+    ensures exact { result ≡ (if int_le r l then l else widening.threshold_above thresholds.now
+        extremes r) }
 {
     if r.value <= l.value {
         l
@@ -154,7 +156,8 @@ fn widened_slots(
     left: &[SlotRange],
     right: &[SlotRange],
 ) -> Result<Vec<SlotRange>, AllocError>
-    ensures exact { IfOk result (λ v. v.items ≡ map (λ p. widening.widen_slot thresholds.now p.0 p.1) (zip left.now right.now)) }
+    ensures exact { IfOk result (λ v. v.items ≡ map (λ p.
+        widening.widen_slot thresholds.now p.0 p.1) (zip left.now right.now)) }
 {
     left.iter()
         .zip(right.iter())

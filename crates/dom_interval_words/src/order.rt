@@ -25,7 +25,8 @@ fn slots_leq(left: &[SlotRange], right: &[SlotRange]) -> bool
 
 /// Whether the left state, given by its slots, none for Empty, is found below the right one.
 pub fn leq(left: Option<&[SlotRange]>, right: Option<&[SlotRange]>) -> bool
-    ensures exact { result ≡ meant.leq (slots_in (option_map (λ r. r.now) left.entry)) (slots_in (option_map (λ r. r.now) right.entry)) }
+    ensures exact { result ≡ meant.leq (slots_in (option_map (λ r. r.now) left.entry))
+        (slots_in (option_map (λ r. r.now) right.entry)) }
 {
     match left {
         None => true,

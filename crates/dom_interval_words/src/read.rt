@@ -59,7 +59,8 @@ fn slots_of(
     words: &[Option<i128>],
     slots: Vec<SlotRange>,
 ) -> Result<Option<Vec<SlotRange>>, AllocError>
-    ensures exact { IfOk result (λ found. option_map (λ v. v.items) found ≡ option_map (λ more. slots.items ++ more) (meant.slots_of numbers.now words.now)) }
+    ensures exact { IfOk result (λ found. option_map (λ v. v.items) found ≡ option_map
+        (λ more. slots.items ++ more) (meant.slots_of numbers.now words.now)) }
 {
     let [number, numbers @ ..] = numbers else {
         return Ok(if words.is_empty() { Some(slots) } else { None });
@@ -77,7 +78,8 @@ fn within_of(
     layouts: &[Layout],
     words: &[Option<i128>],
 ) -> Result<Option<Option<Vec<SlotRange>>>, AllocError>
-    ensures exact { IfOk result (λ found. option_map (λ o. slots_in (option_map (λ v. v.items) o)) found ≡ meant.within_of layouts.now words.now) }
+    ensures exact { IfOk result (λ found. option_map (λ o. slots_in (option_map (λ v. v.items) o))
+        found ≡ meant.within_of layouts.now words.now) }
 {
     let [layout, ..] = layouts else {
         return Ok(None);
@@ -91,7 +93,8 @@ fn state_of(
     layouts: &[Layout],
     words: &[Option<i128>],
 ) -> Result<Option<Option<Vec<SlotRange>>>, AllocError>
-    ensures exact { IfOk result (λ found. option_map (λ o. slots_in (option_map (λ v. v.items) o)) found ≡ meant.state_of layouts.now words.now) }
+    ensures exact { IfOk result (λ found. option_map (λ o. slots_in (option_map (λ v. v.items) o))
+        found ≡ meant.state_of layouts.now words.now) }
 {
     let [word, rest @ ..] = words else {
         return Ok(None);
@@ -112,7 +115,8 @@ pub fn take(
     layouts: &[Layout],
     text: &[u8],
 ) -> Result<Option<Option<Vec<SlotRange>>>, Memory>
-    ensures exact { IfOk result (λ found. option_map (λ o. slots_in (option_map (λ v. v.items) o)) found ≡ meant.interval_port.take layouts.now text.now) }
+    ensures exact { IfOk result (λ found. option_map (λ o. slots_in (option_map (λ v. v.items) o))
+        found ≡ meant.interval_port.take layouts.now text.now) }
 {
     let Some(words) = words_of(alloc, text)? else {
         return Ok(None);

@@ -32,7 +32,8 @@ fn put_within(alloc: Global, slots: &[SlotRange]) -> Result<Text, Memory>
 
 /// The text of the state with these slots, of Empty where there are none. It fails only when memory runs out.
 pub fn put(alloc: Global, slots: Option<&[SlotRange]>) -> Result<Text, Memory>
-    ensures exact { IfOk result (λ text. text ≡ words_text (state_words (slots_in (option_map (λ r. r.now) slots.entry)))) }
+    ensures exact { IfOk result (λ text. text ≡ words_text
+        (state_words (slots_in (option_map (λ r. r.now) slots.entry)))) }
 {
     let Some(slots) = slots else {
         let mut text = Text::new(alloc);

@@ -15,7 +15,8 @@ use std::alloc::Global;
 
 // Whether the sides of a comparison are as it says in each graph, as far as is seen.
 fn all_agree(equal: bool, left: Option<u32>, right: Option<u32>, graphs: &[FoldedGraph]) -> bool
-    ensures kept { IsTrue result → filter (operations.agrees equal left right) graphs.now ≡ graphs.now }
+    ensures kept { IsTrue result → filter (operations.agrees equal left right) graphs.now ≡
+        graphs.now }
 {
     for graph in graphs {
         if !agrees(graph.as_graph(), equal, left, right) {
@@ -33,7 +34,8 @@ fn agreeing(
     right: Option<u32>,
     graphs: &[FoldedGraph],
 ) -> Result<Vec<FoldedGraph>, Memory>
-    ensures exact { IfOk result (λ v. v.items ≡ filter (operations.agrees equal left right) graphs.now) }
+    ensures exact { IfOk result (λ v. v.items ≡ filter (operations.agrees equal left right)
+        graphs.now) }
 {
     let mut kept = Vec::new(alloc);
     for graph in graphs {
@@ -55,7 +57,8 @@ fn kept_where(
     graphs: &GraphSet,
 ) -> Result<SegmentState, Memory>
     requires graphs { s.now ≡ Graphs graphs.now }
-    ensures exact { IfOk result (λ t. t ≡ Graphs (filter (operations.agrees equal left right) graphs.now)) }
+    ensures exact { IfOk result (λ t. t ≡ Graphs (filter (operations.agrees equal left right)
+        graphs.now)) }
 {
     if all_agree(equal, left, right, graphs.as_slice()) {
         return copy_of(s);

@@ -42,7 +42,8 @@ pub fn initial(alloc: Global, main: &Layout) -> Result<SegmentState, Memory>
 
 // The links among the arguments of a call, in order.
 fn link_arguments(alloc: Global, arguments: &[Argument]) -> Result<Vec<Option<u32>>, Memory>
-    ensures exact { IfOk result (λ v. v.items ≡ operations.link_arguments (map argument_of arguments.now)) }
+    ensures exact { IfOk result (λ v. v.items ≡ operations.link_arguments
+        (map argument_of arguments.now)) }
 {
     let mut links = Vec::new(alloc);
     for argument in arguments {
@@ -93,7 +94,8 @@ fn targets(
     graph: &ShapeGraph,
     sides: &[Option<u32>],
 ) -> Result<Vec<Option<usize>>, Memory>
-    ensures exact { IfOk result (λ v. v.items ≡ map (steps.argument_of graph.now.frames) sides.now) }
+    ensures exact { IfOk result (λ v. v.items ≡ map (steps.argument_of graph.now.frames)
+        sides.now) }
 {
     let mut targets = Vec::with_capacity(alloc, sides.len())?;
     for link in sides {
@@ -108,7 +110,8 @@ fn entered_graph(
     sides: &[Option<u32>],
     graph: &ShapeGraph,
 ) -> Result<ShapeGraph, Memory>
-    ensures exact { IfOk result (λ next. next ≡ steps.push_frame_of graph.now (map (steps.argument_of graph.now.frames) sides.now)) }
+    ensures exact { IfOk result (λ next. next ≡ steps.push_frame_of graph.now
+        (map (steps.argument_of graph.now.frames) sides.now)) }
 {
     let _count = graph.node_count();
     let targets = targets(alloc, graph, sides)?;
@@ -146,7 +149,8 @@ pub fn entered(alloc: Global, entering: &Entering, s: &SegmentState) -> Result<S
 
 // The graph without its last frame.
 fn without_last(alloc: Global, graph: &ShapeGraph) -> Result<ShapeGraph, Memory>
-    ensures exact { IfOk result (λ next. next ≡ steps.pop_frame_of graph.now (length graph.now.frames - 1)) }
+    ensures exact { IfOk result (λ next. next ≡ steps.pop_frame_of graph.now
+        (length graph.now.frames - 1)) }
 {
     pop_frame(alloc, graph, graph.frames().len().saturating_sub(1))
 }
@@ -157,7 +161,8 @@ fn returned_graph(
     returning: Option<Returning>,
     graph: &ShapeGraph,
 ) -> Result<ShapeGraph, Memory>
-    ensures exact { IfOk result (λ next. next ≡ operations.returned (taken_of returning) graph.now) }
+    ensures exact { IfOk result (λ next. next ≡ operations.returned
+        (taken_of returning) graph.now) }
 {
     let below = without_last(alloc, graph)?;
     match returning {
@@ -176,7 +181,8 @@ fn returned_graphs(
     returning: Option<Returning>,
     graphs: &[FoldedGraph],
 ) -> Result<SegmentState, Memory>
-    ensures exact { IfOk result (λ t. t ≡ operations.each (λ g. operations.returned (taken_of returning) g ∷ []) (Graphs graphs.now)) }
+    ensures exact { IfOk result (λ t. t ≡ operations.each
+        (λ g. operations.returned (taken_of returning) g ∷ []) (Graphs graphs.now)) }
 {
     let mut all = GraphSet::new(alloc);
     for graph in graphs {
@@ -211,7 +217,8 @@ pub fn left(
 // Puts the last frame of a graph alone: the graph itself, where it has no other.
 #[tactic(auto, using(crate::proofs::Stays::last_stays))]
 fn put_last(alloc: Global, graphs: &mut GraphSet, graph: &FoldedGraph) -> Result<(), Memory>
-    ensures put { IfOk result (λ _. graphs.new ≡ sets.put (fold_of (steps.last_frame_of graph.now)) graphs.old) }
+    ensures put { IfOk result (λ _. graphs.new ≡ sets.put (fold_of (steps.last_frame_of graph.now))
+        graphs.old) }
 {
     if graph.as_graph().frames().len() == 1 {
         return put_kept(graphs, graph);

@@ -25,7 +25,8 @@ fn put_moved(
     action: &SlotAction,
     graph: &FoldedGraph,
 ) -> Result<(), Memory>
-    ensures put { IfOk result (λ _. graphs.new ≡ sets.union graphs.old (map fold_of (operations.stepped (effect_of action.now) graph.now))) }
+    ensures put { IfOk result (λ _. graphs.new ≡ sets.union graphs.old
+        (map fold_of (operations.stepped (effect_of action.now) graph.now))) }
 {
     if stays(action, graph.as_graph()) {
         return put_kept(graphs, graph);
@@ -40,7 +41,8 @@ fn moved_graphs(
     action: &SlotAction,
     graphs: &[FoldedGraph],
 ) -> Result<SegmentState, Memory>
-    ensures exact { IfOk result (λ t. t ≡ operations.each (operations.stepped (effect_of action.now)) (Graphs graphs.now)) }
+    ensures exact { IfOk result (λ t. t ≡ operations.each
+        (operations.stepped (effect_of action.now)) (Graphs graphs.now)) }
 {
     let mut all = GraphSet::new(alloc);
     for graph in graphs {
@@ -51,7 +53,8 @@ fn moved_graphs(
 
 // What a statement that changes a link makes of a state.
 fn moved(alloc: Global, action: &SlotAction, s: &SegmentState) -> Result<SegmentState, Memory>
-    ensures exact { IfOk result (λ t. t ≡ operations.each (operations.stepped (effect_of action.now)) s.now) }
+    ensures exact { IfOk result (λ t. t ≡ operations.each
+        (operations.stepped (effect_of action.now)) s.now) }
 {
     match &s.kept {
         Kept::Top => Ok(top()),
@@ -62,7 +65,8 @@ fn moved(alloc: Global, action: &SlotAction, s: &SegmentState) -> Result<Segment
 // The state where the check of a statement holds.
 #[tactic(auto, using(crate::proofs::Assumed::index_passed))]
 fn checked(alloc: Global, action: &SlotAction, s: &SegmentState) -> Result<SegmentState, Memory>
-    ensures exact { IfOk result (λ t. t ≡ past_check operations.assume (checks.check_of (effect_of action.now)) s.now) }
+    ensures exact { IfOk result (λ t. t ≡ past_check operations.assume
+        (checks.check_of (effect_of action.now)) s.now) }
 {
     match action {
         SlotAction::Assert(c) => assumed(alloc, c, true, s),
@@ -86,7 +90,8 @@ fn checked(alloc: Global, action: &SlotAction, s: &SegmentState) -> Result<Segme
 /// The state where a link is a cell, or where it is none.
 #[tactic(auto, unfolding(dom_listseg_meaning::specs::Operations::assume))]
 pub fn is_cell(alloc: Global, p: u32, sense: bool, s: &SegmentState) -> Result<SegmentState, Memory>
-    ensures exact { IfOk result (λ t. t ≡ operations.assume (checks.checked_guard (checks.IsCell p)) sense s.now) }
+    ensures exact { IfOk result (λ t. t ≡ operations.assume (checks.checked_guard (checks.IsCell p))
+        sense s.now) }
 {
     if sense {
         compared(alloc, false, Some(p), None, s)
@@ -122,7 +127,8 @@ fn done(alloc: Global, action: &SlotAction, s: SegmentState) -> Result<SegmentSt
 // The state after a simple statement. One without a check is done on the graphs as they stand.
 #[tactic(auto, unfolding(dom_listseg_meaning::specs::Operations::does))]
 fn acted(alloc: Global, action: &SlotAction, s: &SegmentState) -> Result<SegmentState, Memory>
-    ensures exact { IfOk result (λ t. t ≡ operations.does (effect_of action.now) (past_check operations.assume (checks.check_of (effect_of action.now)) s.now)) }
+    ensures exact { IfOk result (λ t. t ≡ operations.does (effect_of action.now)
+        (past_check operations.assume (checks.check_of (effect_of action.now)) s.now)) }
 {
     match action {
         SlotAction::SetNull(_) => moved(alloc, action, s),
@@ -138,7 +144,8 @@ fn checked_first(
     action: &SlotAction,
     s: &SegmentState,
 ) -> Result<SegmentState, Memory>
-    ensures exact { IfOk result (λ t. t ≡ operations.does (effect_of action.now) (past_check operations.assume (checks.check_of (effect_of action.now)) s.now)) }
+    ensures exact { IfOk result (λ t. t ≡ operations.does (effect_of action.now)
+        (past_check operations.assume (checks.check_of (effect_of action.now)) s.now)) }
 {
     let passed = checked(alloc, action, s)?;
     done(alloc, action, passed)

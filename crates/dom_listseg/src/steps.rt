@@ -28,7 +28,8 @@ fn read(
     to: usize,
     from: usize,
 ) -> Result<Vec<ShapeGraph>, Memory>
-    ensures exact { IfOk result (λ v. v.items ≡ operations.read_at graph.now to (slot_of graph.now.frames from)) }
+    ensures exact { IfOk result (λ v. v.items ≡ operations.read_at graph.now to
+        (slot_of graph.now.frames from)) }
 {
     let Some(node) = target(graph, from) else {
         return Ok(Vec::new(alloc));
@@ -48,7 +49,8 @@ fn write(
     to: usize,
     from: usize,
 ) -> Result<Vec<ShapeGraph>, Memory>
-    ensures exact { IfOk result (λ v. v.items ≡ operations.write_at graph.now (slot_of graph.now.frames to) from) }
+    ensures exact { IfOk result (λ v. v.items ≡ operations.write_at graph.now
+        (slot_of graph.now.frames to) from) }
 {
     let Some(node) = target(graph, to) else {
         return Ok(Vec::new(alloc));
@@ -68,7 +70,8 @@ pub fn stepped(
     action: &SlotAction,
     graph: &ShapeGraph,
 ) -> Result<Vec<ShapeGraph>, Memory>
-    ensures exact { IfOk result (λ v. v.items ≡ operations.stepped (effect_of action.now) graph.now) }
+    ensures exact { IfOk result (λ v. v.items ≡ operations.stepped
+        (effect_of action.now) graph.now) }
 {
     match action {
         SlotAction::SetNull(p) => single(alloc, forget(alloc, graph, *p as usize, None)?),
@@ -96,7 +99,8 @@ pub fn stepped(
 #[tactic(auto, using(crate::proofs::Stays::behind_is))]
 fn has_behind(graph: &ShapeGraph, node: usize, target: Option<usize>) -> bool
     requires node { node < nodes graph.now }
-    ensures one { IsTrue result → atom_at graph.now.atoms node ≡ record { many = false; target = target } }
+    ensures one { IsTrue result → atom_at graph.now.atoms node ≡
+        record { many = false; target = target } }
 {
     let atom = graph.atom(node);
     if atom.many {
@@ -108,7 +112,8 @@ fn has_behind(graph: &ShapeGraph, node: usize, target: Option<usize>) -> bool
 // Whether `p = q.next` gives p the target that it has, of a q that is one cell.
 #[tactic(auto, using(crate::proofs::Stays::read_stays))]
 fn read_stays(graph: &ShapeGraph, to: usize, from: usize) -> bool
-    ensures same { IsTrue result → operations.read_at graph.now to (slot_of graph.now.frames from) ≡ graph.now ∷ [] }
+    ensures same { IsTrue result → operations.read_at graph.now to (slot_of graph.now.frames from) ≡
+        graph.now ∷ [] }
 {
     match target(graph, from) {
         None => false,
@@ -119,7 +124,8 @@ fn read_stays(graph: &ShapeGraph, to: usize, from: usize) -> bool
 // Whether `p.next = q` puts after p's node, one cell, what is there.
 #[tactic(auto, using(crate::proofs::Stays::write_stays))]
 fn write_stays(graph: &ShapeGraph, to: usize, from: usize) -> bool
-    ensures same { IsTrue result → operations.write_at graph.now (slot_of graph.now.frames to) from ≡ graph.now ∷ [] }
+    ensures same { IsTrue result → operations.write_at graph.now
+        (slot_of graph.now.frames to) from ≡ graph.now ∷ [] }
 {
     match target(graph, to) {
         None => false,
@@ -139,7 +145,8 @@ fn slot_stays(graph: &ShapeGraph, to: usize, given: Option<usize>) -> bool
 /// there.
 #[tactic(auto, unfolding(dom_listseg_meaning::specs::Operations::stepped))]
 pub fn stays(action: &SlotAction, graph: &ShapeGraph) -> bool
-    ensures same { IsTrue result → operations.stepped (effect_of action.now) graph.now ≡ graph.now ∷ [] }
+    ensures same { IsTrue result → operations.stepped (effect_of action.now) graph.now ≡ graph.now
+        ∷ [] }
 {
     match action {
         SlotAction::SetNull(p) => slot_stays(graph, *p as usize, None),

@@ -46,7 +46,8 @@ fn put_space(text: &mut Text, slot: usize) -> Result<(), Memory>
 // `p=nil` or `p=k`, with a space before each but the first.
 #[tactic(auto, using(base_values::proofs::Joined::joined_4))]
 fn put_slot(text: &mut Text, slot: usize, name: &Text, target: Option<usize>) -> Result<(), Memory>
-    ensures value { OnOk result (text.new ≡ text.old ++ (texts.space_at slot ++ name.now ++ codes "=" ++ texts.target_text target)) }
+    ensures value { OnOk result (text.new ≡ text.old ++ (texts.space_at slot ++ name.now
+        ++ codes "=" ++ texts.target_text target)) }
 {
     put_space(text, slot)?;
     text.append(name.as_slice())?;
@@ -56,7 +57,8 @@ fn put_slot(text: &mut Text, slot: usize, name: &Text, target: Option<usize>) ->
 
 // What a node is.
 fn put_kind(text: &mut Text, many: bool) -> Result<(), Memory>
-    ensures value { OnOk result (text.new ≡ text.old ++ (if many then codes ":seg(" else codes ":one(")) }
+    ensures value { OnOk result (text.new ≡ text.old ++ (if many
+        then codes ":seg(" else codes ":one(")) }
 {
     if many {
         text.append(b":seg(")

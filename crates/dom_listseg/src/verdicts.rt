@@ -29,7 +29,8 @@ fn safe_if_empty(failing: &SegmentState) -> Verdict
 // What a state that describes something says of a claim.
 fn claim_verdict(alloc: Global, c: &SlotCond, s: &SegmentState) -> Result<Verdict, Memory>
     requires alive { operations.dead s.now ≡ false }
-    ensures exact { IfOk result (λ v. v ≡ verdict_on operations.assume operations.dead (Some (checks.Claims c.now)) s.now) }
+    ensures exact { IfOk result (λ v. v ≡ verdict_on operations.assume operations.dead
+        (Some (checks.Claims c.now)) s.now) }
 {
     let failing = assumed(alloc, c, false, s)?;
     Ok(safe_if_empty(&failing))
@@ -38,7 +39,8 @@ fn claim_verdict(alloc: Global, c: &SlotCond, s: &SegmentState) -> Result<Verdic
 // What a state that describes something says of a link being a cell.
 fn cell_verdict(alloc: Global, p: u32, s: &SegmentState) -> Result<Verdict, Memory>
     requires alive { operations.dead s.now ≡ false }
-    ensures exact { IfOk result (λ v. v ≡ verdict_on operations.assume operations.dead (Some (checks.IsCell p)) s.now) }
+    ensures exact { IfOk result (λ v. v ≡ verdict_on operations.assume operations.dead
+        (Some (checks.IsCell p)) s.now) }
 {
     let failing = is_cell(alloc, p, false, s)?;
     Ok(safe_if_empty(&failing))
@@ -48,7 +50,8 @@ fn cell_verdict(alloc: Global, p: u32, s: &SegmentState) -> Result<Verdict, Memo
 #[tactic(auto, using(crate::proofs::Findings::index_may))]
 fn action_verdict(alloc: Global, action: &SlotAction, s: &SegmentState) -> Result<Verdict, Memory>
     requires alive { operations.dead s.now ≡ false }
-    ensures exact { IfOk result (λ v. v ≡ verdict_on operations.assume operations.dead (checks.check_of (effect_of action.now)) s.now) }
+    ensures exact { IfOk result (λ v. v ≡ verdict_on operations.assume operations.dead
+        (checks.check_of (effect_of action.now)) s.now) }
 {
     match action {
         SlotAction::Assert(c) => claim_verdict(alloc, c, s),

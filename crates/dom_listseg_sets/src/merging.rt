@@ -23,7 +23,8 @@ pub fn merge(
     right: &[FoldedGraph],
 ) -> Result<(), Memory>
     requires rises { sets.rises right.now ≡ true }
-    ensures merged { OnOk result (graphs.new.items ≡ graphs.old.items ++ sets.union left.now right.now) }
+    ensures merged { OnOk result (graphs.new.items ≡ graphs.old.items
+        ++ sets.union left.now right.now) }
 {
     let mut left_place = 0;
     let mut right_place = 0;

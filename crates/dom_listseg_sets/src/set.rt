@@ -34,7 +34,8 @@ fn place_of(graphs: &[FoldedGraph], graph: &FoldedGraph) -> Option<usize>
     requires rises { sets.rises graphs.now ≡ true }
     ensures there { IfNone result (sets.put graph.now graphs.now ≡ graphs.now) }
     ensures inside { IfSome result (λ place. place ≤ length graphs.now) }
-    ensures place { IfSome result (λ place. sets.put graph.now graphs.now ≡ take place graphs.now ++ graph.now ∷ drop place graphs.now) }
+    ensures place { IfSome result (λ place. sets.put graph.now graphs.now ≡ take place graphs.now
+        ++ graph.now ∷ drop place graphs.now) }
 {
     let mut low = 0;
     let mut high = graphs.len();

@@ -28,7 +28,8 @@ fn has_counts(frames: &[Row], counts: &[usize]) -> bool
 
 /// The graph, if it is folded.
 fn if_folded(alloc: Global, graph: &ShapeGraph) -> Result<Option<FoldedGraph>, Memory>
-    ensures exact { IfOk result (λ found. found ≡ (if folding.is_folded graph.now then Some graph.now else None)) }
+    ensures exact { IfOk result (λ found. found ≡ (if folding.is_folded graph.now
+        then Some graph.now else None)) }
 {
     let folded = FoldedGraph::from_graph(alloc, graph)?;
     if *folded.as_graph() == *graph {
@@ -46,7 +47,8 @@ fn graph_if(
     frames: Vec<Row>,
     atoms: Vec<Atom>,
 ) -> Result<Option<FoldedGraph>, Memory>
-    ensures exact { IfOk result (λ found. found ≡ meant.graph_if counts.now (shape_of frames.items atoms.items)) }
+    ensures exact { IfOk result (λ found. found ≡ meant.graph_if counts.now
+        (shape_of frames.items atoms.items)) }
 {
     if !has_counts(&frames, counts) {
         return Ok(None);
@@ -63,7 +65,8 @@ fn graph_of(
     counts: &[usize],
     words: &[Option<i128>],
 ) -> Result<Option<FoldedGraph>, Memory>
-    ensures exact { IfOk result (λ found. found ≡ meant.graph_if counts.now (meant.graph_of counts.now words.now)) }
+    ensures exact { IfOk result (λ found. found ≡ meant.graph_if counts.now
+        (meant.graph_of counts.now words.now)) }
 {
     let frames = frames_of(alloc, counts, words)?;
     let atoms = atoms_of(alloc, after_frames(counts, words))?;
@@ -78,7 +81,8 @@ pub fn graphs_of(
     words: &[Option<i128>],
     graphs: Vec<FoldedGraph>,
 ) -> Result<Option<Vec<FoldedGraph>>, Memory>
-    ensures exact { IfOk result (λ found. option_map (λ v. v.items) found ≡ option_map (λ more. graphs.items ++ more) (meant.graphs_of counts.now many words.now)) }
+    ensures exact { IfOk result (λ found. option_map (λ v. v.items) found ≡ option_map
+        (λ more. graphs.items ++ more) (meant.graphs_of counts.now many words.now)) }
 {
     if many == 0 {
         return Ok(Some(graphs));

@@ -28,7 +28,8 @@ fn have_all(graphs: &[FoldedGraph], others: &[FoldedGraph]) -> bool
 
 /// Whether the left state, given by its graphs, none for Top, is found below the right one.
 pub fn leq(left: Option<&[FoldedGraph]>, right: Option<&[FoldedGraph]>) -> bool
-    ensures exact { result ≡ meant.leq (state_in (option_map (λ g. g.now) left.entry)) (state_in (option_map (λ g. g.now) right.entry)) }
+    ensures exact { result ≡ meant.leq (state_in (option_map (λ g. g.now) left.entry))
+        (state_in (option_map (λ g. g.now) right.entry)) }
 {
     match (left, right) {
         (_, None) => true,

@@ -25,7 +25,8 @@ fn if_told(
     words: &[Option<i128>],
     graphs: GraphSet,
 ) -> Result<Option<GraphSet>, Memory>
-    ensures exact { IfOk result (λ found. option_map (λ v. state_in (Some v)) found ≡ meant.if_told words.now (state_in (Some graphs))) }
+    ensures exact { IfOk result (λ found. option_map (λ v. state_in (Some v)) found ≡
+        meant.if_told words.now (state_in (Some graphs))) }
 {
     let told = graphs_told(alloc, graphs.as_slice())?;
     if told.as_slice() == words {
@@ -41,7 +42,9 @@ fn graphs_if(
     counts: &[usize],
     words: &[Option<i128>],
 ) -> Result<Option<GraphSet>, Memory>
-    ensures exact { IfOk result (λ found. option_map (λ v. state_in (Some v)) found ≡ meant.if_rises words.now (meant.graphs_of counts.now (meant.number_of most (meant.word_at words.now 1)) (drop 2 words.now))) }
+    ensures exact { IfOk result (λ found. option_map (λ v. state_in (Some v)) found ≡
+        meant.if_rises words.now (meant.graphs_of counts.now
+        (meant.number_of most (meant.word_at words.now 1)) (drop 2 words.now))) }
 {
     let many = number_of(MOST, word_at(words, 1)) as usize;
     let rest = behind(words, 2);
@@ -67,7 +70,8 @@ fn state_with(
     counts: &[usize],
     words: &[Option<i128>],
 ) -> Result<Option<Option<GraphSet>>, Memory>
-    ensures exact { IfOk result (λ found. option_map state_in found ≡ meant.state_with counts.now words.now) }
+    ensures exact { IfOk result (λ found. option_map state_in found ≡
+        meant.state_with counts.now words.now) }
 {
     let first = word_at(words, 0);
     if is_number(2, first) {
@@ -88,7 +92,8 @@ pub fn take(
     counts: &[usize],
     text: &[u8],
 ) -> Result<Option<Option<GraphSet>>, Memory>
-    ensures exact { IfOk result (λ found. option_map state_in found ≡ meant.state_of_text counts.now text.now) }
+    ensures exact { IfOk result (λ found. option_map state_in found ≡
+        meant.state_of_text counts.now text.now) }
 {
     let Some(words) = words_of(alloc, text)? else {
         return Ok(None);

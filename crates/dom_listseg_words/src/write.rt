@@ -24,7 +24,8 @@ fn target_word(target: Option<usize>) -> Option<i128>
 
 #[tactic(auto, using(crate::proofs::Texts::target_step))]
 fn put_row(words: &mut Vec<Option<i128>>, row: &Row) -> Result<(), AllocError>
-    ensures added { OnOk result (words.new.items ≡ words.old.items ++ map meant.target_word row.now) }
+    ensures added { OnOk result (words.new.items ≡ words.old.items
+        ++ map meant.target_word row.now) }
 {
     let targets = row.as_slice();
     for target in targets {
@@ -35,7 +36,8 @@ fn put_row(words: &mut Vec<Option<i128>>, row: &Row) -> Result<(), AllocError>
 
 #[tactic(auto, using(crate::proofs::Texts::row_step))]
 fn put_frames(words: &mut Vec<Option<i128>>, frames: &[Row]) -> Result<(), AllocError>
-    ensures added { OnOk result (words.new.items ≡ words.old.items ++ map meant.target_word (all_slots_of frames.now)) }
+    ensures added { OnOk result (words.new.items ≡ words.old.items ++ map meant.target_word
+        (all_slots_of frames.now)) }
 {
     for row in frames {
         put_row(words, row)?;
@@ -54,7 +56,8 @@ fn put_atom(words: &mut Vec<Option<i128>>, atom: Atom) -> Result<(), AllocError>
 
 #[tactic(auto, using(crate::proofs::Texts::atom_step))]
 fn put_atoms(words: &mut Vec<Option<i128>>, atoms: &[Atom]) -> Result<(), AllocError>
-    ensures added { OnOk result (words.new.items ≡ words.old.items ++ flat_map atom_told atoms.now) }
+    ensures added { OnOk result (words.new.items ≡ words.old.items
+        ++ flat_map atom_told atoms.now) }
 {
     for atom in atoms {
         put_atom(words, *atom)?;
@@ -73,7 +76,8 @@ fn put_graph(words: &mut Vec<Option<i128>>, graph: &ShapeGraph) -> Result<(), Al
 
 #[tactic(auto, using(crate::proofs::Texts::graph_step))]
 fn put_graphs(words: &mut Vec<Option<i128>>, graphs: &[FoldedGraph]) -> Result<(), AllocError>
-    ensures added { OnOk result (words.new.items ≡ words.old.items ++ flat_map graph_told graphs.now) }
+    ensures added { OnOk result (words.new.items ≡ words.old.items
+        ++ flat_map graph_told graphs.now) }
 {
     for graph in graphs {
         put_graph(words, graph.as_graph())?;
@@ -98,7 +102,8 @@ pub fn graphs_told(alloc: Global, graphs: &[FoldedGraph]) -> Result<Vec<Option<i
 
 /// The text of the state with these graphs, of Top where there are none. It fails only when memory runs out.
 pub fn put(alloc: Global, graphs: Option<&[FoldedGraph]>) -> Result<Text, Memory>
-    ensures exact { IfOk result (λ text. text ≡ words.words_text (meant.state_words (state_in (option_map (λ g. g.now) graphs.entry)))) }
+    ensures exact { IfOk result (λ text. text ≡ words.words_text
+        (meant.state_words (state_in (option_map (λ g. g.now) graphs.entry)))) }
 {
     match graphs {
         None => words_text(alloc, &[Some(2)]),

@@ -27,7 +27,8 @@ pub fn close_with(
     requires tight { IsTight m.now }
     requires first { IsSmallBound first }
     requires second { IsSmallBound second }
-    ensures exact { IfOk result (λ s. s ≡ close_of (with_bound_if (with_bound_if m.now first) second)) }
+    ensures exact { IfOk result (λ s. s ≡ close_of (with_bound_if
+        (with_bound_if m.now first) second)) }
 {
     match (first, second) {
         (None, None) => closed_copy(m),

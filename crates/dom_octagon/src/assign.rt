@@ -32,7 +32,8 @@ pub fn without(alloc: Global, m: &Bounds, k: usize) -> Result<Bounds, Memory>
     ensures value { IfOk result (λ r. r ≡ matrices.without m.now k) }
     ensures ready { IfOk result IsReady }
     ensures closed { IsClosed m.now → IfOk result IsClosed }
-    ensures same { IsClosed m.now → close_of (matrices.without m.now k) ≡ Bounded (matrices.without m.now k) }
+    ensures same { IsClosed m.now → close_of (matrices.without m.now k) ≡
+        Bounded (matrices.without m.now k) }
 {
     let _kinds = m.kinds();
     forget(alloc, m, k)
@@ -144,7 +145,8 @@ pub fn close_ranged(
 ) -> Result<OctagonState, Memory>
     requires slot { x < 2 ^ 32 }
     requires tight { IsTight m.now }
-    ensures exact { IfOk result (λ s. s ≡ close_of (matrices.meets_range (matrices.without m.now x) x range)) }
+    ensures exact { IfOk result (λ s. s ≡ close_of (matrices.meets_range
+        (matrices.without m.now x) x range)) }
 {
     let free = without(alloc, m, x)?;
     let high = high_bound(&free, x, range);
@@ -170,7 +172,8 @@ fn close_constant(alloc: Global, m: &Bounds, x: usize, c: i128) -> Result<Octago
     requires slot { x < 2 ^ 32 }
     requires tight { IsTight m.now }
     requires good { IsGoodForm (Some (Constant c)) }
-    ensures exact { IfOk result (λ s. s ≡ close_of (matrices.with_equation (matrices.without m.now x) (slot_form_of x) (Constant c))) }
+    ensures exact { IfOk result (λ s. s ≡ close_of (matrices.with_equation
+        (matrices.without m.now x) (slot_form_of x) (Constant c))) }
 {
     close_form(alloc, m, x, Form::Constant(c))
 }
@@ -220,7 +223,8 @@ fn close_equated(
     requires tight { IsTight m.now }
     requires apart { i / 2 ≢ x }
     requires good { IsGoodForm (Some (Node i c)) }
-    ensures exact { IfOk result (λ s. s ≡ close_of (matrices.with_equation (matrices.without m.now x) (slot_form_of x) (Node i c))) }
+    ensures exact { IfOk result (λ s. s ≡ close_of (matrices.with_equation
+        (matrices.without m.now x) (slot_form_of x) (Node i c))) }
 {
     let slots = m.kinds().len();
     if is_whole(m) && x < slots && i < 2 * slots {

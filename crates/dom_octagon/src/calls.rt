@@ -99,7 +99,8 @@ fn sources(
     sources: Vec<ArgumentSource>,
 ) -> Result<Option<Vec<ArgumentSource>>, Memory>
     requires tight { IsTight m.now }
-    ensures exact { IfOk result (λ o. option_map (λ r. r.items) o ≡ behind_these sources.items (operations.sources m.now (map argument_of arguments.now))) }
+    ensures exact { IfOk result (λ o. option_map (λ r. r.items) o ≡ behind_these sources.items
+        (operations.sources m.now (map argument_of arguments.now))) }
 {
     match arguments {
         [] => Ok(Some(sources)),
@@ -190,7 +191,8 @@ fn entered_matrix(
 ) -> Result<Matrix, Memory>
     requires few { length kinds.now ≤ 16 }
     requires limited { IsLimited (2 ^ 64) m.now }
-    ensures value { IfOk result (λ r. r ≡ matrix_of kinds.now (operations.entered m.now sources.now)) }
+    ensures value { IfOk result (λ r. r ≡ matrix_of kinds.now
+        (operations.entered m.now sources.now)) }
     ensures ready { IfOk result IsReady }
 {
     let _slots = m.kinds();
@@ -225,7 +227,8 @@ fn meet_sources(m: &mut Matrix, k: usize, sources: &[ArgumentSource])
 /// The state before a callee's body, from a closed matrix of the caller.
 fn entered_by(alloc: Global, entering: &Entering, m: &Bounds) -> Result<OctagonState, Memory>
     requires tight { IsTight m.now }
-    ensures exact { IfOk result (λ t. t ≡ operations.entered_by m.now entering.now.layout.numbers (operations.sources m.now entering.now.arguments)) }
+    ensures exact { IfOk result (λ t. t ≡ operations.entered_by m.now entering.now.layout.numbers
+        (operations.sources m.now entering.now.arguments)) }
 {
     match sources(m, entering.arguments(), Vec::new(alloc))? {
         None => Ok(empty()),
@@ -259,7 +262,8 @@ fn close_entered(
 ) -> Result<OctagonState, Memory>
     requires few { length kinds.now ≤ 16 }
     requires tight { IsTight m.now }
-    ensures exact { IfOk result (λ t. t ≡ close_of (operations.meet_sources (matrix_of kinds.now (operations.entered m.now sources.now)) 0 sources.now)) }
+    ensures exact { IfOk result (λ t. t ≡ close_of (operations.meet_sources
+        (matrix_of kinds.now (operations.entered m.now sources.now)) 0 sources.now)) }
 {
     ordered(sources);
     let mut callee = entered_matrix(alloc, m, kinds, sources)?;

@@ -57,7 +57,8 @@ fn bottom(l: Range) -> i128
 fn less_bound(m: &Bounds, a: Option<Form>, b: Option<Form>, l: Range, r: Range) -> Option<Bound>
     requires left { IsGoodForm a }
     requires right { IsGoodForm b }
-    ensures value { (n : HalfMatrix) → n.kinds ≡ m.now.kinds → with_bound_if n result ≡ operations.less_matrix n a b l r }
+    ensures value { (n : HalfMatrix) → n.kinds ≡ m.now.kinds →
+        with_bound_if n result ≡ operations.less_matrix n a b l r }
     ensures small { IsSmallBound result }
 {
     match (a, b) {
@@ -71,7 +72,8 @@ fn less_bound(m: &Bounds, a: Option<Form>, b: Option<Form>, l: Range, r: Range) 
 fn most_bound(m: &Bounds, a: Option<Form>, b: Option<Form>, l: Range, r: Range) -> Option<Bound>
     requires left { IsGoodForm a }
     requires right { IsGoodForm b }
-    ensures value { (n : HalfMatrix) → n.kinds ≡ m.now.kinds → with_bound_if n result ≡ operations.at_most_matrix n a b l r }
+    ensures value { (n : HalfMatrix) → n.kinds ≡ m.now.kinds →
+        with_bound_if n result ≡ operations.at_most_matrix n a b l r }
     ensures small { IsSmallBound result }
 {
     match (a, b) {
@@ -150,7 +152,8 @@ fn met(
     requires tight { IsTight m.now }
     requires left { IsGoodForm a }
     requires right { IsGoodForm b }
-    ensures exact { IfOk result (λ s. s ≡ close_of (operations.at_most_matrix (operations.at_most_matrix m.now a b l r) b a r l)) }
+    ensures exact { IfOk result (λ s. s ≡ close_of (operations.at_most_matrix
+        (operations.at_most_matrix m.now a b l r) b a r l)) }
 {
     let there = most_bound(m, a, b, l, r);
     let back = most_bound(m, b, a, r, l);
@@ -168,7 +171,8 @@ fn not_equal(
     requires tight { IsTight m.now }
     requires left { IsGoodForm a }
     requires right { IsGoodForm b }
-    ensures exact { IfOk result (λ s. s ≡ operations.join (operations.less m.now a b l r) (operations.less m.now b a r l)) }
+    ensures exact { IfOk result (λ s. s ≡ operations.join (operations.less m.now a b l r)
+        (operations.less m.now b a r l)) }
 {
     let below = less(alloc, m, a, b, l, r)?;
     let above = less(alloc, m, b, a, r, l)?;

@@ -114,7 +114,8 @@ fn negated_if(form: Option<Form>) -> Option<Form>
 fn combined_if(operator: Operator, a: Option<Form>, b: Option<Form>) -> Option<Form>
     requires left { IsGoodForm a }
     requires right { IsGoodForm b }
-    ensures exact { result ≡ forms.if_form a (λ f. forms.if_form b (forms.combined_form operator f)) }
+    ensures exact { result ≡ forms.if_form a (λ f. forms.if_form b
+        (forms.combined_form operator f)) }
     ensures short { HasShortNodeIf result }
 {
     match (a, b) {

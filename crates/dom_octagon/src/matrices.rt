@@ -112,7 +112,8 @@ fn is_beyond(kinds: &[bool], i: usize, c: i128) -> bool
 fn end(kinds: &[bool], i: usize, c: i128) -> Option<Bound>
     requires node { i < 2 ^ 60 }
     requires small { IsWithin (2 ^ 69) (Some c) }
-    ensures value { (n : HalfMatrix) → n.kinds ≡ kinds.now → with_bound_if n result ≡ matrices.meets_end n i c }
+    ensures value { (n : HalfMatrix) → n.kinds ≡ kinds.now →
+        with_bound_if n result ≡ matrices.meets_end n i c }
     ensures small { IsSmallBound result }
 {
     if is_beyond(kinds, i, c) {
@@ -167,7 +168,8 @@ pub fn low_bound(m: &Bounds, k: usize, r: Range) -> Option<Bound>
 pub fn side_at_most(m: &Bounds, form: Option<Form>, h: i128) -> Option<Bound>
     requires good { IsGoodForm form }
     requires small { IsWithin (2 ^ 65) (Some h) }
-    ensures value { (n : HalfMatrix) → n.kinds ≡ m.now.kinds → with_bound_if n result ≡ matrices.side_at_most n form h }
+    ensures value { (n : HalfMatrix) → n.kinds ≡ m.now.kinds →
+        with_bound_if n result ≡ matrices.side_at_most n form h }
     ensures small { IsSmallBound result }
 {
     match form {
@@ -181,7 +183,8 @@ pub fn side_at_most(m: &Bounds, form: Option<Form>, h: i128) -> Option<Bound>
 pub fn side_at_least(m: &Bounds, form: Option<Form>, l: i128) -> Option<Bound>
     requires good { IsGoodForm form }
     requires small { IsWithin (2 ^ 65) (Some l) }
-    ensures value { (n : HalfMatrix) → n.kinds ≡ m.now.kinds → with_bound_if n result ≡ matrices.side_at_least n form l }
+    ensures value { (n : HalfMatrix) → n.kinds ≡ m.now.kinds →
+        with_bound_if n result ≡ matrices.side_at_least n form l }
     ensures small { IsSmallBound result }
 {
     match form {

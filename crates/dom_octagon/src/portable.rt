@@ -46,7 +46,8 @@ fn wide(alloc: Global, m: Option<&Bounds>) -> Result<Option<Matrix>, Memory>
 
 /// The matrix of the state that has this text.
 fn taken(alloc: Global, layouts: &[Layout], text: &[u8]) -> Result<Option<Option<Matrix>>, Memory>
-    ensures exact { IfOk result (λ found. found ≡ meant.state_of_text (meant.last_kinds layouts.now) text.now) }
+    ensures exact { IfOk result (λ found. found ≡ meant.state_of_text
+        (meant.last_kinds layouts.now) text.now) }
     ensures limited { IfOk result (λ found. IfSome found (λ o. IfSome o (IsLimited (2 ^ 64)))) }
 {
     match layouts {

@@ -20,7 +20,8 @@ fn taken(
 ) -> Result<OctagonState, Memory>
     requires tight { IsTight m.now }
     requires callee { IsTight callee.now }
-    ensures exact { IfOk result (λ t. t ≡ operations.returned (taken_of returning) m.now callee.now) }
+    ensures exact { IfOk result (λ t. t ≡ operations.returned
+        (taken_of returning) m.now callee.now) }
 {
     match returning {
         None => closed_copy(m),

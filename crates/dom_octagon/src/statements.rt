@@ -24,7 +24,8 @@ use std::alloc::Global;
 /// `0 <= e && e < len a`
 #[tactic(auto, unfolding(dom_octagon_meaning::specs::Operations::assume))]
 fn in_bounds(alloc: Global, a: u32, e: &SlotExpr, s: &OctagonState) -> Result<OctagonState, Memory>
-    ensures exact { IfOk result (λ t. t ≡ operations.assume (checks.checked_guard (checks.Within a e.now)) true s.now) }
+    ensures exact { IfOk result (λ t. t ≡ operations.assume
+        (checks.checked_guard (checks.Within a e.now)) true s.now) }
 {
     let first = zero_and(alloc, Relation::AtMost, e, s)?;
     and_length(alloc, Relation::Less, e, a, &first)
@@ -46,7 +47,9 @@ fn checked(
     action: &SlotAction,
     s: &OctagonState,
 ) -> Result<Option<OctagonState>, Memory>
-    ensures exact { IfOk result (λ t. closed_if t s.now ≡ states.closed (past_check operations.assume (checks.check_of (effect_of action.now)) s.now)) }
+    ensures exact { IfOk result (λ t. closed_if t s.now ≡
+        states.closed (past_check operations.assume (checks.check_of (effect_of action.now))
+        s.now)) }
 {
     match action {
         SlotAction::Assert(c) => Ok(Some(assumed(alloc, c, true, s)?)),
@@ -147,7 +150,8 @@ fn done(alloc: Global, action: &SlotAction, m: &Bounds) -> Result<OctagonState, 
 
 /// What a statement does to a state where its check holds.
 fn done_in(alloc: Global, action: &SlotAction, s: &OctagonState) -> Result<OctagonState, Memory>
-    ensures exact { IfOk result (λ t. t ≡ states.unless_empty (states.closed s.now) (operations.does (effect_of action.now))) }
+    ensures exact { IfOk result (λ t. t ≡ states.unless_empty (states.closed s.now)
+        (operations.does (effect_of action.now))) }
 {
     match closure(s) {
         None => Ok(empty()),

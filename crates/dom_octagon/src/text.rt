@@ -91,7 +91,8 @@ fn put_bound(
     second: &NumericSlot,
     bound: Option<i128>,
 ) -> Result<(), Memory>
-    ensures value { OnOk result (text.new ≡ text.old ++ texts.bound_text sign.now first.now (between ∷ []) second.now bound) }
+    ensures value { OnOk result (text.new ≡ text.old ++ texts.bound_text sign.now first.now
+        (between ∷ []) second.now bound) }
 {
     let Some(bound) = bound else {
         return Ok(());
@@ -118,7 +119,8 @@ fn put_pair(
     requires tight { IsTight m.now }
     requires row { a < 2 ^ 60 }
     requires column { b < 2 ^ 60 }
-    ensures value { OnOk result (text.new ≡ text.old ++ texts.pair_text m.now a first.now b second.now) }
+    ensures value { OnOk result (text.new ≡ text.old ++ texts.pair_text m.now a first.now b
+        second.now) }
 {
     put_bound(text, b" ", first, b'-', second, sharp(m, 2 * b, 2 * a))?;
     put_bound(text, b" ", second, b'-', first, sharp(m, 2 * a, 2 * b))?;
@@ -139,7 +141,8 @@ fn put_pairs_with(
     requires tight { IsTight m.now }
     requires row { a < 2 ^ 60 }
     requires room { b + length numbers.now < 2 ^ 60 }
-    ensures value { OnOk result (text.new ≡ text.old ++ texts.pairs_with m.now a first.now b numbers.now) }
+    ensures value { OnOk result (text.new ≡ text.old ++ texts.pairs_with m.now a first.now b
+        numbers.now) }
 {
     match numbers {
         [] => Ok(()),

@@ -25,7 +25,8 @@ fn out_of_bounds(
     e: &SlotExpr,
     s: &OctagonState,
 ) -> Result<OctagonState, Memory>
-    ensures exact { IfOk result (λ t. t ≡ operations.assume (checks.checked_guard (checks.Within a e.now)) false s.now) }
+    ensures exact { IfOk result (λ t. t ≡ operations.assume
+        (checks.checked_guard (checks.Within a e.now)) false s.now) }
 {
     let below = zero_and(alloc, Relation::Greater, e, s)?;
     let past = and_length(alloc, Relation::AtLeast, e, a, s)?;
@@ -46,14 +47,18 @@ fn safe_if_empty(failing: &OctagonState) -> Verdict
 /// The closed state where a link is null.
 #[tactic(auto, unfolding(dom_octagon_meaning::specs::Operations::assume))]
 fn link_verdict(alloc: Global, q: u32, s: &OctagonState) -> Result<Verdict, Memory>
-    ensures exact { IfOk result (λ v. v ≡ (if states.dead (operations.assume (checks.checked_guard (checks.IsCell q)) false s.now) then verdicts.Safe else verdicts.May)) }
+    ensures exact { IfOk result (λ v. v ≡ (if states.dead
+        (operations.assume (checks.checked_guard (checks.IsCell q)) false s.now)
+        then verdicts.Safe else verdicts.May)) }
 {
     let null = closed(s)?;
     Ok(safe_if_empty(&null))
 }
 
 fn index_verdict(alloc: Global, a: u32, e: &SlotExpr, s: &OctagonState) -> Result<Verdict, Memory>
-    ensures exact { IfOk result (λ v. v ≡ (if states.dead (operations.assume (checks.checked_guard (checks.Within a e.now)) false s.now) then verdicts.Safe else verdicts.May)) }
+    ensures exact { IfOk result (λ v. v ≡ (if states.dead
+        (operations.assume (checks.checked_guard (checks.Within a e.now)) false s.now)
+        then verdicts.Safe else verdicts.May)) }
 {
     let failing = out_of_bounds(alloc, a, e, s)?;
     Ok(safe_if_empty(&failing))
@@ -63,7 +68,8 @@ fn index_verdict(alloc: Global, a: u32, e: &SlotExpr, s: &OctagonState) -> Resul
 #[tactic(auto, unfolding(dom_octagon_meaning::specs::States::dead))]
 fn action_verdict(alloc: Global, action: &SlotAction, s: &OctagonState) -> Result<Verdict, Memory>
     requires there { states.dead s.now ≡ false }
-    ensures exact { IfOk result (λ v. v ≡ verdict_by operations.assume states.dead (Does (effect_of action.now)) s.now) }
+    ensures exact { IfOk result (λ v. v ≡ verdict_by operations.assume states.dead
+        (Does (effect_of action.now)) s.now) }
 {
     match action {
         SlotAction::Assert(c) => {

@@ -1,8 +1,7 @@
 -- States: nothing, or a matrix. Equal ones have the same kinds and entries, closed or not.
-use Rattle.std.specs.Prelude.{ℕ, Bool, true, false, ◌≡◌, ◌++◌, refl, List}
+use Rattle.std.specs.Prelude.{ℕ, Bool, true, false, ◌≡◌, refl}
 use Rattle.std.specs.Bool.{Decides}
 use Rattle.std.specs.Cmp.{IsEquivalence, IsPartialEquivalence, decided, partial_equiv_from_equiv}
-use Rattle.std.specs.Hash as fed
 use Rattle.std.proofs.Common.{ap, subst}
 use Rattle.std.proofs.lemmas.Bool.{false≢true}
 use Rattle.dbm_core.specs.Half.{HalfMatrix}
@@ -50,11 +49,3 @@ state_equiv = decided same_state state_Decides
 
 pub state_per : IsPartialEquivalence same_state
 state_per = partial_equiv_from_equiv state_equiv
-
--- what a state feeds a hasher
-abbrev pub state_fed : Closed → List (List ℕ)
-state_fed Empty = fed.u8 0
-state_fed (Matrix m) = fed.u8 1 ++ (fed.slice fed.bool m.kinds ++ fed.slice (fed.option fed.i128) m.kept)
-
-pub state_fed-same : (a b : Closed) → same_state a b ≡ true → state_fed a ≡ state_fed b
-state_fed-same a b h = ap state_fed (state_equal a b h)

@@ -3,7 +3,7 @@ use Rattle.std.specs.Prelude.{◌≡◌, ℕ, ◌^◌}
 use Rattle.dbm_core.specs.Half.{HalfMatrix, entry, nodes}
 use Rattle.dbm_core.specs.Limits.{AreWithin, HasZeroDiagonal, IsLimited, IsZeroAtMost}
 use Rattle.dbm_close.specs.Close.{HasNoEmptyRange}
-use Rattle.dbm_incremental.specs.ClosedMatrices.{AgreesBut, IsClosed, IsWhole}
+use Rattle.dbm_incremental.specs.ClosedMatrices.{IsClosed, IsWhole}
 
 -- a closed matrix: the diagonal is 0, each bound is none or from -2^64 to 2^64, and no slot's range is empty
 pub record IsTight (m : HalfMatrix) : Type 0 where
@@ -19,10 +19,6 @@ IsInLimits m = IsLimited (2 ^ 64) m
 pub record ObeysTriangles (m : HalfMatrix) : Type 0 where
   pub diagonal : HasZeroDiagonal (nodes m) (entry m)
   pub whole : IsWhole m
-
--- a matrix of m's slots, with m's bounds except those on slot q
-abbrev pub ChangesOnly : ℕ → HalfMatrix → HalfMatrix → Type 0
-ChangesOnly q m s = (s.kinds ≡ m.kinds) × AgreesBut q m s
 
 -- a matrix that can be closed
 pub record IsReady (m : HalfMatrix) : Type 0 where

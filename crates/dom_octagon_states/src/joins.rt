@@ -32,7 +32,8 @@ fn join_of(alloc: Global, a: &Bounds, b: &Bounds) -> Result<Bounds, Memory>
     requires same { b.now.kinds ≡ a.now.kinds }
     requires left { IsTight a.now }
     requires right { IsTight b.now }
-    ensures value { IfOk result (λ r. variants.Matrix r ≡ close_of (matrix_of a.now.kinds (dbm.joined a.now b.now))) }
+    ensures value { IfOk result (λ r. variants.Matrix r ≡
+        close_of (matrix_of a.now.kinds (dbm.joined a.now b.now))) }
     ensures closed { IfOk result IsClosed }
 {
     let _left = a.kinds();
@@ -45,7 +46,8 @@ fn widening_of(alloc: Global, thresholds: &[i64], a: &Bounds, b: &Bounds) -> Res
     requires same { b.now.kinds ≡ a.now.kinds }
     requires left { IsLimited (2 ^ 64) a.now }
     requires right { IsLimited (2 ^ 64) b.now }
-    ensures value { IfOk result (λ r. r ≡ matrix_of a.now.kinds (dbm.widened thresholds.now a.now b.now)) }
+    ensures value { IfOk result (λ r. r ≡ matrix_of a.now.kinds
+        (dbm.widened thresholds.now a.now b.now)) }
     ensures limited { IfOk result (IsLimited (2 ^ 64)) }
 {
     let _left = a.kinds();
@@ -99,7 +101,8 @@ fn widen_matrices(
     requires right { IsLimited (2 ^ 64) b.now }
     requires same { b.now.kinds ≡ a.now.kinds }
     requires is { s.now ≡ variants.Matrix a.now }
-    ensures exact { IfOk result (λ t. t ≡ variants.Matrix (matrix_of a.now.kinds (dbm.widened thresholds.now a.now b.now))) }
+    ensures exact { IfOk result (λ t. t ≡ variants.Matrix
+        (matrix_of a.now.kinds (dbm.widened thresholds.now a.now b.now))) }
 {
     let widening = widening_of(alloc, thresholds, a, b)?;
     if is_same(a, &widening) {

@@ -43,7 +43,8 @@ fn matrix_leq(left: &Matrix, right: &Matrix) -> bool
 /// Whether the left state, given by the matrix of what closing it answers, is found below the right one,
 /// given by its matrix.
 pub fn leq(closed: Option<&Matrix>, right: Option<&Matrix>) -> bool
-    ensures exact { result ≡ meant.closed_leq (state_in (option_copied closed.entry)) (state_in (option_copied right.entry)) }
+    ensures exact { result ≡ meant.closed_leq (state_in (option_copied closed.entry))
+        (state_in (option_copied right.entry)) }
 {
     match (closed, right) {
         (None, _) => true,

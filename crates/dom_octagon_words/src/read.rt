@@ -78,7 +78,8 @@ fn are_entries(words: &[Option<i128>], slots: usize) -> bool
 fn table(alloc: Global, kinds: &[bool], words: &[Option<i128>]) -> Result<Matrix, Memory>
     requires few { length kinds.now ≤ 16 }
     requires entries { meant.are_entries words.now (2 * length kinds.now) ≡ true }
-    ensures exact { IfOk result (λ m. m ≡ matrix_of kinds.now (meant.word_at words.now (2 * length kinds.now))) }
+    ensures exact { IfOk result (λ m. m ≡ matrix_of kinds.now
+        (meant.word_at words.now (2 * length kinds.now))) }
 {
     let nodes = 2 * kinds.len();
     Matrix::from_fn(
@@ -114,7 +115,8 @@ fn bounded_of(
     words: &[Option<i128>],
 ) -> Result<Option<Option<Matrix>>, Memory>
     requires few { IfSome (option_map (λ k. k.now) kinds) (λ k. length k ≤ 16) }
-    ensures exact { IfOk result (λ found. found ≡ meant.bounded_of (option_map (λ k. k.now) kinds.entry) words.now) }
+    ensures exact { IfOk result (λ found. found ≡ meant.bounded_of
+        (option_map (λ k. k.now) kinds.entry) words.now) }
 {
     let Some(kinds) = kinds else {
         return Ok(None);
@@ -131,7 +133,8 @@ fn kept_of(
     words: &[Option<i128>],
 ) -> Result<Option<Option<Matrix>>, Memory>
     requires few { IfSome (option_map (λ k. k.now) kinds) (λ k. length k ≤ 16) }
-    ensures exact { IfOk result (λ found. found ≡ meant.kept_of (option_map (λ k. k.now) kinds.entry) words.now) }
+    ensures exact { IfOk result (λ found. found ≡ meant.kept_of
+        (option_map (λ k. k.now) kinds.entry) words.now) }
 {
     let [word, rest @ ..] = words else {
         return Ok(None);
@@ -154,7 +157,8 @@ pub fn take(
     text: &[u8],
 ) -> Result<Option<Option<Matrix>>, Memory>
     requires few { IfSome (option_map (λ k. k.now) kinds) (λ k. length k ≤ 16) }
-    ensures exact { IfOk result (λ found. found ≡ meant.state_of_text (option_map (λ k. k.now) kinds.entry) text.now) }
+    ensures exact { IfOk result (λ found. found ≡ meant.state_of_text
+        (option_map (λ k. k.now) kinds.entry) text.now) }
     ensures limited { IfOk result (λ found. IfSome found (λ o. IfSome o (IsLimited (2 ^ 64)))) }
 {
     let Some(words) = words_of(alloc, text)? else {

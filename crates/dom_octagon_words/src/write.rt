@@ -13,7 +13,8 @@ use std::alloc::Global;
 /// All entries, row by row, each with a space before.
 #[tactic(auto, using(crate::proofs::Below::place_within, crate::proofs::Texts::some_row, crate::proofs::Texts::few_places, crate::proofs::Texts::place_step))]
 fn put_entries(text: &mut Text, m: &Matrix) -> Result<(), Memory>
-    ensures added { OnOk result (text.new ≡ text.old ++ more_text (table_told (nodes m.now) (entry m.now))) }
+    ensures added { OnOk result (text.new ≡ text.old ++ more_text
+        (table_told (nodes m.now) (entry m.now))) }
 {
     let nodes = 2 * m.kinds().len();
     for place in 0..nodes * nodes {
@@ -25,7 +26,8 @@ fn put_entries(text: &mut Text, m: &Matrix) -> Result<(), Memory>
 /// The text of the state with this matrix, of Empty where there is none. It fails when memory runs out
 /// alone.
 pub fn put(alloc: Global, matrix: Option<&Matrix>) -> Result<Text, Memory>
-    ensures exact { IfOk result (λ text. text ≡ words_text (state_words (state_in (option_copied matrix.entry)))) }
+    ensures exact { IfOk result (λ text. text ≡ words_text
+        (state_words (state_in (option_copied matrix.entry)))) }
 {
     let mut text = Text::new(alloc);
     match matrix {

@@ -188,11 +188,15 @@ impl<A: Domain, B: Domain> Domain for Pair<A, B> {
         Ok((first, second))
     }
 
-    ghost laws = { λ d. product_laws (A.operations d.first) (B.operations d.second) (A.covers d.first) (B.covers d.second) (A.laws d.first) (B.laws d.second) };
+    ghost laws = { λ d. product_laws (A.operations d.first) (B.operations d.second)
+        (A.covers d.first) (B.covers d.second) (A.laws d.first) (B.laws d.second) };
 
-    ghost keeps_dead = { λ d. product_keeps_dead (A.operations d.first) (B.operations d.second) (A.keeps_dead d.first) (B.keeps_dead d.second) };
+    ghost keeps_dead = { λ d. product_keeps_dead (A.operations d.first) (B.operations d.second)
+        (A.keeps_dead d.first) (B.keeps_dead d.second) };
 
-    ghost tests_equality = { λ d s t. product_equality (A.operations d.first) (B.operations d.second) A.State.eq B.State.eq (A.tests_equality d.first) (B.tests_equality d.second) s t };
+    ghost tests_equality = { λ d s t. product_equality (A.operations d.first)
+        (B.operations d.second) A.State.eq B.State.eq (A.tests_equality d.first)
+        (B.tests_equality d.second) s t };
 }
 
 /// Dead where either verdict is, else safe where either is, else may.

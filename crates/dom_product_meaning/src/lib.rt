@@ -17,6 +17,7 @@ use domain_laws::Domain;
 /// of a step is described after it, states that fit stay so, verdicts are right, and simple
 /// statements change no dead state.
 pub fn products_are_domains<A: Domain, B: Domain>()
-    ensures laws { (a : A) (b : B) → Laws (product (A.operations a) (B.operations b)) (covered_by_both (A.covers a) (B.covers b)) }
+    ensures laws { (a : A) (b : B) → Laws (product (A.operations a) (B.operations b))
+        (covered_by_both (A.covers a) (B.covers b)) }
     ensures keeps_dead { (a : A) (b : B) → KeepsDead (product (A.operations a) (B.operations b)) }
 {}

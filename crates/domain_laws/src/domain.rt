@@ -84,7 +84,8 @@ pub trait Domain {
         r: &Self::State,
         steps: &mut Steps<L>,
     ) -> Result<Self::State, Memory>
-        ensures value { IfOk result (λ t. t ≡ (operations self.now).widen thresholds.now l.now r.now) }
+        ensures value { IfOk result (λ t. t ≡ (operations self.now).widen thresholds.now l.now
+            r.now) }
         ensures ticked { steps.new ≡ steps.old + counted self.now };
 
     /// The state before a callee's body, from the one before the call.
@@ -107,7 +108,8 @@ pub trait Domain {
         done: &Self::State,
         steps: &mut Steps<L>,
     ) -> Result<Self::State, Memory>
-        ensures value { IfOk result (λ t. t ≡ (operations self.now).leave call.now.returning s.now done.now) }
+        ensures value { IfOk result (λ t. t ≡ (operations self.now).leave call.now.returning s.now
+            done.now) }
         ensures ticked { steps.new ≡ steps.old + counted self.now };
 
     /// The last frame alone.
@@ -132,7 +134,8 @@ pub trait Domain {
 
     /// What the state before a statement says of its check.
     fn check(&self, alloc: Global, stmt: &SlotStmt, s: &Self::State) -> Result<Verdict, Memory>
-        ensures value { IfOk result (λ v. v ≡ (operations self.now).check (act_of stmt.now) s.now) };
+        ensures value { IfOk result (λ v. v ≡ (operations self.now).check
+            (act_of stmt.now) s.now) };
 
     /// The text of a state whose last frame has this layout.
     fn text(&self, alloc: Global, layout: &Layout, s: &Self::State) -> Result<Text, Memory>
@@ -146,5 +149,6 @@ pub trait Domain {
 
     ghost keeps_dead: { (d : Self) → KeepsDead (operations d) };
 
-    ghost tests_equality: { (d : Self) (s t : Self.State) → (operations d).same s t ≡ Self.State.eq s t };
+    ghost tests_equality: { (d : Self) (s t : Self.State) →
+        (operations d).same s t ≡ Self.State.eq s t };
 }

@@ -65,7 +65,10 @@ fn count_before(
     news: &Block,
     left: &[StmtId],
 ) -> Result<usize, Memory>
-    ensures is { IfOk result (λ before. among before (leaving news.now) left.now ≡ among (front_count (entry_of (entries_of table.now.program)) (suc (program_count table.now.program)) gap.now.context.around gap.now.front) (leaving news.now) left.now) }
+    ensures is { IfOk result (λ before. among before (leaving news.now) left.now ≡
+        among (front_count (entry_of (entries_of table.now.program))
+        (suc (program_count table.now.program)) gap.now.context.around gap.now.front)
+        (leaving news.now) left.now) }
 {
     if left.is_empty() {
         return Ok(0);
@@ -85,7 +88,8 @@ fn breaks_with(
     news: &Block,
     entry: &Entry,
 ) -> Result<Items<StmtId>, Memory>
-    ensures are { IfOk result (λ breaks. breaks ≡ breaks_with table.now.program gap.now news.now entry.now) }
+    ensures are { IfOk result (λ breaks. breaks ≡ breaks_with table.now.program gap.now news.now
+        entry.now) }
 {
     let left = left_of(alloc, gap.gone.as_slice(), entry.breaks.as_slice())?;
     let left = left.as_slice();
@@ -105,7 +109,8 @@ fn breaking(
     news: &Block,
     entry: &Entry,
 ) -> Result<Entry, Memory>
-    ensures is { IfOk result (λ copy. copy ≡ breaking (breaks_with table.now.program gap.now news.now entry.now) entry.now) }
+    ensures is { IfOk result (λ copy. copy ≡ breaking (breaks_with table.now.program gap.now
+        news.now entry.now) entry.now) }
 {
     let mut copy = entry_again(entry)?;
     copy.breaks = breaks_with(alloc, table, gap, news, entry)?;
@@ -134,7 +139,9 @@ pub fn rebroken(
     news: &Block,
     number: StmtId,
 ) -> Result<Option<Entry>, Memory>
-    ensures is { IfOk result (λ entry. entry ≡ rebroken gap.now.context.head (loop_breaks table.now.program gap.now news.now) (entry_of (entries_of table.now.program)) number) }
+    ensures is { IfOk result (λ entry. entry ≡ rebroken gap.now.context.head
+        (loop_breaks table.now.program gap.now news.now)
+        (entry_of (entries_of table.now.program)) number) }
 {
     match table.entry(number) {
         Some(entry) => {
@@ -163,7 +170,8 @@ fn loses(entry: &Entry, gone: &[StmtId]) -> bool
 /// Whether the breaks of a loop stay: none of them goes, and none leaves what comes.
 #[tactic(auto, using(edit_entries::proofs::Closed::closed_leaving, edit_entries::proofs::Breaks::among_none))]
 fn breaks_stay(gap: &Gap, news: &Block, entry: &Entry) -> bool
-    ensures stay { result ≡ true → (before : ℕ) → among before (leaving news.now) (left_of gap.now.gone entry.now.breaks) ≡ entry.now.breaks }
+    ensures stay { result ≡ true → (before : ℕ) → among before (leaving news.now)
+        (left_of gap.now.gone entry.now.breaks) ≡ entry.now.breaks }
 {
     are_closed(false, news) && !loses(entry, gap.gone.as_slice())
 }
@@ -177,9 +185,13 @@ fn breaks_stay(gap: &Gap, news: &Block, entry: &Entry) -> bool
 /// [`Memory`] alone.
 #[tactic(auto, using(crate::proofs::PutLemmas::none_fall, crate::proofs::PutLemmas::none_within, crate::proofs::BreakLemmas::same_breaks))]
 pub fn loop_puts(alloc: Global, table: &Table, gap: &Gap, news: &Block) -> Result<Vec<Put>, Memory>
-    ensures are { IfOk result (λ puts. (m : ℕ) → overlay puts.items (entry_of (entries_of table.now.program)) m ≡ rebroken gap.now.context.head (loop_breaks table.now.program gap.now news.now) (entry_of (entries_of table.now.program)) m) }
+    ensures are { IfOk result (λ puts. (m : ℕ) → overlay puts.items
+        (entry_of (entries_of table.now.program)) m ≡ rebroken gap.now.context.head
+        (loop_breaks table.now.program gap.now news.now)
+        (entry_of (entries_of table.now.program)) m) }
     ensures falling { IfOk result (λ puts. AreFalling puts.items) }
-    ensures within { IfOk result (λ puts. (b : ℕ) → IsBelow b gap.now.context.head → AreWithin b puts.items) }
+    ensures within { IfOk result (λ puts. (b : ℕ) → IsBelow b gap.now.context.head →
+        AreWithin b puts.items) }
 {
     let Some(head) = gap.context.head else {
         return Ok(Vec::new(alloc));

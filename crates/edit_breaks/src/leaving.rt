@@ -36,7 +36,8 @@ fn add_leaving_from(
     first: Option<StmtId>,
     found: &mut Items<StmtId>,
 ) -> Result<(), Memory>
-    ensures added { OnOk result (found.new ≡ found.old ++ leaving_from (entry_of (entries_of table.now.program)) most first) }
+    ensures added { OnOk result (found.new ≡ found.old ++ leaving_from
+        (entry_of (entries_of table.now.program)) most first) }
 {
     let mut left = most;
     let mut at = first;
@@ -56,7 +57,9 @@ fn add_leaving_part(
     entry: &Entry,
     found: &mut Items<StmtId>,
 ) -> Result<(), Memory>
-    ensures added { OnOk result (found.new ≡ found.old ++ leaving_part (leaving_from (entry_of (entries_of table.now.program)) most) entry.now entry.now.part) }
+    ensures added { OnOk result (found.new ≡ found.old ++ leaving_part
+        (leaving_from (entry_of (entries_of table.now.program)) most) entry.now
+        entry.now.part) }
 {
     match entry.part.node() {
         StmtNode::Break => found.push(entry.number),
@@ -70,7 +73,8 @@ fn add_leaving_part(
 
 /// The statement that has a block, if that is no loop.
 fn holder(table: &Table, around: Around) -> Option<&Entry>
-    ensures is { option_copied result ≡ unless_body around.which (entry_of (entries_of table.now.program) around.stmt) }
+    ensures is { option_copied result ≡ unless_body around.which
+        (entry_of (entries_of table.now.program) around.stmt) }
 {
     match around.which {
         Which::Then | Which::Else => table.entry(around.stmt),
@@ -86,7 +90,8 @@ fn above<'a>(
     context: &Context,
     front: &Option<StmtId>,
 ) -> Option<&'a Entry>
-    ensures is { option_copied result ≡ above (entry_of (entries_of table.now.program)) most context.now.around front.now }
+    ensures is { option_copied result ≡ above (entry_of (entries_of table.now.program)) most
+        context.now.around front.now }
 {
     if most == 0 {
         return None;
@@ -109,7 +114,9 @@ fn add_passed(
     entry: &Entry,
     found: &mut Items<StmtId>,
 ) -> Result<(), Memory>
-    ensures added { OnOk result (found.new ≡ found.old ++ passed (leaving_from (entry_of (entries_of table.now.program)) most) context.now.around front.now entry.now) }
+    ensures added { OnOk result (found.new ≡ found.old ++ passed
+        (leaving_from (entry_of (entries_of table.now.program)) most) context.now.around
+        front.now entry.now) }
 {
     if front.is_some() {
         return add_leaving_part(table, most, entry, found);
@@ -126,7 +133,9 @@ fn add_passed(
 /// Adds the breaks of the loop around a place that stand before it, in some order.
 #[tactic(auto, using(imp_check::proofs::FewLemmas::few_statements, crate::proofs::BreakLemmas::above_some, crate::proofs::BreakLemmas::count_step, crate::proofs::BreakLemmas::count_none))]
 fn add_front(table: &Table, gap: &Gap, found: &mut Items<StmtId>) -> Result<(), Memory>
-    ensures counted { OnOk result (length found.new ≡ length found.old + front_count (entry_of (entries_of table.now.program)) (suc (program_count table.now.program)) gap.now.context.around gap.now.front) }
+    ensures counted { OnOk result (length found.new ≡ length found.old
+        + front_count (entry_of (entries_of table.now.program))
+        (suc (program_count table.now.program)) gap.now.context.around gap.now.front) }
 {
     table.procs();
     let mut left = table.view().count() + 1;
@@ -144,7 +153,8 @@ fn add_front(table: &Table, gap: &Gap, found: &mut Items<StmtId>) -> Result<(), 
 /// How many breaks of the loop around a place stand before it. It takes time in proportion to the statements of the
 /// loop that stand there.
 pub(crate) fn front_count(alloc: Global, table: &Table, gap: &Gap) -> Result<usize, Memory>
-    ensures is { IfOk result (λ count. count ≡ front_count (entry_of (entries_of table.now.program)) (suc (program_count table.now.program)) gap.now.context.around gap.now.front) }
+    ensures is { IfOk result (λ count. count ≡ front_count (entry_of (entries_of table.now.program))
+        (suc (program_count table.now.program)) gap.now.context.around gap.now.front) }
 {
     let mut found = Items::new(alloc);
     add_front(table, gap, &mut found)?;

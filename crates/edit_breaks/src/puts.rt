@@ -17,9 +17,11 @@ use imp_table::Put;
 #[tactic(auto, using(crate::proofs::PutLemmas::exchanged_overlay, crate::proofs::PutLemmas::exchanged_falling, crate::proofs::PutLemmas::exchanged_within, crate::proofs::PutLemmas::added_overlay, crate::proofs::PutLemmas::added_falling, crate::proofs::PutLemmas::added_within))]
 pub fn put_at(puts: &mut Vec<Put>, number: StmtId, entry: TableSlot) -> Result<(), Memory>
     requires falling { AreFalling puts.old.items }
-    ensures is { OnOk result ((at : ℕ → Option Entry) (m : ℕ) → overlay puts.new.items at m ≡ cond (number == m) entry (overlay puts.old.items at m)) }
+    ensures is { OnOk result ((at : ℕ → Option Entry) (m : ℕ) →
+        overlay puts.new.items at m ≡ cond (number == m) entry (overlay puts.old.items at m)) }
     ensures falling { OnOk result (AreFalling puts.new.items) }
-    ensures within { OnOk result ((b : ℕ) → number < b → AreWithin b puts.old.items → AreWithin b puts.new.items) }
+    ensures within { OnOk result ((b : ℕ) → number < b → AreWithin b puts.old.items →
+        AreWithin b puts.new.items) }
 {
     let number = number.number();
     let mut at = puts.len();

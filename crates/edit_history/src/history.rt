@@ -34,9 +34,15 @@ impl Model for History {
 
     ghost coded = { times_code };
 
-    ghost view = { λ a. record { now = a.table.program; room = a.table.room; past = programs_by a.table.program a.past.items; future = programs_by a.table.program a.future.items } };
+    ghost view = { λ a. record {
+      now = a.table.program;
+      room = a.table.room;
+      past = programs_by a.table.program a.past.items;
+      future = programs_by a.table.program a.future.items;
+    } };
 
-    ghost invariant = { λ a. AreKept a.table.program a.table.room a.past.items a.future.items (deque_capacity a.past) (deque_capacity a.future) };
+    ghost invariant = { λ a. AreKept a.table.program a.table.room a.past.items a.future.items
+        (deque_capacity a.past) (deque_capacity a.future) };
 }
 
 impl History {
@@ -80,7 +86,8 @@ impl History {
     /// The change that leads to the program after, or `None` where there is none.
     pub fn behind(&self) -> Option<&Change>
         ensures there { IsSome result ↔ (0 < length self.now.past) }
-        ensures is { MatchOption result (self.now.past ≡ []) (λ change. LeadsOn self.now.room self.now.now change.now self.now.past) }
+        ensures is { MatchOption result (self.now.past ≡ [])
+            (λ change. LeadsOn self.now.room self.now.now change.now self.now.past) }
     {
         self.past.front()
     }
@@ -88,7 +95,8 @@ impl History {
     /// The change that leads to the program ahead, or `None` where there is none.
     pub fn ahead(&self) -> Option<&Change>
         ensures there { IsSome result ↔ (0 < length self.now.future) }
-        ensures is { MatchOption result (self.now.future ≡ []) (λ change. LeadsOn self.now.room self.now.now change.now self.now.future) }
+        ensures is { MatchOption result (self.now.future ≡ [])
+            (λ change. LeadsOn self.now.room self.now.now change.now self.now.future) }
     {
         self.future.front()
     }
@@ -146,11 +154,15 @@ fn leave_room(past: &mut VecDeque<Change>)
 /// Exchanges the nearest change of one side with the table; what is left is then the nearest of the other side.
 fn go(table: &mut Table, from: &mut VecDeque<Change>, onto: &mut VecDeque<Change>)
     requires there { 0 < length from.old.items }
-    requires kept { AreKept table.old.program table.old.room from.old.items onto.old.items (deque_capacity from.old) (deque_capacity onto.old) }
-    ensures now { table.new.program ∷ programs_by table.new.program from.new.items ≡ programs_by table.old.program from.old.items }
-    ensures onto { programs_by table.new.program onto.new.items ≡ table.old.program ∷ programs_by table.old.program onto.old.items }
+    requires kept { AreKept table.old.program table.old.room from.old.items onto.old.items
+        (deque_capacity from.old) (deque_capacity onto.old) }
+    ensures now { table.new.program ∷ programs_by table.new.program from.new.items ≡
+        programs_by table.old.program from.old.items }
+    ensures onto { programs_by table.new.program onto.new.items ≡ table.old.program
+        ∷ programs_by table.old.program onto.old.items }
     ensures room { table.new.room ≡ table.old.room }
-    ensures still { AreKept table.new.program table.new.room from.new.items onto.new.items (deque_capacity from.new) (deque_capacity onto.new) }
+    ensures still { AreKept table.new.program table.new.room from.new.items onto.new.items
+        (deque_capacity from.new) (deque_capacity onto.new) }
 {
     let Some(mut change) = from.pop_front() else {
         return;

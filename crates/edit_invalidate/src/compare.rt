@@ -97,7 +97,8 @@ fn same_row(in_main: bool, left_alone: bool, row: &Row<'_>, other: &Row<'_>) -> 
 ///
 /// It takes time linear in what the rows use, as conditions, layouts and thresholds.
 pub fn same_rows(in_main: bool, left_alone: bool, row: &Row<'_>, other: &Row<'_>) -> bool
-    ensures told { (w : List PathFrame) → is_nil w ≡ in_main → Decides result (AskSame left_alone (row_in w row.now) (row_in w other.now)) }
+    ensures told { (w : List PathFrame) → is_nil w ≡ in_main →
+        Decides result (AskSame left_alone (row_in w row.now) (row_in w other.now)) }
 {
     same_row(in_main, left_alone, row, other)
 }

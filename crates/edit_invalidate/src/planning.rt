@@ -29,7 +29,8 @@ pub fn plan<V>(
 ) -> Result<RemovalOrder, Memory>
     requires named { AreNamed graph.now.cells names.now.names }
     requires rising { IsRising graph.now.cells }
-    ensures removes { IfOk result (Removes graph.now.cells (IsTouched old.now new.now names.now.names graph.now.cells changed.now)) }
+    ensures removes { IfOk result (Removes graph.now.cells
+        (IsTouched old.now new.now names.now.names graph.now.cells changed.now)) }
 {
     let touched = touched(alloc, graph, names, old, new, changed)?;
     removal(alloc, graph, touched.as_slice())

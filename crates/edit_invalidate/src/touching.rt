@@ -39,7 +39,8 @@ fn input_count<V>(graph: &Graph<V>, cell: usize) -> usize
 #[tactic(auto, using(crate::proofs::Keeping::old_lacks, crate::proofs::Keeping::new_lacks))]
 fn name_keeps_row(names: &Names, old: &Flow<'_>, new: &Flow<'_>, name: &Name, inputs: usize) -> bool
     requires there { name.now.path < length names.now.paths }
-    ensures is { Decides result (KeepsCell old.now new.now (name_in names.now.paths name.now) inputs) }
+    ensures is { Decides result (KeepsCell old.now new.now (name_in names.now.paths name.now)
+        inputs) }
 {
     let frame = last_of(names, name.path);
     match &old.row(frame, name.point) {
@@ -61,7 +62,8 @@ fn keeps_row<V>(
     cell: usize,
 ) -> bool
     requires there { cell < length names.now.names }
-    ensures is { Decides result (KeepsCell old.now new.now (name_at names.now.names cell) (inputs_at graph.now.cells cell)) }
+    ensures is { Decides result (KeepsCell old.now new.now (name_at names.now.names cell)
+        (inputs_at graph.now.cells cell)) }
 {
     let name = names.get(cell);
     name_keeps_row(names, old, new, &name, input_count(graph, cell))
@@ -78,7 +80,8 @@ fn add_touched<V>(
     touched: &mut Vec<usize>,
 ) -> Result<(), Memory>
     requires named { AreNamed graph.now.cells names.now.names }
-    ensures adds { OnOk result (AddsTouched old.now new.now names.now.names graph.now.cells stmt touched.old.items touched.new.items) }
+    ensures adds { OnOk result (AddsTouched old.now new.now names.now.names graph.now.cells stmt
+        touched.old.items touched.new.items) }
 {
     for cell in graph.cells_of_statement(stmt) {
         if !keeps_row(graph, names, old, new, cell) {
@@ -99,7 +102,8 @@ pub(crate) fn touched<V>(
     changed: &[u32],
 ) -> Result<Vec<usize>, Memory>
     requires named { AreNamed graph.now.cells names.now.names }
-    ensures are { IfOk result (λ xs. AreTouched old.now new.now names.now.names graph.now.cells changed.now xs.items) }
+    ensures are { IfOk result (λ xs. AreTouched old.now new.now names.now.names graph.now.cells
+        changed.now xs.items) }
 {
     let mut touched = Vec::new(alloc);
     for stmt in changed {

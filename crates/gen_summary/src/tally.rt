@@ -64,7 +64,9 @@ impl ReplyTally {
     /// Adds the reply of this line; `cost` is what it tells where it tells a cost.
     pub fn add(&mut self, line: &[u8], cost: u64)
         requires room { (n : ℕ) × (n < 2 ^ 62) × IsWithin n self.old }
-        ensures is { (reply : Reply) → line.now ≡ reply_text reply → (kind_of reply ≡ ReplyKind.Cost → cost_in reply ≡ cost) → self.new ≡ tally_with reply self.old }
+        ensures is { (reply : Reply) → line.now ≡ reply_text reply →
+            (kind_of reply ≡ ReplyKind.Cost → cost_in reply ≡ cost) →
+            self.new ≡ tally_with reply self.old }
         ensures within { (n : ℕ) → IsWithin n self.old → IsWithin (n + 1) self.new }
     {
         self.count(kind_of(line), cost);

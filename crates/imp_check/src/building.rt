@@ -44,8 +44,10 @@ fn add_procedure(
     requires known { known.now ≡ map layout_in earlier.now }
     requires slots { slots.now ≡ layout_in proc.now }
     requires shallow { nesting proc.now.body < 2 ^ 32 }
-    ensures put { OnOk result (making.new.places.items ≡ put_all (procedure_entries earlier.now proc.now) making.old.places.items) }
-    ensures sites { OnOk result (making.new.sites.items ≡ with_sites (procedure_entries earlier.now proc.now) making.old.sites.items) }
+    ensures put { OnOk result (making.new.places.items ≡
+        put_all (procedure_entries earlier.now proc.now) making.old.places.items) }
+    ensures sites { OnOk result (making.new.sites.items ≡
+        with_sites (procedure_entries earlier.now proc.now) making.old.sites.items) }
 {
     let resolver = Resolver::new(slots, earlier, known);
     let context = Context {
@@ -68,8 +70,10 @@ fn add_procedures(
     requires few { length procs.now < 2 ^ 32 }
     requires shallow { deepest procs.now < 2 ^ 32 }
     requires known { known.now ≡ map layout_in procs.now }
-    ensures put { OnOk result (making.new.places.items ≡ put_all (entries_of procs.now) making.old.places.items) }
-    ensures sites { OnOk result (making.new.sites.items ≡ with_sites (entries_of procs.now) making.old.sites.items) }
+    ensures put { OnOk result (making.new.places.items ≡
+        put_all (entries_of procs.now) making.old.places.items) }
+    ensures sites { OnOk result (making.new.sites.items ≡
+        with_sites (entries_of procs.now) making.old.sites.items) }
 {
     for (i, proc) in procs.iter().enumerate() {
         add_procedure(alloc, &known[i], &procs[..i], &known[..i], proc, making)?;
@@ -83,7 +87,8 @@ fn making_of(alloc: Global, procs: &[Proc], known: &[Slots]) -> Result<Making, M
     requires shallow { deepest procs.now < 2 ^ 32 }
     requires known { known.now ≡ map layout_in procs.now }
     ensures put { IfOk result (λ making. making.places.items ≡ put_all (entries_of procs.now) []) }
-    ensures sites { IfOk result (λ making. making.sites.items ≡ with_sites (entries_of procs.now) (no_sites (length procs.now))) }
+    ensures sites { IfOk result (λ making. making.sites.items ≡ with_sites (entries_of procs.now)
+        (no_sites (length procs.now))) }
 {
     let mut making = Making {
         places: Vec::new(alloc),
@@ -111,7 +116,8 @@ pub struct TableParts {
 #[tactic(auto, using(crate::proofs::FewLemmas::few_checked, crate::proofs::FewLemmas::few_statements, crate::proofs::TableLemmas::made))]
 pub fn table_parts(alloc: Global, procs: &[Proc]) -> Result<TableParts, Memory>
     requires fine { IsFine procs.now }
-    ensures are { IfOk result (λ parts. AreOf procs.now (entry_in parts.places.items) parts.count parts.heads parts.sites) }
+    ensures are { IfOk result (λ parts. AreOf procs.now (entry_in parts.places.items) parts.count
+        parts.heads parts.sites) }
 {
     let known = layouts_of(alloc, procs)?;
     let heads = heads_of(alloc, procs, known.as_slice())?;

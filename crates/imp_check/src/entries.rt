@@ -27,7 +27,8 @@ use std::alloc::Global;
 /// What a simple statement does, over slots.
 #[tactic(auto, using(crate::proofs::EntryLemmas::action_again))]
 fn simple_form(alloc: Global, slots: &Slots, action: &Action) -> Result<SlotForm, Memory>
-    ensures is { IfOk result (λ f. f ≡ form.Stmt (act.Simple (action_of (effect_in slots.now (operation_of action.now))))) }
+    ensures is { IfOk result (λ f. f ≡ form.Stmt (act.Simple
+        (action_of (effect_in slots.now (operation_of action.now))))) }
 {
     let action = effect_in(alloc, slots, action)?;
     Ok(SlotForm::Stmt(SlotStmt::Simple(action)))
@@ -35,7 +36,9 @@ fn simple_form(alloc: Global, slots: &Slots, action: &Action) -> Result<SlotForm
 
 /// A call, over slots.
 fn call_form(alloc: Global, resolver: &Resolver, call: &Call) -> Result<SlotForm, Memory>
-    ensures is { IfOk result (λ f. f ≡ form.Call (invoke_in resolver.now call.now.target call.now.callee (operands_of call.now.arguments)) (callee_in resolver.now call.now.callee)) }
+    ensures is { IfOk result (λ f. f ≡ form.Call (invoke_in resolver.now call.now.target
+        call.now.callee (operands_of call.now.arguments))
+        (callee_in resolver.now call.now.callee)) }
 {
     let invoke = resolver.invoke(alloc, call)?;
     Ok(SlotForm::Call(invoke, ProcId::new(resolver.callee(call))))
@@ -70,7 +73,17 @@ fn entry_of(
     form: SlotForm,
     told: (Stmt, Items<StmtId>),
 ) -> Entry
-    ensures is { result ≡ record { number = number_of stmt.now; part = told.0; form = form; context = context.now; front = front; next = next; inner = first_ends stmt.now; other = second_ends stmt.now; breaks = told.1 } }
+    ensures is { result ≡ record {
+      number = number_of stmt.now;
+      part = told.0;
+      form = form;
+      context = context.now;
+      front = front;
+      next = next;
+      inner = first_ends stmt.now;
+      other = second_ends stmt.now;
+      breaks = told.1;
+    } }
 {
     let (part, breaks) = told;
     Entry {
@@ -103,7 +116,8 @@ fn entry_at(
     next: Option<StmtId>,
     stmt: &Stmt,
 ) -> Result<Entry, Memory>
-    ensures is { IfOk result (λ entry. entry ≡ entry_at resolver.now context.now front next stmt.now) }
+    ensures is { IfOk result (λ entry. entry ≡ entry_at resolver.now context.now front next
+        stmt.now) }
 {
     let told = told_of(alloc, stmt)?;
     let form = form_in(alloc, resolver, stmt)?;
@@ -120,8 +134,10 @@ pub(crate) struct Making {
 impl Making {
     /// Adds a statement.
     fn add(&mut self, alloc: Global, entry: Entry) -> Result<(), Memory>
-        ensures put { OnOk result (self.new.places.items ≡ put_at self.old.places.items entry.number (Some entry)) }
-        ensures sites { OnOk result (self.new.sites.items ≡ with_form entry.number entry.form self.old.sites.items) }
+        ensures put { OnOk result (self.new.places.items ≡ put_at self.old.places.items entry.number
+            (Some entry)) }
+        ensures sites { OnOk result (self.new.sites.items ≡
+            with_form entry.number entry.form self.old.sites.items) }
     {
         add_call(&mut self.sites, &entry.form, entry.number)?;
         put_entry(alloc, &mut self.places, entry)
@@ -161,8 +177,12 @@ pub(crate) fn block_entries(
     making: &mut Making,
 ) -> Result<(), Memory>
     requires shallow { context.now.depth + nesting block.now < 2 ^ 32 }
-    ensures put { OnOk result (making.new.places.items ≡ put_all (block_entries resolver.now context.now None None block.now) making.old.places.items) }
-    ensures sites { OnOk result (making.new.sites.items ≡ with_sites (block_entries resolver.now context.now None None block.now) making.old.sites.items) }
+    ensures put { OnOk result (making.new.places.items ≡
+        put_all (block_entries resolver.now context.now None None block.now)
+        making.old.places.items) }
+    ensures sites { OnOk result (making.new.sites.items ≡
+        with_sites (block_entries resolver.now context.now None None block.now)
+        making.old.sites.items) }
 {
     let mut front: Option<StmtId> = None;
     let stmts = block.as_slice();
@@ -187,8 +207,12 @@ fn statement_entries(
     making: &mut Making,
 ) -> Result<(), Memory>
     requires shallow { context.now.depth + statement_nesting stmt.now < 2 ^ 32 }
-    ensures put { OnOk result (making.new.places.items ≡ put_all (statement_entries resolver.now context.now front next stmt.now) making.old.places.items) }
-    ensures sites { OnOk result (making.new.sites.items ≡ with_sites (statement_entries resolver.now context.now front next stmt.now) making.old.sites.items) }
+    ensures put { OnOk result (making.new.places.items ≡
+        put_all (statement_entries resolver.now context.now front next stmt.now)
+        making.old.places.items) }
+    ensures sites { OnOk result (making.new.sites.items ≡
+        with_sites (statement_entries resolver.now context.now front next stmt.now)
+        making.old.sites.items) }
 {
     making.add(
         alloc,

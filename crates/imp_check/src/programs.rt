@@ -164,7 +164,11 @@ fn procedure_fault(
 }
 
 fn found_in(name: &Text, spot: Spot) -> Result<LocatedFault, Memory>
-    ensures is { IfOk result (λ found. found ≡ record { fault = spot.fault; proc = name.now; at = spot.at }) }
+    ensures is { IfOk result (λ found. found ≡ record {
+      fault = spot.fault;
+      proc = name.now;
+      at = spot.at;
+    }) }
 {
     let proc = name.clone()?;
     Ok(LocatedFault {
@@ -231,7 +235,11 @@ fn chains_fault(alloc: Global, procs: &[Proc]) -> Result<Option<Fault>, Memory>
 
 /// A fault whose procedure is the last one.
 fn found_last(alloc: Global, procs: &[Proc], fault: Fault) -> Result<LocatedFault, Memory>
-    ensures is { IfOk result (λ found. found ≡ record { fault = fault; proc = name_of (last_of procs.now); at = 0 }) }
+    ensures is { IfOk result (λ found. found ≡ record {
+      fault = fault;
+      proc = name_of (last_of procs.now);
+      at = 0;
+    }) }
 {
     let spot = Spot { fault, at: 0 };
     match procs.last() {

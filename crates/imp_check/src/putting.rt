@@ -14,7 +14,8 @@ pub(crate) fn put_entry(
     places: &mut Vec<TableSlot>,
     entry: Entry,
 ) -> Result<(), Memory>
-    ensures put { OnOk result (places.new.items ≡ put_at places.old.items entry.number (Some entry)) }
+    ensures put { OnOk result (places.new.items ≡ put_at places.old.items entry.number
+        (Some entry)) }
 {
     let number = entry.number.number() as usize;
     let place = TableSlot::of(alloc, entry)?;

@@ -36,7 +36,8 @@ impl<'a> Model for Resolver<'a> {
 
     ghost view = { λ a. record { layout = a.slots.now; earlier = a.earlier.now } };
 
-    ghost invariant = { λ a. (length a.earlier.now < 2 ^ 32) × (a.known.now ≡ map plain.layout_in a.earlier.now) };
+    ghost invariant = { λ a. (length a.earlier.now < 2 ^ 32) ×
+        (a.known.now ≡ map plain.layout_in a.earlier.now) };
 }
 
 impl<'a> Resolver<'a> {
@@ -62,7 +63,8 @@ impl<'a> Resolver<'a> {
     /// A call.
     #[tactic(auto, using(base_values::proofs::Lists::get_there, std::proofs::lemmas::Option::slice_get_past, crate::proofs::SlotLemmas::layout_there, crate::proofs::SlotLemmas::known_length))]
     pub(crate) fn invoke(&self, alloc: Global, call: &Call) -> Result<SlotCall, Memory>
-        ensures is { IfOk result (λ c. c ≡ invoke_in self.now call.now.target call.now.callee (operands_of call.now.arguments)) }
+        ensures is { IfOk result (λ c. c ≡ invoke_in self.now call.now.target call.now.callee
+            (operands_of call.now.arguments)) }
     {
         let place = place_named(self.earlier, &call.callee);
         if place < self.earlier.len() {
@@ -88,7 +90,8 @@ fn invoke_of(
     known: &Slots,
 ) -> Result<SlotCall, Memory>
     requires known { known.now ≡ layout_in callee.now }
-    ensures is { IfOk result (λ c. c ≡ invoke_of slots.now call.now.target (operands_of call.now.arguments) (Some callee.now)) }
+    ensures is { IfOk result (λ c. c ≡ invoke_of slots.now call.now.target
+        (operands_of call.now.arguments) (Some callee.now)) }
 {
     let arguments = arguments_in(alloc, slots, call.arguments.as_slice())?;
     let layout = known.layout().clone()?;
@@ -99,7 +102,8 @@ fn invoke_of(
 
 /// A call of no procedure, which no checked program has.
 fn invoke_nothing(alloc: Global, slots: &Slots, call: &Call) -> Result<SlotCall, Memory>
-    ensures is { IfOk result (λ c. c ≡ invoke_of slots.now call.now.target (operands_of call.now.arguments) None) }
+    ensures is { IfOk result (λ c. c ≡ invoke_of slots.now call.now.target
+        (operands_of call.now.arguments) None) }
 {
     let arguments = arguments_in(alloc, slots, call.arguments.as_slice())?;
     let layout = slots.layout().clone()?;
@@ -129,7 +133,8 @@ fn returning_in(
     target: &Option<Text>,
     outcome: Option<&Declaration>,
 ) -> Option<Returning>
-    ensures is { taken_of result ≡ returning_in slots.now known.now target.now (option_copied outcome.entry) }
+    ensures is { taken_of result ≡ returning_in slots.now known.now target.now
+        (option_copied outcome.entry) }
 {
     match (target, outcome) {
         (Some(x), Some(outcome)) => Some(result_in(slots, known, x, &outcome.name)),
@@ -157,7 +162,8 @@ pub(crate) fn code_in(
 /// A statement.
 #[cycle(blocks)]
 fn statement_in(alloc: Global, resolver: &Resolver, stmt: &Stmt) -> Result<SlotNode, Memory>
-    ensures is { IfOk result (λ node. (r : Code) → before_code node r ≡ statement_in resolver.now stmt.now r) }
+    ensures is { IfOk result (λ node. (r : Code) → before_code node r ≡
+        statement_in resolver.now stmt.now r) }
 {
     let number = stmt.id().number();
     match stmt.node() {

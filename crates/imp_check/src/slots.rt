@@ -27,7 +27,8 @@ impl Model for Slots {
 
     ghost view = { λ a. a.layout };
 
-    ghost invariant = { λ a. (length a.layout.numbers < 2 ^ 32) × (length a.layout.links < 2 ^ 32) };
+    ghost invariant = { λ a. (length a.layout.numbers < 2 ^ 32) ×
+        (length a.layout.links < 2 ^ 32) };
 }
 
 impl Slots {

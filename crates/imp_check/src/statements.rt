@@ -37,7 +37,11 @@ impl<'a> Model for Scope<'a> {
 
     ghost coded = { scope_code };
 
-    ghost view = { λ a. record { earlier = a.earlier.now; others = a.others.now; variables = a.variables.now } };
+    ghost view = { λ a. record {
+      earlier = a.earlier.now;
+      others = a.others.now;
+      variables = a.variables.now;
+    } };
 }
 
 impl<'a> Scope<'a> {
@@ -46,7 +50,11 @@ impl<'a> Scope<'a> {
         others: &'a [Proc],
         variables: &'a [Declaration],
     ) -> Scope<'a>
-        ensures is { result ≡ record { earlier = earlier.now; others = others.now; variables = variables.now } }
+        ensures is { result ≡ record {
+          earlier = earlier.now;
+          others = others.now;
+          variables = variables.now;
+        } }
     {
         Scope {
             earlier,
@@ -170,7 +178,8 @@ fn fits_result(
 }
 
 fn arguments_fault(variables: &[Declaration], call: &Call, callee: &Proc) -> Option<Fault>
-    ensures is { result ≡ arguments_fault variables.now call.now.target (operands_of call.now.arguments) (Some callee.now) }
+    ensures is { result ≡ arguments_fault variables.now call.now.target
+        (operands_of call.now.arguments) (Some callee.now) }
 {
     let arguments = call.arguments.as_slice();
     if !same_length(arguments, callee.parameters())
@@ -187,7 +196,8 @@ fn arguments_fault(variables: &[Declaration], call: &Call, callee: &Proc) -> Opt
 }
 
 fn call_fault(scope: &Scope, call: &Call) -> Option<Fault>
-    ensures is { result ≡ call_fault scope.now call.now.target call.now.callee (operands_of call.now.arguments) }
+    ensures is { result ≡ call_fault scope.now call.now.target call.now.callee
+        (operands_of call.now.arguments) }
     ensures small { result ≡ None → small_operands (operands_of call.now.arguments) ≡ true }
 {
     if !knows_target(scope.variables, &call.target) {

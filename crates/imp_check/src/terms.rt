@@ -88,7 +88,8 @@ fn comparison(
     a: &Side,
     b: &Side,
 ) -> Result<SlotCond, Memory>
-    ensures is { IfOk result (λ c. c ≡ comparison_in slots.now relation (operand_of a.now) (operand_of b.now)) }
+    ensures is { IfOk result (λ c. c ≡ comparison_in slots.now relation (operand_of a.now)
+        (operand_of b.now)) }
 {
     if is_link_operand(slots, a) && is_link_operand(slots, b) {
         let node = SlotCondNode::CompareLinks(
@@ -158,7 +159,8 @@ fn assert_in(alloc: Global, slots: &Slots, cond: &Cond) -> Result<SlotAction, Me
 
 /// A new array of a size.
 fn make_array_in(alloc: Global, slots: &Slots, x: &Text, size: &Expr) -> Result<SlotAction, Memory>
-    ensures is { IfOk result (λ a. effect_of a ≡ effect_in slots.now (tree.MakeArray x.now size.now)) }
+    ensures is { IfOk result (λ a. effect_of a ≡ effect_in slots.now
+        (tree.MakeArray x.now size.now)) }
 {
     let size = term_in(alloc, slots, size)?;
     Ok(SlotAction::MakeArray(slots.number(x), size))
@@ -172,7 +174,8 @@ fn read_element_in(
     array: &Text,
     index: &Expr,
 ) -> Result<SlotAction, Memory>
-    ensures is { IfOk result (λ a. effect_of a ≡ effect_in slots.now (tree.ReadElement x.now array.now index.now)) }
+    ensures is { IfOk result (λ a. effect_of a ≡ effect_in slots.now
+        (tree.ReadElement x.now array.now index.now)) }
 {
     let index = term_in(alloc, slots, index)?;
     Ok(SlotAction::ReadElement(slots.number(x), slots.number(array), index))
@@ -186,7 +189,8 @@ fn write_element_in(
     index: &Expr,
     value: &Expr,
 ) -> Result<SlotAction, Memory>
-    ensures is { IfOk result (λ a. effect_of a ≡ effect_in slots.now (tree.WriteElement array.now index.now value.now)) }
+    ensures is { IfOk result (λ a. effect_of a ≡ effect_in slots.now
+        (tree.WriteElement array.now index.now value.now)) }
 {
     let index = term_in(alloc, slots, index)?;
     let value = term_in(alloc, slots, value)?;
@@ -195,7 +199,8 @@ fn write_element_in(
 
 /// A write of a cell's item.
 fn write_item_in(alloc: Global, slots: &Slots, p: &Text, value: &Expr) -> Result<SlotAction, Memory>
-    ensures is { IfOk result (λ a. effect_of a ≡ effect_in slots.now (tree.WriteItem p.now value.now)) }
+    ensures is { IfOk result (λ a. effect_of a ≡ effect_in slots.now
+        (tree.WriteItem p.now value.now)) }
 {
     let value = term_in(alloc, slots, value)?;
     Ok(SlotAction::WriteItem(slots.link(p), value))
@@ -257,7 +262,8 @@ pub(crate) fn arguments_in(
     slots: &Slots,
     sides: &[Side],
 ) -> Result<Items<Argument>, Memory>
-    ensures is { IfOk result (λ all. map argument_of all ≡ arguments_in slots.now (operands_of sides.now)) }
+    ensures is { IfOk result (λ all. map argument_of all ≡
+        arguments_in slots.now (operands_of sides.now)) }
 {
     let mut all = Items::new(alloc);
     for side in sides {

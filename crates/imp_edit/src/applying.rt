@@ -53,11 +53,13 @@ pub fn apply(alloc: Global, table: &Table, edit: &Edit, next: u32) -> Result<Edi
     requires below { All (λ (n : ℕ). n < next) (program_numbers table.now.program) }
     requires continues { Continues edit.now next }
     ensures accepted { IfOk result (λ _. edit_refusal edit.now table.now.program next ≡ None) }
-    ensures makes { IfOk result (λ e. Makes table.now.program e.change (edited edit.now table.now.program)) }
+    ensures makes { IfOk result (λ e. Makes table.now.program e.change
+        (edited edit.now table.now.program)) }
     ensures fine { IfOk result (λ _. IsFine (edited edit.now table.now.program)) }
     ensures numbers { IfOk result (λ e. e.next ≡ next_after edit.now next) }
     ensures within { IfOk result (λ e. AreWithin e.next e.change.entries.items) }
-    ensures still_below { IfOk result (λ e. All (λ (n : ℕ). n < e.next) (program_numbers (edited edit.now table.now.program))) }
+    ensures still_below { IfOk result (λ e. All (λ (n : ℕ). n < e.next)
+        (program_numbers (edited edit.now table.now.program))) }
     ensures refused { IfErr result (IsRefusal (edit_refusal edit.now table.now.program next)) }
 {
     if let Some(refusal) = site_refusal(table, edit) {

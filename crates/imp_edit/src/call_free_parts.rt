@@ -30,8 +30,10 @@ pub(crate) fn add_quiet(
     first: Option<StmtId>,
     found: &mut Items<StmtId>,
 ) -> Result<bool, Memory>
-    ensures is { IfOk result (λ quiet. quiet ≡ quiet_from (entry_of (entries_of table.now.program)) most first) }
-    ensures added { IfOk result (λ quiet. quiet ≡ true → found.new ≡ found.old ++ walk (entry_of (entries_of table.now.program)) most first) }
+    ensures is { IfOk result (λ quiet. quiet ≡ quiet_from (entry_of (entries_of table.now.program))
+        most first) }
+    ensures added { IfOk result (λ quiet. quiet ≡ true →
+        found.new ≡ found.old ++ walk (entry_of (entries_of table.now.program)) most first) }
 {
     let mut left = most;
     let mut at = first;

@@ -59,8 +59,13 @@ fn add_blocks(
     entry: &Entry,
     found: &mut Items<StmtId>,
 ) -> Result<bool, Memory>
-    ensures is { IfOk result (λ quiet. quiet ≡ (quiet_from (entry_of (entries_of table.now.program)) most entry.now.inner.first && quiet_from (entry_of (entries_of table.now.program)) most entry.now.other.first)) }
-    ensures added { IfOk result (λ quiet. quiet ≡ true → found.new ≡ found.old ++ (walk (entry_of (entries_of table.now.program)) most entry.now.inner.first ++ walk (entry_of (entries_of table.now.program)) most entry.now.other.first)) }
+    ensures is { IfOk result (λ quiet. quiet ≡ (quiet_from (entry_of (entries_of table.now.program))
+        most entry.now.inner.first && quiet_from (entry_of (entries_of table.now.program)) most
+        entry.now.other.first)) }
+    ensures added { IfOk result (λ quiet. quiet ≡ true →
+        found.new ≡ found.old ++ (walk (entry_of (entries_of table.now.program)) most
+        entry.now.inner.first ++ walk (entry_of (entries_of table.now.program)) most
+        entry.now.other.first)) }
 {
     if !add_quiet(table, most, entry.inner.first, found)? {
         return Ok(false);

@@ -46,7 +46,8 @@ fn with_next(
     number: StmtId,
     next: Option<StmtId>,
 ) -> Result<TableSlot, Memory>
-    ensures is { IfOk result (λ place. place ≡ option_map (with_next next) (entry_of (entries_of table.now.program) number)) }
+    ensures is { IfOk result (λ place. place ≡ option_map (with_next next)
+        (entry_of (entries_of table.now.program) number)) }
 {
     match table.entry(number) {
         Some(entry) => {
@@ -65,7 +66,8 @@ fn with_front(
     number: StmtId,
     front: Option<StmtId>,
 ) -> Result<TableSlot, Memory>
-    ensures is { IfOk result (λ place. place ≡ option_map (with_front front) (entry_of (entries_of table.now.program) number)) }
+    ensures is { IfOk result (λ place. place ≡ option_map (with_front front)
+        (entry_of (entries_of table.now.program) number)) }
 {
     match table.entry(number) {
         Some(entry) => {
@@ -79,7 +81,8 @@ fn with_front(
 
 /// A statement with the ends of one of its blocks as they then are.
 fn with_ends(entry: Entry, which: Which, gap: &Gap, news: &Block) -> Entry
-    ensures is { result ≡ with_ends which (ends_with gap.now.front gap.now.next news.now (ends_in which entry)) entry }
+    ensures is { result ≡ with_ends which (ends_with gap.now.front gap.now.next news.now
+        (ends_in which entry)) entry }
 {
     let mut entry = entry;
     match which {
@@ -99,7 +102,10 @@ fn holding(
     gap: &Gap,
     news: &Block,
 ) -> Result<TableSlot, Memory>
-    ensures is { IfOk result (λ place. place ≡ option_map (held_in (Some around) (ends_with gap.now.front gap.now.next news.now)) (rebroken gap.now.context.head (loop_breaks table.now.program gap.now news.now) (entry_of (entries_of table.now.program)) around.stmt)) }
+    ensures is { IfOk result (λ place. place ≡ option_map
+        (held_in (Some around) (ends_with gap.now.front gap.now.next news.now))
+        (rebroken gap.now.context.head (loop_breaks table.now.program gap.now news.now)
+        (entry_of (entries_of table.now.program)) around.stmt)) }
 {
     match rebroken(alloc, table, gap, news, around.stmt)? {
         Some(entry) => TableSlot::of(alloc, with_ends(entry, around.which, gap, news)),
@@ -109,16 +115,25 @@ fn holding(
 
 /// Whether the ends of the block stay, whatever comes.
 pub(crate) fn ends_stay(gap: &Gap) -> bool
-    ensures stay { result ≡ true → (news : Statements) (ends : BlockEnds) → ends_with gap.now.front gap.now.next news ends ≡ ends }
+    ensures stay { result ≡ true → (news : Statements) (ends : BlockEnds) →
+        ends_with gap.now.front gap.now.next news ends ≡ ends }
 {
     gap.front.is_some() && gap.next.is_some()
 }
 
 /// The changes of the loop around the place and of the statement that has the block.
 fn around_puts(alloc: Global, table: &Table, gap: &Gap, news: &Block) -> Result<Vec<Put>, Memory>
-    ensures are { IfOk result (λ puts. (m : ℕ) → overlay puts.items (entry_of (entries_of table.now.program)) m ≡ cond (is (holder_of gap.now.context.around) m) (option_map (held_in gap.now.context.around (ends_with gap.now.front gap.now.next news.now)) (rebroken gap.now.context.head (loop_breaks table.now.program gap.now news.now) (entry_of (entries_of table.now.program)) m)) (rebroken gap.now.context.head (loop_breaks table.now.program gap.now news.now) (entry_of (entries_of table.now.program)) m)) }
+    ensures are { IfOk result (λ puts. (m : ℕ) → overlay puts.items
+        (entry_of (entries_of table.now.program)) m ≡
+        cond (is (holder_of gap.now.context.around) m)
+        (option_map (held_in gap.now.context.around (ends_with gap.now.front gap.now.next
+        news.now)) (rebroken gap.now.context.head (loop_breaks table.now.program gap.now
+        news.now) (entry_of (entries_of table.now.program)) m))
+        (rebroken gap.now.context.head (loop_breaks table.now.program gap.now news.now)
+        (entry_of (entries_of table.now.program)) m)) }
     ensures falling { IfOk result (λ puts. AreFalling puts.items) }
-    ensures within { IfOk result (λ puts. (b : ℕ) → IsBelow b gap.now.context.head → IsBelow b (holder_of gap.now.context.around) → AreWithin b puts.items) }
+    ensures within { IfOk result (λ puts. (b : ℕ) → IsBelow b gap.now.context.head →
+        IsBelow b (holder_of gap.now.context.around) → AreWithin b puts.items) }
 {
     let mut puts = loop_puts(alloc, table, gap, news)?;
     if ends_stay(gap) {
@@ -144,9 +159,14 @@ fn put_next(
     puts: &mut Vec<Put>,
 ) -> Result<(), Memory>
     requires falling { AreFalling puts.old.items }
-    ensures is { OnOk result ((m : ℕ) → overlay puts.new.items (entry_of (entries_of table.now.program)) m ≡ cond (is gap.now.next m) (option_map (with_front (last_or news.now gap.now.front)) (entry_of (entries_of table.now.program) m)) (overlay puts.old.items (entry_of (entries_of table.now.program)) m)) }
+    ensures is { OnOk result ((m : ℕ) → overlay puts.new.items
+        (entry_of (entries_of table.now.program)) m ≡
+        cond (is gap.now.next m) (option_map (with_front (last_or news.now gap.now.front))
+        (entry_of (entries_of table.now.program) m))
+        (overlay puts.old.items (entry_of (entries_of table.now.program)) m)) }
     ensures falling { OnOk result (AreFalling puts.new.items) }
-    ensures within { OnOk result ((b : ℕ) → IsBelow b gap.now.next → AreWithin b puts.old.items → AreWithin b puts.new.items) }
+    ensures within { OnOk result ((b : ℕ) → IsBelow b gap.now.next → AreWithin b puts.old.items →
+        AreWithin b puts.new.items) }
 {
     match gap.next {
         Some(next) => {
@@ -166,9 +186,14 @@ fn put_front(
     puts: &mut Vec<Put>,
 ) -> Result<(), Memory>
     requires falling { AreFalling puts.old.items }
-    ensures is { OnOk result ((m : ℕ) → overlay puts.new.items (entry_of (entries_of table.now.program)) m ≡ cond (is gap.now.front m) (option_map (with_next (first_or news.now gap.now.next)) (entry_of (entries_of table.now.program) m)) (overlay puts.old.items (entry_of (entries_of table.now.program)) m)) }
+    ensures is { OnOk result ((m : ℕ) → overlay puts.new.items
+        (entry_of (entries_of table.now.program)) m ≡
+        cond (is gap.now.front m) (option_map (with_next (first_or news.now gap.now.next))
+        (entry_of (entries_of table.now.program) m))
+        (overlay puts.old.items (entry_of (entries_of table.now.program)) m)) }
     ensures falling { OnOk result (AreFalling puts.new.items) }
-    ensures within { OnOk result ((b : ℕ) → IsBelow b gap.now.front → AreWithin b puts.old.items → AreWithin b puts.new.items) }
+    ensures within { OnOk result ((b : ℕ) → IsBelow b gap.now.front → AreWithin b puts.old.items →
+        AreWithin b puts.new.items) }
 {
     match gap.front {
         Some(front) => {
@@ -182,9 +207,12 @@ fn put_front(
 /// Puts the statements that come, the last one first.
 fn put_come(alloc: Global, entries: Vec<Entry>, puts: &mut Vec<Put>) -> Result<(), Memory>
     requires falling { AreFalling puts.old.items }
-    ensures is { OnOk result ((at : ℕ → Option Entry) (m : ℕ) → overlay puts.new.items at m ≡ first (entry_of entries.items m) (overlay puts.old.items at m)) }
+    ensures is { OnOk result ((at : ℕ → Option Entry) (m : ℕ) →
+        overlay puts.new.items at m ≡ first (entry_of entries.items m)
+        (overlay puts.old.items at m)) }
     ensures falling { OnOk result (AreFalling puts.new.items) }
-    ensures within { OnOk result ((b : ℕ) → All (λ (e : Entry). e.number < b) entries.items → AreWithin b puts.old.items → AreWithin b puts.new.items) }
+    ensures within { OnOk result ((b : ℕ) → All (λ (e : Entry). e.number < b) entries.items →
+        AreWithin b puts.old.items → AreWithin b puts.new.items) }
 {
     let mut entries = entries;
     while let Some(entry) = entries.pop() {
@@ -198,9 +226,12 @@ fn put_come(alloc: Global, entries: Vec<Entry>, puts: &mut Vec<Put>) -> Result<(
 /// Takes away the statements that go, the last one first.
 fn put_gone(gone: &[StmtId], puts: &mut Vec<Put>) -> Result<(), Memory>
     requires falling { AreFalling puts.old.items }
-    ensures is { OnOk result ((at : ℕ → Option Entry) (m : ℕ) → overlay puts.new.items at m ≡ cond (has gone.now m) None (overlay puts.old.items at m)) }
+    ensures is { OnOk result ((at : ℕ → Option Entry) (m : ℕ) →
+        overlay puts.new.items at m ≡ cond (has gone.now m) None
+        (overlay puts.old.items at m)) }
     ensures falling { OnOk result (AreFalling puts.new.items) }
-    ensures within { OnOk result ((b : ℕ) → All (λ (n : ℕ). n < b) gone.now → AreWithin b puts.old.items → AreWithin b puts.new.items) }
+    ensures within { OnOk result ((b : ℕ) → All (λ (n : ℕ). n < b) gone.now →
+        AreWithin b puts.old.items → AreWithin b puts.new.items) }
 {
     for i in (0..gone.len()).rev() {
         put_at(puts, gone[i], TableSlot::free())?;
@@ -219,9 +250,13 @@ pub(crate) fn puts_of(
     news: &Block,
     entries: Vec<Entry>,
 ) -> Result<Vec<Put>, Memory>
-    requires come { entries.items ≡ block_entries (resolver_at [] head.now.bare) gap.now.context gap.now.front gap.now.next news.now }
-    ensures are { IfOk result (λ puts. (m : ℕ) → overlay puts.items (entry_of (entries_of table.now.program)) m ≡ entries_with table.now.program head.now gap.now news.now m) }
-    ensures within { IfOk result (λ puts. (b : ℕ) → AreBelow b gap.now news.now → AreWithin b puts.items) }
+    requires come { entries.items ≡ block_entries (resolver_at [] head.now.bare) gap.now.context
+        gap.now.front gap.now.next news.now }
+    ensures are { IfOk result (λ puts. (m : ℕ) → overlay puts.items
+        (entry_of (entries_of table.now.program)) m ≡
+        entries_with table.now.program head.now gap.now news.now m) }
+    ensures within { IfOk result (λ puts. (b : ℕ) → AreBelow b gap.now news.now →
+        AreWithin b puts.items) }
 {
     let mut puts = around_puts(alloc, table, gap, news)?;
     put_next(alloc, table, gap, news, &mut puts)?;

@@ -41,10 +41,16 @@ pub(crate) fn entries_of(
     requires fine { variables_fault [] (variables head.now.bare) ≡ None }
     requires quiet { are_quiet news.now ≡ true }
     requires shallow { gap.now.context.depth + nesting news.now < 2 ^ 32 }
-    ensures are { IfOk result (λ entries. entries.items ≡ block_entries (resolver_at [] head.now.bare) gap.now.context gap.now.front gap.now.next news.now) }
-    ensures fit { IfOk result (λ _. FitsCode [] (layout_in head.now.bare) (code_in (resolver_at [] head.now.bare) news.now)) }
-    ensures faultless { IfOk result (λ _. block_fault (lone (variables head.now.bare)) true news.now ≡ None) }
-    ensures refused { IfErr result (IsRefusal (option_map refused_by (in_procedure head.now.bare.name (block_fault (lone (variables head.now.bare)) true news.now)))) }
+    ensures are { IfOk result (λ entries. entries.items ≡
+        block_entries (resolver_at [] head.now.bare) gap.now.context gap.now.front gap.now.next
+        news.now) }
+    ensures fit { IfOk result (λ _. FitsCode [] (layout_in head.now.bare)
+        (code_in (resolver_at [] head.now.bare) news.now)) }
+    ensures faultless { IfOk result (λ _. block_fault (lone (variables head.now.bare)) true
+        news.now ≡ None) }
+    ensures refused { IfErr result (IsRefusal (option_map refused_by
+        (in_procedure head.now.bare.name (block_fault (lone (variables head.now.bare)) true
+        news.now)))) }
 {
     let site = Site {
         context: gap.context,
@@ -92,10 +98,16 @@ fn add_block(
     requires fine { variables_fault [] (variables head.now.bare) ≡ None }
     requires quiet { are_quiet block.now ≡ true }
     requires shallow { site.now.context.depth + nesting block.now < 2 ^ 32 }
-    ensures added { OnOk result (entries.new.items ≡ entries.old.items ++ block_entries (resolver_at [] head.now.bare) site.now.context site.now.front site.now.next block.now) }
-    ensures fit { OnOk result (FitsCode [] (layout_in head.now.bare) (code_in (resolver_at [] head.now.bare) block.now)) }
-    ensures faultless { OnOk result (block_fault (lone (variables head.now.bare)) true block.now ≡ None) }
-    ensures refused { IfErr result (IsRefusal (option_map refused_by (in_procedure head.now.bare.name (block_fault (lone (variables head.now.bare)) true block.now)))) }
+    ensures added { OnOk result (entries.new.items ≡ entries.old.items ++ block_entries
+        (resolver_at [] head.now.bare) site.now.context site.now.front site.now.next
+        block.now) }
+    ensures fit { OnOk result (FitsCode [] (layout_in head.now.bare)
+        (code_in (resolver_at [] head.now.bare) block.now)) }
+    ensures faultless { OnOk result (block_fault (lone (variables head.now.bare)) true block.now ≡
+        None) }
+    ensures refused { IfErr result (IsRefusal (option_map refused_by
+        (in_procedure head.now.bare.name (block_fault (lone (variables head.now.bare)) true
+        block.now)))) }
 {
     let stmts = block.as_slice();
     let mut front = site.front;
@@ -127,10 +139,15 @@ fn add_statement(
     requires fine { variables_fault [] (variables head.now.bare) ≡ None }
     requires quiet { is_quiet stmt.now ≡ true }
     requires shallow { site.now.context.depth + statement_nesting stmt.now < 2 ^ 32 }
-    ensures added { OnOk result (entries.new.items ≡ entries.old.items ++ statement_entries (resolver_at [] head.now.bare) site.now.context site.now.front site.now.next stmt.now) }
-    ensures fit { OnOk result (FitsCode [] (layout_in head.now.bare) (code_in (resolver_at [] head.now.bare) (Starts stmt.now Ends))) }
-    ensures faultless { OnOk result (statement_fault (lone (variables head.now.bare)) true stmt.now ≡ None) }
-    ensures refused { IfErr result (IsRefusal (option_map refused_by (in_procedure head.now.bare.name (statement_fault (lone (variables head.now.bare)) true stmt.now)))) }
+    ensures added { OnOk result (entries.new.items ≡ entries.old.items ++ statement_entries
+        (resolver_at [] head.now.bare) site.now.context site.now.front site.now.next stmt.now) }
+    ensures fit { OnOk result (FitsCode [] (layout_in head.now.bare)
+        (code_in (resolver_at [] head.now.bare) (Starts stmt.now Ends))) }
+    ensures faultless { OnOk result (statement_fault (lone (variables head.now.bare)) true
+        stmt.now ≡ None) }
+    ensures refused { IfErr result (IsRefusal (option_map refused_by
+        (in_procedure head.now.bare.name (statement_fault (lone (variables head.now.bare)) true
+        stmt.now)))) }
 {
     let entry = entry_at(alloc, head, site, stmt)?;
     add(entries, entry)?;
@@ -158,10 +175,13 @@ fn add_statement(
 fn entry_at(alloc: Global, head: &ProcHeader, site: &Site, stmt: &Stmt) -> Result<Entry, EditError>
     requires fine { variables_fault [] (variables head.now.bare) ≡ None }
     requires quiet { is_quiet stmt.now ≡ true }
-    ensures is { IfOk result (λ entry. entry ≡ entry_at (resolver_at [] head.now.bare) site.now.context site.now.front site.now.next stmt.now) }
+    ensures is { IfOk result (λ entry. entry ≡ entry_at (resolver_at [] head.now.bare)
+        site.now.context site.now.front site.now.next stmt.now) }
     ensures fits { IfOk result (λ _. FitsAlone head.now.bare stmt.now) }
     ensures faultless { IfOk result (λ _. alone_fault (variables head.now.bare) stmt.now ≡ None) }
-    ensures refused { IfErr result (IsRefusal (option_map refused_by (in_procedure head.now.bare.name (at (number_of stmt.now) (alone_fault (variables head.now.bare) stmt.now))))) }
+    ensures refused { IfErr result (IsRefusal (option_map refused_by
+        (in_procedure head.now.bare.name (at (number_of stmt.now)
+        (alone_fault (variables head.now.bare) stmt.now))))) }
 {
     let breaks = breaks_of(alloc, stmt)?;
     let part = part_of(alloc, stmt)?;
@@ -190,7 +210,9 @@ fn form_in(alloc: Global, head: &ProcHeader, stmt: &Stmt) -> Result<SlotForm, Ed
     ensures is { IfOk result (λ form. form ≡ form_in (resolver_at [] head.now.bare) stmt.now) }
     ensures fits { IfOk result (λ _. FitsAlone head.now.bare stmt.now) }
     ensures faultless { IfOk result (λ _. alone_fault (variables head.now.bare) stmt.now ≡ None) }
-    ensures refused { IfErr result (IsRefusal (option_map refused_by (in_procedure head.now.bare.name (at (number_of stmt.now) (alone_fault (variables head.now.bare) stmt.now))))) }
+    ensures refused { IfErr result (IsRefusal (option_map refused_by
+        (in_procedure head.now.bare.name (at (number_of stmt.now)
+        (alone_fault (variables head.now.bare) stmt.now))))) }
 {
     let alone = match stmt.node() {
         StmtNode::Simple(_) => stmt.with_number(StmtId::new(1))?,

@@ -25,7 +25,8 @@ fn uses(edit: &Edit) -> u32
 /// edit.
 #[tactic(auto, using(crate::proofs::NextLemmas::too_many, crate::proofs::NextLemmas::none_new, crate::proofs::NextLemmas::few_new))]
 pub(crate) fn next_after(edit: &Edit, next: u32) -> Option<u32>
-    ensures is { result ≡ cond (passes (uses edit.now) next) None (Some (next_after edit.now next)) }
+    ensures is { result ≡ cond (passes (uses edit.now) next) None
+        (Some (next_after edit.now next)) }
 {
     let count = uses(edit);
     if count > 0 && u64::from(next) + u64::from(count) > MOST_NUMBER + 1 {

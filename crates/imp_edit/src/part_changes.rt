@@ -47,8 +47,11 @@ pub(crate) fn short_change(
     requires below { All (λ (n : ℕ). n < next) (program_numbers table.now.program) }
     requires continues { Continues edit.now next }
     requires numbered { AreNumbered (edited edit.now table.now.program) }
-    ensures made { IfOk result (λ change. MatchOption change ⊤ (IsMade table.now.program (edited edit.now table.now.program) (next_after edit.now next))) }
-    ensures refused { IfErr result (IsRefusal (option_map Fault (check_fault (edited edit.now table.now.program)))) }
+    ensures made { IfOk result (λ change. MatchOption change ⊤
+        (IsMade table.now.program (edited edit.now table.now.program)
+        (next_after edit.now next))) }
+    ensures refused { IfErr result (IsRefusal (option_map Fault
+        (check_fault (edited edit.now table.now.program)))) }
 {
     match edit {
         Edit::Guard(stmt, cond) => match table.entry(*stmt) {
@@ -76,8 +79,11 @@ fn gap_change(
     requires below { All (λ (n : ℕ). n < next) (program_numbers table.now.program) }
     requires continues { Continues edit.now next }
     requires numbered { AreNumbered (edited edit.now table.now.program) }
-    ensures made { IfOk result (λ change. MatchOption change ⊤ (IsMade table.now.program (edited edit.now table.now.program) (next_after edit.now next))) }
-    ensures refused { IfErr result (IsRefusal (option_map Fault (check_fault (edited edit.now table.now.program)))) }
+    ensures made { IfOk result (λ change. MatchOption change ⊤
+        (IsMade table.now.program (edited edit.now table.now.program)
+        (next_after edit.now next))) }
+    ensures refused { IfErr result (IsRefusal (option_map Fault
+        (check_fault (edited edit.now table.now.program)))) }
 {
     table.procs();
     let news = brought(alloc, edit)?;
@@ -130,8 +136,11 @@ fn guard_change(
     requires fits { fits Conditional entry.now.part ≡ true }
     requires below { All (λ (n : ℕ). n < next) (program_numbers table.now.program) }
     requires numbered { AreNumbered (in_program stmt (guarded cond.now) table.now.program) }
-    ensures made { IfOk result (λ change. MatchOption change ⊤ (IsMade table.now.program (in_program stmt (guarded cond.now) table.now.program) next)) }
-    ensures refused { IfErr result (IsRefusal (option_map Fault (check_fault (in_program stmt (guarded cond.now) table.now.program)))) }
+    ensures made { IfOk result (λ change. MatchOption change ⊤
+        (IsMade table.now.program (in_program stmt (guarded cond.now) table.now.program)
+        next)) }
+    ensures refused { IfErr result (IsRefusal (option_map Fault
+        (check_fault (in_program stmt (guarded cond.now) table.now.program)))) }
 {
     table.procs();
     let Some(head) = table.view().head(entry.context.proc) else {
@@ -151,7 +160,8 @@ fn guard_change(
 
 /// One entry at a number.
 fn one_put(alloc: Global, number: StmtId, entry: Entry) -> Result<Vec<Put>, Memory>
-    ensures is { IfOk result (λ puts. puts.items ≡ record { number = number; entry = Some entry } ∷ []) }
+    ensures is { IfOk result (λ puts. puts.items ≡ record { number = number; entry = Some entry }
+        ∷ []) }
 {
     let number = number.number();
     let entry = TableSlot::of(alloc, entry)?;

@@ -37,7 +37,8 @@ pub(crate) fn form_alone(
     ensures form { IfOk result (λ form. form ≡ form_in (resolver_at [] proc.now) stmt) }
     ensures fits { IfOk result (λ _. FitsAlone proc.now stmt) }
     ensures faultless { IfOk result (λ _. alone_fault (variables proc.now) stmt ≡ None) }
-    ensures refused { IfErr result (IsRefusal (option_map refused_by (in_procedure proc.now.name (at number (alone_fault (variables proc.now) stmt))))) }
+    ensures refused { IfErr result (IsRefusal (option_map refused_by
+        (in_procedure proc.now.name (at number (alone_fault (variables proc.now) stmt))))) }
 {
     let program = alone(alloc, proc, stmt)?;
     match check_table(alloc, &program) {
@@ -56,7 +57,11 @@ pub(crate) fn form_alone(
 
 /// A fault of the statement of a number in a procedure.
 fn found_at(fault: Fault, proc: &Proc, number: StmtId) -> Result<LocatedFault, Memory>
-    ensures is { IfOk result (λ found. found ≡ record { fault = fault; proc = proc.now.name; at = number }) }
+    ensures is { IfOk result (λ found. found ≡ record {
+      fault = fault;
+      proc = proc.now.name;
+      at = number;
+    }) }
 {
     let proc = proc.name().clone()?;
     Ok(LocatedFault {
@@ -80,7 +85,13 @@ fn alone(alloc: Global, proc: &Proc, stmt: Stmt) -> Result<Program, Memory>
 
 /// The procedure `main` with the variables of a procedure and this body.
 fn main_with(alloc: Global, proc: &Proc, body: Block) -> Result<Proc, Memory>
-    ensures is { IfOk result (λ p. p ≡ record { name = codes "main"; parameters = []; outcome = None; locals = variables proc.now; body = body }) }
+    ensures is { IfOk result (λ p. p ≡ record {
+      name = codes "main";
+      parameters = [];
+      outcome = None;
+      locals = variables proc.now;
+      body = body;
+    }) }
 {
     let name = Text::from_slice(alloc, b"main")?;
     let locals = variables_of(alloc, proc)?;
@@ -89,7 +100,8 @@ fn main_with(alloc: Global, proc: &Proc, body: Block) -> Result<Proc, Memory>
 
 /// What the statement of number 1 does over slots, or `None` where there is none.
 fn form_of(table: &Table) -> Result<Option<SlotForm>, Memory>
-    ensures is { IfOk result (λ form. form ≡ option_map (λ (e : Entry). e.form) (entry_of (entries_of table.now.program) 1)) }
+    ensures is { IfOk result (λ form. form ≡ option_map (λ (e : Entry). e.form)
+        (entry_of (entries_of table.now.program) 1)) }
 {
     match table.entry(StmtId::new(1)) {
         Some(entry) => Ok(Some(form_again(&entry.form)?)),

@@ -47,9 +47,12 @@ pub(crate) fn splice(
     requires fine { variables_fault [] (variables head.now.bare) ≡ None }
     requires quiet { are_quiet news.now ≡ true }
     ensures is { IfOk result (IsSplice table.now.program head.now gap.now news.now) }
-    ensures fit { IfOk result (λ _. FitsCode [] (layout_in head.now.bare) (code_in (resolver_at [] head.now.bare) news.now)) }
-    ensures faultless { IfOk result (λ _. splice_fault table.now.program head.now gap.now news.now ≡ None) }
-    ensures refused { IfErr result (IsRefusal (option_map refused_by (splice_fault table.now.program head.now gap.now news.now))) }
+    ensures fit { IfOk result (λ _. FitsCode [] (layout_in head.now.bare)
+        (code_in (resolver_at [] head.now.bare) news.now)) }
+    ensures faultless { IfOk result (λ _. splice_fault table.now.program head.now gap.now news.now ≡
+        None) }
+    ensures refused { IfErr result (IsRefusal (option_map refused_by
+        (splice_fault table.now.program head.now gap.now news.now))) }
 {
     let count = count_with(alloc, table, gap, news)?;
     let come = entries_of(alloc, head, gap, news)?;
@@ -72,7 +75,8 @@ fn count_with(alloc: Global, table: &Table, gap: &Gap, news: &Block) -> Result<u
     ensures is { IfOk result (λ count. count ≡ count_with table.now.program gap.now news.now) }
     ensures small { IfOk result (λ _. size_fault table.now.program gap.now news.now ≡ None) }
     ensures shallow { IfOk result (λ _. gap.now.context.depth + nesting news.now < 33) }
-    ensures refused { IfErr result (IsRefusal (option_map refused_by (size_fault table.now.program gap.now news.now))) }
+    ensures refused { IfErr result (IsRefusal (option_map refused_by
+        (size_fault table.now.program gap.now news.now))) }
 {
     let left = (table.view().count() as usize).saturating_sub(gap.gone.len()) as u32;
     let count = left.saturating_add(block_count(news));
@@ -87,7 +91,8 @@ fn count_with(alloc: Global, table: &Table, gap: &Gap, news: &Block) -> Result<u
 
 /// A fault of the whole program, which stands at the last procedure.
 fn found_last(alloc: Global, table: &Table, fault: Fault) -> Result<EditError, Memory>
-    ensures is { IfOk result (λ error. error ≡ refused_by (record { fault = fault; proc = name_of (last_of table.now.program); at = 0 })) }
+    ensures is { IfOk result (λ error. error ≡ refused_by
+        (record { fault = fault; proc = name_of (last_of table.now.program); at = 0 })) }
 {
     let proc = last_name(alloc, table)?;
     Ok(EditError::Fault(LocatedFault { fault, proc, at: 0 }))
@@ -111,7 +116,9 @@ fn heads_with(
     gap: &Gap,
     news: &Block,
 ) -> Result<Option<Items<ProcHeader>>, Memory>
-    ensures are { IfOk result (λ heads. unwrap_or heads (heads_of table.now.program) ≡ heads_in gap.now.context.around (heads_of table.now.program) gap.now.context.proc (ends_with gap.now.front gap.now.next news.now)) }
+    ensures are { IfOk result (λ heads. unwrap_or heads (heads_of table.now.program) ≡
+        heads_in gap.now.context.around (heads_of table.now.program) gap.now.context.proc
+        (ends_with gap.now.front gap.now.next news.now)) }
 {
     if ends_stay(gap) {
         return Ok(None);
@@ -129,7 +136,8 @@ fn heads_with(
 /// Sets the ends of the body of the procedure at a place.
 #[tactic(auto, using(crate::proofs::SpliceLemmas::head_past))]
 fn set_body(heads: &mut Vec<ProcHeader>, proc: usize, gap: &Gap, news: &Block)
-    ensures is { heads.new.items ≡ head_with heads.old.items proc (ends_with gap.now.front gap.now.next news.now) }
+    ensures is { heads.new.items ≡ head_with heads.old.items proc
+        (ends_with gap.now.front gap.now.next news.now) }
 {
     if proc >= heads.len() {
         return;

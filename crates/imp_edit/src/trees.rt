@@ -35,7 +35,8 @@ pub(crate) fn in_program(
 }
 
 fn in_procedure(alloc: Global, stmt: StmtId, edit: &Edit, proc: &Proc) -> Result<Proc, Memory>
-    ensures is { IfOk result (λ p. p ≡ with_body proc.now (in_block stmt (made edit.now) proc.now.body)) }
+    ensures is { IfOk result (λ p. p ≡ with_body proc.now
+        (in_block stmt (made edit.now) proc.now.body)) }
 {
     let body = in_block(alloc, stmt, edit, proc.body())?;
     proc.with_body(body)
@@ -104,7 +105,8 @@ fn made_at(
     stmt: &Stmt,
     all: &mut Items<Stmt>,
 ) -> Result<(), Memory>
-    ensures added { OnOk result (all.new ≡ all.old ++ statements_of (made_at place.now more.now stmt.now)) }
+    ensures added { OnOk result (all.new ≡ all.old ++ statements_of
+        (made_at place.now more.now stmt.now)) }
 {
     match place {
         Place::After(_) => followed(more, stmt, all),
@@ -140,7 +142,8 @@ fn then_started(
     stmt: &Stmt,
     all: &mut Items<Stmt>,
 ) -> Result<(), Memory>
-    ensures added { OnOk result (all.new ≡ all.old ++ statements_of (then_started more.now stmt.now)) }
+    ensures added { OnOk result (all.new ≡ all.old ++ statements_of
+        (then_started more.now stmt.now)) }
 {
     match stmt.node() {
         StmtNode::If(_, then, _) => {
@@ -158,7 +161,8 @@ fn else_started(
     stmt: &Stmt,
     all: &mut Items<Stmt>,
 ) -> Result<(), Memory>
-    ensures added { OnOk result (all.new ≡ all.old ++ statements_of (else_started more.now stmt.now)) }
+    ensures added { OnOk result (all.new ≡ all.old ++ statements_of
+        (else_started more.now stmt.now)) }
 {
     match stmt.node() {
         StmtNode::If(_, _, els) => {
@@ -176,7 +180,8 @@ fn body_started(
     stmt: &Stmt,
     all: &mut Items<Stmt>,
 ) -> Result<(), Memory>
-    ensures added { OnOk result (all.new ≡ all.old ++ statements_of (body_started more.now stmt.now)) }
+    ensures added { OnOk result (all.new ≡ all.old ++ statements_of
+        (body_started more.now stmt.now)) }
 {
     match stmt.node() {
         StmtNode::While(_, body) => {

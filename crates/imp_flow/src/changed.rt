@@ -25,7 +25,9 @@ pub(crate) struct ProcPair {
 fn same_at(leaves: &Leaves<'_>, others: &Leaves<'_>, place: usize) -> bool
     requires there { place < length (leaves_now leaves.now) }
     requires as_many { length (leaves_now others.now) ≡ length (leaves_now leaves.now) }
-    ensures is { same_leaves (drop place (leaves_now leaves.now)) (drop place (leaves_now others.now)) ≡ (result && same_leaves (drop (place + 1) (leaves_now leaves.now)) (drop (place + 1) (leaves_now others.now))) }
+    ensures is { same_leaves (drop place (leaves_now leaves.now))
+        (drop place (leaves_now others.now)) ≡ (result && same_leaves
+        (drop (place + 1) (leaves_now leaves.now)) (drop (place + 1) (leaves_now others.now))) }
 {
     let leave = leaves.at(place);
     let other = others.at(place);
@@ -72,7 +74,9 @@ pub(crate) fn pair_of(old: &Flow<'_>, new: &Flow<'_>, place: ProcId, other: Proc
 pub(crate) fn pair_at(old: &Flow<'_>, new: &Flow<'_>, pair: ProcPair, stmt: StmtId) -> ProcPair
     requires told { IsTold old.now new.now pair }
     ensures told { IsTold old.now new.now result }
-    ensures places { (x y : plain.Node) → node_of (plan_nodes old.now) stmt ≡ Some x → node_of (plan_nodes new.now) stmt ≡ Some y → (result.place ≡ x.place) × (result.other ≡ y.place) }
+    ensures places { (x y : plain.Node) → node_of (plan_nodes old.now) stmt ≡ Some x →
+        node_of (plan_nodes new.now) stmt ≡ Some y → (result.place ≡ x.place) ×
+        (result.other ≡ y.place) }
 {
     let Some(node) = old.node(stmt) else {
         return pair;
@@ -119,7 +123,9 @@ fn same_shapes(
     other: &Node<'_>,
 ) -> bool
     requires told { IsTold old.now new.now pair }
-    ensures is { result ≡ same_shapes old.now.engine (thresholds_at old.now node.now.place) (thresholds_at new.now other.now.place) (shape_now node.now.shape) (shape_now other.now.shape) }
+    ensures is { result ≡ same_shapes old.now.engine (thresholds_at old.now node.now.place)
+        (thresholds_at new.now other.now.place) (shape_now node.now.shape)
+        (shape_now other.now.shape) }
 {
     match (&node.shape, &other.shape) {
         (Shape::Act(a), Shape::Act(b)) => *a == *b,

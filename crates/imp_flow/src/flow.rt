@@ -117,7 +117,8 @@ impl<'a> Flow<'a> {
     /// The start of main.
     #[inline]
     fn main_row(&self) -> Option<Row<'_>>
-        ensures is { (w : List PathFrame) → option_map (row_in w) result ≡ Some (Init (main_layout (reverse self.now.program))) }
+        ensures is { (w : List PathFrame) → option_map (row_in w) result ≡
+            Some (Init (main_layout (reverse self.now.program))) }
     {
         Some(Row::Init(main_layout(&self.prog)))
     }
@@ -125,7 +126,8 @@ impl<'a> Flow<'a> {
     /// The start of a procedure's body.
     #[inline]
     fn entry_row(&self, frame: NameFrame) -> Option<Row<'_>>
-        ensures is { (w : List PathFrame) → option_map (row_in (frame ∷ w)) result ≡ node_row self.now (frame ∷ w) Entry }
+        ensures is { (w : List PathFrame) → option_map (row_in (frame ∷ w)) result ≡
+            node_row self.now (frame ∷ w) Entry }
     {
         match frame {
             NameFrame::InCall(stmt) => match self.node(stmt) {
@@ -139,7 +141,8 @@ impl<'a> Flow<'a> {
     /// The start of a loop's body.
     #[inline]
     fn body_row(&self, frame: NameFrame) -> Option<Row<'_>>
-        ensures is { (w : List PathFrame) → option_map (row_in (frame ∷ w)) result ≡ node_row self.now (frame ∷ w) Body }
+        ensures is { (w : List PathFrame) → option_map (row_in (frame ∷ w)) result ≡
+            node_row self.now (frame ∷ w) Body }
     {
         match frame {
             NameFrame::InCall(_) => None,
@@ -153,7 +156,8 @@ impl<'a> Flow<'a> {
     /// The start of a procedure's body, or of main's.
     #[inline]
     fn first_row(&self, frame: Option<NameFrame>) -> Option<Row<'_>>
-        ensures is { (w : List PathFrame) → last_frame w ≡ frame → option_map (row_in w) result ≡ node_row self.now w Entry }
+        ensures is { (w : List PathFrame) → last_frame w ≡ frame →
+            option_map (row_in w) result ≡ node_row self.now w Entry }
     {
         match frame {
             None => self.main_row(),
@@ -164,7 +168,8 @@ impl<'a> Flow<'a> {
     /// The start of a loop's body.
     #[inline]
     fn turn_row(&self, frame: Option<NameFrame>) -> Option<Row<'_>>
-        ensures is { (w : List PathFrame) → last_frame w ≡ frame → option_map (row_in w) result ≡ node_row self.now w Body }
+        ensures is { (w : List PathFrame) → last_frame w ≡ frame →
+            option_map (row_in w) result ≡ node_row self.now w Body }
     {
         match frame {
             None => None,
@@ -175,7 +180,8 @@ impl<'a> Flow<'a> {
     #[tactic(auto, using(crate::proofs::FlowLemmas::iterate_found, crate::proofs::FlowLemmas::iterate_gone))]
     #[inline]
     fn iterate_row(&self, stmt: StmtId, index: u32) -> Option<Row<'_>>
-        ensures is { (w : List PathFrame) → option_map (row_in w) result ≡ node_row self.now w (Iterate stmt index) }
+        ensures is { (w : List PathFrame) → option_map (row_in w) result ≡
+            node_row self.now w (Iterate stmt index) }
     {
         if index == 0 {
             return None;
@@ -192,7 +198,8 @@ impl<'a> Flow<'a> {
     /// The row of a statement's point, except an iterate.
     #[inline]
     fn stmt_row(&self, point: Point, stmt: StmtId) -> Option<Row<'_>>
-        ensures is { (w : List PathFrame) → option_map (row_in w) result ≡ by_node self.now stmt (point_at w point) }
+        ensures is { (w : List PathFrame) → option_map (row_in w) result ≡
+            by_node self.now stmt (point_at w point) }
     {
         let Some(node) = self.node(stmt) else {
             return None;
@@ -210,7 +217,8 @@ impl<'a> Flow<'a> {
 
     #[inline]
     fn node_row(&self, frame: Option<NameFrame>, point: Point) -> Option<Row<'_>>
-        ensures is { (w : List PathFrame) → last_frame w ≡ frame → option_map (row_in w) result ≡ node_row self.now w point }
+        ensures is { (w : List PathFrame) → last_frame w ≡ frame →
+            option_map (row_in w) result ≡ node_row self.now w point }
     {
         match point {
             Point::Entry => self.first_row(frame),
@@ -232,7 +240,9 @@ impl<'a> Flow<'a> {
     #[tactic(auto, using(crate::proofs::Ties::rows_tie))]
     #[inline]
     pub fn row(&self, frame: Option<NameFrame>, point: Point) -> Option<Row<'_>>
-        ensures is { (w : List PathFrame) → last_frame w ≡ frame → option_map (row_in w) result ≡ flat_row self.now.engine (reverse self.now.program) w point }
+        ensures is { (w : List PathFrame) → last_frame w ≡ frame →
+            option_map (row_in w) result ≡ flat_row self.now.engine
+            (reverse self.now.program) w point }
     {
         self.node_row(frame, point)
     }

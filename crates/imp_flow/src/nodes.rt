@@ -29,7 +29,8 @@ fn enter_loops(
     head: Option<StmtId>,
     steps: &mut Items<TargetStep>,
 ) -> Result<(), Memory>
-    ensures added { OnOk result (steps.new ≡ steps.old ++ into_loops (loops_up (known_in prog.now) most head)) }
+    ensures added { OnOk result (steps.new ≡ steps.old ++ into_loops
+        (loops_up (known_in prog.now) most head)) }
 {
     if most == 0 {
         return Ok(());
@@ -58,7 +59,8 @@ pub(crate) fn enter_loops_around(
 #[tactic(auto, using(crate::proofs::EnteredLemmas::node_found, crate::proofs::EnteredLemmas::node_gone))]
 #[inline]
 pub(crate) fn node_of<'a>(prog: &'a View<'a>, stmt: StmtId) -> Option<Node<'a>>
-    ensures is { option_map node_now result ≡ node_of (nodes_of (reverse (routines_of prog.now))) stmt }
+    ensures is { option_map node_now result ≡ node_of (nodes_of (reverse (routines_of prog.now)))
+        stmt }
 {
     prog.procs();
     match prog.entry(stmt) {

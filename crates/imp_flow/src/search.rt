@@ -36,14 +36,16 @@ struct Search {
 
 /// Whether the start of main keeps its row: main, the last procedure, has the same variables.
 fn same_start(old: &View<'_>, new: &View<'_>) -> bool
-    ensures is { result ≡ same layout_code (main_layout (reverse (routines_of old.now))) (main_layout (reverse (routines_of new.now))) }
+    ensures is { result ≡ same layout_code (main_layout (reverse (routines_of old.now)))
+        (main_layout (reverse (routines_of new.now))) }
 {
     main_layout(old) == main_layout(new)
 }
 
 /// Adds a number, unless what it stands for is kept.
 fn add_changed(changed: &mut BTreeSet<u32>, number: u32, is_kept: bool) -> Result<(), Memory>
-    ensures added { OnOk result ((n : ℕ) → contains nat_cmp changed.new n ≡ (contains nat_cmp changed.old n || (not is_kept && (n == number)))) }
+    ensures added { OnOk result ((n : ℕ) → contains nat_cmp changed.new n ≡
+        (contains nat_cmp changed.old n || (not is_kept && (n == number)))) }
 {
     if !is_kept {
         changed.insert(number)?;
@@ -112,7 +114,8 @@ fn look_at_put(old: &Flow<'_>, new: &Flow<'_>, put: &Put, search: &mut Search) -
     requires is { IsSearch old.now new.now search.old }
     ensures on { OnOk result (GoesOn old.now new.now search.old search.new) }
     ensures looked { OnOk result (IsLooked old.now new.now search.new put.now.number) }
-    ensures left { OnOk result ((n : ℕ) → left_by put.now.entry ≡ Some n → IsLooked old.now new.now search.new n) }
+    ensures left { OnOk result ((n : ℕ) → left_by put.now.entry ≡ Some n →
+        IsLooked old.now new.now search.new n) }
 {
     look(old, new, StmtId::new(put.number), search)?;
     match left_by(&put.entry) {
@@ -170,7 +173,8 @@ fn look_at_callers_of(
     requires is { IsSearch old.now new.now search.old }
     requires there { proc < length after.now }
     ensures on { OnOk result (GoesOn old.now new.now search.old search.new) }
-    ensures looked { OnOk result (AreCallersLooked old.now new.now search.new before.now after.now proc) }
+    ensures looked { OnOk result (AreCallersLooked old.now new.now search.new before.now after.now
+        proc) }
 {
     if end_alike(before, after, proc) {
         return Ok(());
@@ -189,7 +193,8 @@ fn look_at_callers(
 ) -> Result<(), Memory>
     requires is { IsSearch old.now new.now search.old }
     ensures on { OnOk result (GoesOn old.now new.now search.old search.new) }
-    ensures looked { OnOk result ((k : ℕ) → k < length after.now → AreCallersLooked old.now new.now search.new before.now after.now k) }
+    ensures looked { OnOk result ((k : ℕ) → k < length after.now →
+        AreCallersLooked old.now new.now search.new before.now after.now k) }
 {
     for place in 0..procedure_count(after) {
         look_at_callers_of(old, new, before, after, ProcId::new(place), search)?;
@@ -224,7 +229,8 @@ fn look_at_loops(
 ) -> Result<(), Memory>
     requires is { IsSearch old.now new.now search.old }
     ensures on { OnOk result (GoesOn old.now new.now search.old search.new) }
-    ensures looked { OnOk result (old.now.engine.widening.delay < old.now.engine.budget → (k : ℕ) → k < length after.now → AreLoopsLooked old.now new.now search.new k) }
+    ensures looked { OnOk result (old.now.engine.widening.delay < old.now.engine.budget → (k : ℕ) →
+        k < length after.now → AreLoopsLooked old.now new.now search.new k) }
 {
     if old.budget() <= old.widening().delay {
         return Ok(());
@@ -261,7 +267,9 @@ pub fn points_changed(
     requires falling { AreFalling change.now.entries.items }
     requires before { before.now ≡ setting_of before.now.engine (routines_of table.now.program) }
     requires after { after.now ≡ setting_of before.now.engine (routines_of program) }
-    ensures are { IfOk result (λ ns. AreChanged (plan_of (routines_of table.now.program) before.now.engine) (plan_of (routines_of program) before.now.engine) ns.items) }
+    ensures are { IfOk result (λ ns. AreChanged (plan_of
+        (routines_of table.now.program) before.now.engine)
+        (plan_of (routines_of program) before.now.engine) ns.items) }
 {
     table.procs();
     let old = Flow::new(table.view(), before);

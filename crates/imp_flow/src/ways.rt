@@ -204,7 +204,8 @@ pub fn target(
     at: &Location,
     chain: &Chain,
 ) -> Result<Option<Target>, Memory>
-    ensures is { IfOk result (λ o. option_map target_of o ≡ target flow.now.program at.now (reverse chain.now)) }
+    ensures is { IfOk result (λ o. option_map target_of o ≡ target flow.now.program at.now
+        (reverse chain.now)) }
 {
     match enter_chain(alloc, flow, chain.sites())? {
         None => Ok(None),
@@ -219,7 +220,8 @@ fn all_targets(
     at: &Location,
     chains: &[Chain],
 ) -> Result<Items<Target>, Memory>
-    ensures are { IfOk result (λ ts. map target_of ts ≡ those_there (target flow.now.program at.now) (map reverse chains.now)) }
+    ensures are { IfOk result (λ ts. map target_of ts ≡ those_there (target flow.now.program at.now)
+        (map reverse chains.now)) }
 {
     let mut found = Items::new(alloc);
     for chain in chains {
@@ -243,8 +245,10 @@ pub fn targets(
     at: &Location,
     string: &[u32],
 ) -> Result<Items<Target>, Memory>
-    ensures are { IfOk result (λ ts. (p : ℕ) → procedure_of flow.now.program at.now ≡ In p → targets flow.now.program p at.now string.now ≡ Some (map target_of ts)) }
-    ensures none { IfOk result (λ ts. (r : QueryRefusal) → procedure_of flow.now.program at.now ≡ Misses r → ts ≡ []) }
+    ensures are { IfOk result (λ ts. (p : ℕ) → procedure_of flow.now.program at.now ≡ In p →
+        targets flow.now.program p at.now string.now ≡ Some (map target_of ts)) }
+    ensures none { IfOk result (λ ts. (r : QueryRefusal) →
+        procedure_of flow.now.program at.now ≡ Misses r → ts ≡ []) }
 {
     let prog = flow.program();
     prog.procs();

@@ -69,7 +69,8 @@ impl Input {
     #[inline]
     pub fn name(self, names: &mut Names, path: PathId) -> Result<Name, Memory>
         requires there { path < length names.old.paths }
-        ensures is { IfOk result (λ x. name_in names.new.paths x ≡ input_name (path_at names.old.paths path) self) }
+        ensures is { IfOk result (λ x. name_in names.new.paths x ≡
+            input_name (path_at names.old.paths path) self) }
         ensures within { IfOk result (λ x. x.path < length names.new.paths) }
         ensures kept { KeepsNumbers names.old.paths names.new.paths }
         ensures names { names.new.names ≡ names.old.names }
@@ -98,7 +99,8 @@ fn outside(names: &Names, path: PathId) -> PathId
 #[inline]
 fn near(names: &mut Names, path: PathId, way: Way) -> Result<PathId, Memory>
     requires there { path < length names.old.paths }
-    ensures is { IfOk result (λ p. path_at names.new.paths p ≡ near (path_at names.old.paths path) way) }
+    ensures is { IfOk result (λ p. path_at names.new.paths p ≡
+        near (path_at names.old.paths path) way) }
     ensures within { IfOk result (λ p. p < length names.new.paths) }
     ensures kept { KeepsNumbers names.old.paths names.new.paths }
     ensures names { names.new.names ≡ names.old.names }

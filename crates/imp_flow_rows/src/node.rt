@@ -136,7 +136,8 @@ fn end_in(prog: &View<'_>, place: ProcId, callee: ProcId) -> Option<Point>
 /// What a statement with a condition does to the flow.
 #[inline]
 fn branching<'a>(prog: &'a View<'a>, entry: &'a Entry, cond: &'a SlotCond) -> Shape<'a>
-    ensures is { shape_now result ≡ branching (known_in prog.now) entry.now cond.now entry.now.part }
+    ensures is { shape_now result ≡ branching (known_in prog.now) entry.now cond.now
+        entry.now.part }
 {
     let last = entry.inner.last;
     match entry.part.node() {
@@ -154,7 +155,8 @@ fn branching<'a>(prog: &'a View<'a>, entry: &'a Entry, cond: &'a SlotCond) -> Sh
 
 #[inline]
 fn shape_of<'a>(prog: &'a View<'a>, entry: &'a Entry) -> Shape<'a>
-    ensures is { shape_now result ≡ shape_from (known_in prog.now) (end_in prog.now entry.now.context.proc) entry.now entry.now.form }
+    ensures is { shape_now result ≡ shape_from (known_in prog.now)
+        (end_in prog.now entry.now.context.proc) entry.now entry.now.form }
 {
     match &entry.form {
         SlotForm::Stmt(stmt) => Shape::Act(stmt),

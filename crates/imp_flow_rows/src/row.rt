@@ -51,7 +51,8 @@ impl<'a> Row<'a> {
     /// The first input: of a fixed point the iterate 0, of a join after a loop with breaks the left one; none of `Init`.
     #[inline]
     pub fn first(&self) -> Option<Input>
-        ensures is { (w : List PathFrame) → option_map (input_name w) result ≡ first_of (row_in w self.now) }
+        ensures is { (w : List PathFrame) → option_map (input_name w) result ≡
+            first_of (row_in w self.now) }
     {
         match self {
             Row::Init(_) => None,
@@ -65,7 +66,8 @@ impl<'a> Row<'a> {
     /// The second input of an operation on two values.
     #[inline]
     pub fn second(&self) -> Option<Input>
-        ensures is { (w : List PathFrame) → option_map (input_name w) result ≡ second_of (row_in w self.now) }
+        ensures is { (w : List PathFrame) → option_map (input_name w) result ≡
+            second_of (row_in w self.now) }
     {
         match self {
             Row::Two(_, _, b) => Some(*b),
@@ -76,7 +78,8 @@ impl<'a> Row<'a> {
     /// The iterate of an index, of a fixed point.
     #[inline]
     pub fn iterate(&self, index: u32) -> Option<Input>
-        ensures is { (w : List PathFrame) → option_map (input_name w) result ≡ iterate_of index (row_in w self.now) }
+        ensures is { (w : List PathFrame) → option_map (input_name w) result ≡
+            iterate_of index (row_in w self.now) }
     {
         match self {
             Row::Fixed(head, front) => Some(Input::here(iterate_at(*head, *front, index))),
@@ -87,7 +90,8 @@ impl<'a> Row<'a> {
     /// The right input of a join after a loop with breaks, where the loop's index is this.
     #[inline]
     pub fn before_break(&self, index: u32) -> Option<Input>
-        ensures is { (w : List PathFrame) → option_map (input_name w) result ≡ break_of index (row_in w self.now) }
+        ensures is { (w : List PathFrame) → option_map (input_name w) result ≡
+            break_of index (row_in w self.now) }
     {
         match self {
             Row::Joins(_, _, head, front) => {

@@ -30,7 +30,8 @@ fn joined_at(head: StmtId, leaves: &Leaves<'_>, count: usize) -> Point
 /// The row that joins a break to a loop's exit and the breaks before.
 #[tactic(auto, using(crate::proofs::LeaveLemmas::joins_some, crate::proofs::LeaveLemmas::joins_none))]
 fn joins_row<'a>(stays: bool, head: StmtId, leaves: &Leaves<'_>, place: usize) -> Option<Row<'a>>
-    ensures is { (w : List PathFrame) → option_map (row_in w) result ≡ joins_at w stays head (leaves_now leaves.now) place }
+    ensures is { (w : List PathFrame) → option_map (row_in w) result ≡
+        joins_at w stays head (leaves_now leaves.now) place }
 {
     if place < leaves.len() {
         let left = joined_at(head, leaves, place);
@@ -42,7 +43,8 @@ fn joins_row<'a>(stays: bool, head: StmtId, leaves: &Leaves<'_>, place: usize) -
 
 #[inline]
 fn behind_loop<'a>(head: StmtId, cond: &'a SlotCond, leaves: &Leaves<'_>) -> Option<Row<'a>>
-    ensures is { (w : List PathFrame) → option_map (row_in w) result ≡ behind_loop w head cond.now (leaves_now leaves.now) (length (leaves_now leaves.now)) }
+    ensures is { (w : List PathFrame) → option_map (row_in w) result ≡ behind_loop w head cond.now
+        (leaves_now leaves.now) (length (leaves_now leaves.now)) }
 {
     let count = leaves.len();
     if count == 0 {
@@ -55,7 +57,8 @@ fn behind_loop<'a>(head: StmtId, cond: &'a SlotCond, leaves: &Leaves<'_>) -> Opt
 /// After a statement.
 #[inline]
 pub fn post_row<'a>(node: &Node<'a>) -> Option<Row<'a>>
-    ensures is { (w : List PathFrame) → option_map (row_in w) result ≡ post_at w (node_now node.now) }
+    ensures is { (w : List PathFrame) → option_map (row_in w) result ≡
+        post_at w (node_now node.now) }
 {
     match &node.shape {
         Shape::Act(stmt) => Some(Row::One(Unary::Post(*stmt), Input::here(node.front))),
@@ -78,7 +81,8 @@ pub fn post_row<'a>(node: &Node<'a>) -> Option<Row<'a>>
 /// Into the procedure that a statement calls.
 #[inline]
 pub fn enter_row<'a>(node: &Node<'a>) -> Option<Row<'a>>
-    ensures is { (f : PathFrame) (w : List PathFrame) → option_map (row_in (f ∷ w)) result ≡ enter_at w (node_now node.now) }
+    ensures is { (f : PathFrame) (w : List PathFrame) → option_map (row_in (f ∷ w)) result ≡
+        enter_at w (node_now node.now) }
 {
     match &node.shape {
         Shape::Call(call, _, Some(_)) => Some(Row::One(
@@ -92,7 +96,8 @@ pub fn enter_row<'a>(node: &Node<'a>) -> Option<Row<'a>>
 /// Into a block of an if: the first where `sense`.
 #[inline]
 pub fn branch_row<'a>(node: &Node<'a>, sense: bool) -> Option<Row<'a>>
-    ensures is { (w : List PathFrame) → option_map (row_in w) result ≡ branch_at w sense (node_now node.now) }
+    ensures is { (w : List PathFrame) → option_map (row_in w) result ≡
+        branch_at w sense (node_now node.now) }
 {
     match &node.shape {
         Shape::If(cond, _, _) => Some(Row::One(
@@ -106,7 +111,8 @@ pub fn branch_row<'a>(node: &Node<'a>, sense: bool) -> Option<Row<'a>>
 /// Into a round of a loop, from the iterate of this index.
 #[inline]
 pub fn turn_row<'a>(node: &Node<'a>, budget: u32, widening: Widening, index: u32) -> Option<Row<'a>>
-    ensures is { (f : PathFrame) (w : List PathFrame) → option_map (row_in (f ∷ w)) result ≡ turn_at w (record { budget = budget; widening = widening }) index (node_now node.now) }
+    ensures is { (f : PathFrame) (w : List PathFrame) → option_map (row_in (f ∷ w)) result ≡
+        turn_at w (record { budget = budget; widening = widening }) index (node_now node.now) }
 {
     match &node.shape {
         Shape::While(cond, _, _) if index < budget => {
@@ -126,7 +132,9 @@ pub fn next_row<'a>(
     widening: Widening,
     index: u32,
 ) -> Option<Row<'a>>
-    ensures is { (w : List PathFrame) → option_map (row_in w) result ≡ next_at w (record { budget = budget; widening = widening }) thresholds.now index (node_now node.now) }
+    ensures is { (w : List PathFrame) → option_map (row_in w) result ≡
+        next_at w (record { budget = budget; widening = widening }) thresholds.now index
+        (node_now node.now) }
 {
     match &node.shape {
         Shape::While(_, end, _) if index < budget => {
@@ -146,7 +154,8 @@ pub fn next_row<'a>(
 /// Where the iterates of a loop stop.
 #[inline]
 pub fn fix_row<'a>(node: &Node<'a>) -> Option<Row<'a>>
-    ensures is { (w : List PathFrame) → option_map (row_in w) result ≡ fix_at w (node_now node.now) }
+    ensures is { (w : List PathFrame) → option_map (row_in w) result ≡
+        fix_at w (node_now node.now) }
 {
     match &node.shape {
         Shape::While(_, _, _) => Some(Row::Fixed(node.stmt, node.front)),
@@ -157,7 +166,8 @@ pub fn fix_row<'a>(node: &Node<'a>) -> Option<Row<'a>>
 /// After a loop with breaks, by its condition alone.
 #[inline]
 pub fn exit_row<'a>(node: &Node<'a>) -> Option<Row<'a>>
-    ensures is { (w : List PathFrame) → option_map (row_in w) result ≡ exit_at w (node_now node.now) }
+    ensures is { (w : List PathFrame) → option_map (row_in w) result ≡
+        exit_at w (node_now node.now) }
 {
     match &node.shape {
         Shape::While(cond, _, leaves) if leaves.len() > 0 => Some(Row::One(
@@ -184,7 +194,8 @@ fn place_of(leaves: &Leaves<'_>, stmt: StmtId) -> Option<usize>
 
 /// After a loop with its breaks up to this one, which is not its last.
 pub fn leap_row<'a>(node: &Node<'a>, stmt: StmtId) -> Option<Row<'a>>
-    ensures is { (w : List PathFrame) → option_map (row_in w) result ≡ leap_at w stmt (node_now node.now) }
+    ensures is { (w : List PathFrame) → option_map (row_in w) result ≡
+        leap_at w stmt (node_now node.now) }
 {
     match &node.shape {
         Shape::While(_, _, leaves) => {

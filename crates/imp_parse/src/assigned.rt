@@ -24,7 +24,8 @@ pub(crate) fn made(
     node: StmtNode,
     rest: &[Token],
 ) -> Result<(Stmt, &[Token]), Stopped>
-    ensures read { Gives (λ x. (x.0, kinds x.1.now)) result (made_at (statement_of number node) (kinds rest.now)) }
+    ensures read { Gives (λ x. (x.0, kinds x.1.now)) result
+        (made_at (statement_of number node) (kinds rest.now)) }
     ensures shorter { IfOk result (λ x. length x.1.now ≤ length rest.now) }
 {
     let stmt = Stmt::new(alloc, StmtId::new(number), node)?;
@@ -38,7 +39,8 @@ pub(crate) fn of_action(
     action: Action,
     rest: &[Token],
 ) -> Result<(Stmt, &[Token]), Stopped>
-    ensures read { Gives (λ x. (x.0, kinds x.1.now)) result (made_at (Simple number (action_of action)) (kinds rest.now)) }
+    ensures read { Gives (λ x. (x.0, kinds x.1.now)) result
+        (made_at (Simple number (action_of action)) (kinds rest.now)) }
     ensures shorter { IfOk result (λ x. length x.1.now ≤ length rest.now) }
 {
     made(alloc, number, StmtNode::Simple(action), rest)
@@ -50,7 +52,8 @@ fn value_rhs(
     target: Text,
     tokens: &[Token],
 ) -> Result<(Stmt, &[Token]), Stopped>
-    ensures read { Gives (λ x. (x.0, kinds x.1.now)) result (value_rhs_at number target (kinds tokens.now)) }
+    ensures read { Gives (λ x. (x.0, kinds x.1.now)) result
+        (value_rhs_at number target (kinds tokens.now)) }
     ensures shorter { IfOk result (λ x. length x.1.now < length tokens.now) }
 {
     let (value, rest) = expression(alloc, tokens)?;
@@ -65,7 +68,8 @@ fn variable_rhs(
     variable: Text,
     tokens: &[Token],
 ) -> Result<(Stmt, &[Token]), Stopped>
-    ensures read { Gives (λ x. (x.0, kinds x.1.now)) result (variable_rhs_at number target variable (kinds tokens.now)) }
+    ensures read { Gives (λ x. (x.0, kinds x.1.now)) result
+        (variable_rhs_at number target variable (kinds tokens.now)) }
     ensures shorter { IfOk result (λ x. length x.1.now ≤ length tokens.now) }
 {
     let variable = Expr::new(alloc, ExprNode::Variable(variable))?;
@@ -82,7 +86,8 @@ fn field_rhs(
     link: Text,
     tokens: &[Token],
 ) -> Result<(Stmt, &[Token]), Stopped>
-    ensures read { Gives (λ x. (x.0, kinds x.1.now)) result (field_rhs_at number target link (kinds tokens.now)) }
+    ensures read { Gives (λ x. (x.0, kinds x.1.now)) result
+        (field_rhs_at number target link (kinds tokens.now)) }
     ensures shorter { IfOk result (λ x. length x.1.now < length tokens.now) }
 {
     match front(tokens) {
@@ -104,7 +109,8 @@ fn element_rhs(
     array: Text,
     tokens: &[Token],
 ) -> Result<(Stmt, &[Token]), Stopped>
-    ensures read { Gives (λ x. (x.0, kinds x.1.now)) result (element_rhs_at number target array (kinds tokens.now)) }
+    ensures read { Gives (λ x. (x.0, kinds x.1.now)) result
+        (element_rhs_at number target array (kinds tokens.now)) }
     ensures shorter { IfOk result (λ x. length x.1.now < length tokens.now) }
 {
     let (index, rest) = expression(alloc, tokens)?;
@@ -126,7 +132,8 @@ fn named_rhs(
     source: Text,
     tokens: &[Token],
 ) -> Result<(Stmt, &[Token]), Stopped>
-    ensures read { Gives (λ x. (x.0, kinds x.1.now)) result (named_rhs_at number target source (kinds tokens.now)) }
+    ensures read { Gives (λ x. (x.0, kinds x.1.now)) result
+        (named_rhs_at number target source (kinds tokens.now)) }
     ensures shorter { IfOk result (λ x. length x.1.now ≤ length tokens.now) }
 {
     match front(tokens) {
@@ -145,7 +152,8 @@ fn array_rhs(
     target: Text,
     tokens: &[Token],
 ) -> Result<(Stmt, &[Token]), Stopped>
-    ensures read { Gives (λ x. (x.0, kinds x.1.now)) result (array_rhs_at number target (kinds tokens.now)) }
+    ensures read { Gives (λ x. (x.0, kinds x.1.now)) result
+        (array_rhs_at number target (kinds tokens.now)) }
     ensures shorter { IfOk result (λ x. length x.1.now < length tokens.now) }
 {
     let (length, rest) = expression(alloc, tokens)?;
@@ -159,7 +167,8 @@ fn call_rhs(
     target: Text,
     tokens: &[Token],
 ) -> Result<(Stmt, &[Token]), Stopped>
-    ensures read { Gives (λ x. (x.0, kinds x.1.now)) result (call_rhs_at number target (kinds tokens.now)) }
+    ensures read { Gives (λ x. (x.0, kinds x.1.now)) result
+        (call_rhs_at number target (kinds tokens.now)) }
     ensures shorter { IfOk result (λ x. length x.1.now < length tokens.now) }
 {
     let (callee, arguments, rest) = invoke(alloc, tokens)?;
@@ -179,7 +188,8 @@ pub(crate) fn rhs(
     target: Text,
     tokens: &[Token],
 ) -> Result<(Stmt, &[Token]), Stopped>
-    ensures read { Gives (λ x. (x.0, kinds x.1.now)) result (rhs_at number target (kinds tokens.now)) }
+    ensures read { Gives (λ x. (x.0, kinds x.1.now)) result
+        (rhs_at number target (kinds tokens.now)) }
     ensures shorter { IfOk result (λ x. length x.1.now < length tokens.now) }
 {
     match front(tokens) {

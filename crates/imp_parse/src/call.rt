@@ -28,7 +28,8 @@ pub(crate) fn begins_with_comma(tokens: &[Token]) -> bool
 /// A comma and a side, and the tokens after them.
 #[tactic(auto, unfolding(crate::specs::Tables::same_mark))]
 fn next_side(alloc: Global, tokens: &[Token]) -> Result<(Side, &[Token]), Stopped>
-    ensures read { Gives (λ x. ((operand_of x.0, tt), kinds x.1.now)) result (next_by side_at (fix (commas_step side_at)) tt (kinds tokens.now)) }
+    ensures read { Gives (λ x. ((operand_of x.0, tt), kinds x.1.now)) result
+        (next_by side_at (fix (commas_step side_at)) tt (kinds tokens.now)) }
     ensures shorter { IfOk result (λ x. length x.1.now < length tokens.now) }
 {
     let rest = mark(Mark::Comma, tokens)?;
@@ -37,7 +38,8 @@ fn next_side(alloc: Global, tokens: &[Token]) -> Result<(Side, &[Token]), Stoppe
 
 /// The first side and those after commas, and the tokens after them.
 fn sides(alloc: Global, first: Side, tokens: &[Token]) -> Result<(Items<Side>, &[Token]), Stopped>
-    ensures read { Gives (λ x. ((operands_of x.0, tt), kinds x.1.now)) result (with_front (operand_of first ∷ []) (commas_at side_at (kinds tokens.now))) }
+    ensures read { Gives (λ x. ((operands_of x.0, tt), kinds x.1.now)) result
+        (with_front (operand_of first ∷ []) (commas_at side_at (kinds tokens.now))) }
     ensures shorter { IfOk result (λ x. length x.1.now ≤ length tokens.now) }
 {
     let mut found = Items::new(alloc);
@@ -52,7 +54,8 @@ fn sides(alloc: Global, first: Side, tokens: &[Token]) -> Result<(Items<Side>, &
 }
 
 fn some_arguments(alloc: Global, tokens: &[Token]) -> Result<(Items<Side>, &[Token]), Stopped>
-    ensures read { Gives (λ x. (operands_of x.0, kinds x.1.now)) result (some_listed_at side_at (kinds tokens.now)) }
+    ensures read { Gives (λ x. (operands_of x.0, kinds x.1.now)) result
+        (some_listed_at side_at (kinds tokens.now)) }
     ensures shorter { IfOk result (λ x. length x.1.now < length tokens.now) }
 {
     let (first, rest) = side(alloc, tokens)?;
@@ -63,7 +66,8 @@ fn some_arguments(alloc: Global, tokens: &[Token]) -> Result<(Items<Side>, &[Tok
 
 /// The arguments up to `)`, and the tokens after it.
 fn arguments(alloc: Global, tokens: &[Token]) -> Result<(Items<Side>, &[Token]), Stopped>
-    ensures read { Gives (λ x. (operands_of x.0, kinds x.1.now)) result (arguments_at (kinds tokens.now)) }
+    ensures read { Gives (λ x. (operands_of x.0, kinds x.1.now)) result
+        (arguments_at (kinds tokens.now)) }
     ensures shorter { IfOk result (λ x. length x.1.now < length tokens.now) }
 {
     match front(tokens) {
@@ -78,7 +82,8 @@ pub(crate) fn invoke(
     alloc: Global,
     tokens: &[Token],
 ) -> Result<(Text, Items<Side>, &[Token]), Stopped>
-    ensures read { Gives (λ x. ((x.0, operands_of x.1), kinds x.2.now)) result (invoke_at (kinds tokens.now)) }
+    ensures read { Gives (λ x. ((x.0, operands_of x.1), kinds x.2.now)) result
+        (invoke_at (kinds tokens.now)) }
     ensures shorter { IfOk result (λ x. length x.2.now < length tokens.now) }
 {
     let (callee, rest) = name(tokens)?;

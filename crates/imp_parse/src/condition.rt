@@ -17,7 +17,8 @@ use std::alloc::Global;
 
 /// A side of a comparison or an argument, and the tokens after it.
 pub(crate) fn side(alloc: Global, tokens: &[Token]) -> Result<(Side, &[Token]), Stopped>
-    ensures read { Gives (λ x. (operand_of x.0, kinds x.1.now)) result (side_at (kinds tokens.now)) }
+    ensures read { Gives (λ x. (operand_of x.0, kinds x.1.now)) result
+        (side_at (kinds tokens.now)) }
     ensures shorter { IfOk result (λ x. length x.1.now < length tokens.now) }
 {
     match front(tokens) {
@@ -31,7 +32,8 @@ pub(crate) fn side(alloc: Global, tokens: &[Token]) -> Result<(Side, &[Token]), 
 
 /// The condition with this outermost part, and the tokens after it.
 fn made(alloc: Global, node: CondNode, rest: &[Token]) -> Result<(Cond, &[Token]), Stopped>
-    ensures read { Gives (λ x. (x.0, kinds x.1.now)) result (made_at (condition_of node) (kinds rest.now)) }
+    ensures read { Gives (λ x. (x.0, kinds x.1.now)) result
+        (made_at (condition_of node) (kinds rest.now)) }
     ensures shorter { IfOk result (λ x. length x.1.now ≤ length rest.now) }
 {
     let value = Cond::new(alloc, node)?;
@@ -40,7 +42,8 @@ fn made(alloc: Global, node: CondNode, rest: &[Token]) -> Result<(Cond, &[Token]
 
 /// A condition that a parenthesis closes.
 fn closed(inner: Cond, tokens: &[Token]) -> Result<(Cond, &[Token]), Stopped>
-    ensures read { Gives (λ x. (x.0, kinds x.1.now)) result (closed_at m.CloseParenthesis inner (kinds tokens.now)) }
+    ensures read { Gives (λ x. (x.0, kinds x.1.now)) result
+        (closed_at m.CloseParenthesis inner (kinds tokens.now)) }
     ensures shorter { IfOk result (λ x. length x.1.now < length tokens.now) }
 {
     let rest = mark(Mark::CloseParenthesis, tokens)?;
@@ -49,7 +52,8 @@ fn closed(inner: Cond, tokens: &[Token]) -> Result<(Cond, &[Token]), Stopped>
 
 /// The opposite of a condition that a parenthesis closes.
 fn closed_not(alloc: Global, inner: Cond, tokens: &[Token]) -> Result<(Cond, &[Token]), Stopped>
-    ensures read { Gives (λ x. (x.0, kinds x.1.now)) result (closed_at m.CloseParenthesis (Not inner) (kinds tokens.now)) }
+    ensures read { Gives (λ x. (x.0, kinds x.1.now)) result
+        (closed_at m.CloseParenthesis (Not inner) (kinds tokens.now)) }
     ensures shorter { IfOk result (λ x. length x.1.now < length tokens.now) }
 {
     let rest = mark(Mark::CloseParenthesis, tokens)?;

@@ -16,7 +16,8 @@ use std::alloc::Global;
 
 /// The expression with this outermost part, and the tokens after it.
 fn made(alloc: Global, node: ExprNode, rest: &[Token]) -> Result<(Expr, &[Token]), Stopped>
-    ensures read { Gives (λ x. (x.0, kinds x.1.now)) result (made_at (expression_of node) (kinds rest.now)) }
+    ensures read { Gives (λ x. (x.0, kinds x.1.now)) result
+        (made_at (expression_of node) (kinds rest.now)) }
     ensures shorter { IfOk result (λ x. length x.1.now ≤ length rest.now) }
 {
     let value = Expr::new(alloc, node)?;
@@ -25,7 +26,8 @@ fn made(alloc: Global, node: ExprNode, rest: &[Token]) -> Result<(Expr, &[Token]
 
 /// An expression that a parenthesis closes.
 fn closed(inner: Expr, tokens: &[Token]) -> Result<(Expr, &[Token]), Stopped>
-    ensures read { Gives (λ x. (x.0, kinds x.1.now)) result (closed_at m.CloseParenthesis inner (kinds tokens.now)) }
+    ensures read { Gives (λ x. (x.0, kinds x.1.now)) result
+        (closed_at m.CloseParenthesis inner (kinds tokens.now)) }
     ensures shorter { IfOk result (λ x. length x.1.now < length tokens.now) }
 {
     let rest = mark(Mark::CloseParenthesis, tokens)?;

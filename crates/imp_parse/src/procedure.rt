@@ -31,7 +31,8 @@ fn declaration(tokens: &[Token]) -> Result<(Declaration, &[Token]), Stopped>
 }
 
 fn next_declaration(tokens: &[Token]) -> Result<(Declaration, &[Token]), Stopped>
-    ensures read { Gives (λ x. ((x.0, tt), kinds x.1.now)) result (next_by declaration_at (fix (commas_step declaration_at)) tt (kinds tokens.now)) }
+    ensures read { Gives (λ x. ((x.0, tt), kinds x.1.now)) result
+        (next_by declaration_at (fix (commas_step declaration_at)) tt (kinds tokens.now)) }
     ensures shorter { IfOk result (λ x. length x.1.now < length tokens.now) }
 {
     let rest = mark(Mark::Comma, tokens)?;
@@ -44,7 +45,8 @@ fn declarations(
     first: Declaration,
     tokens: &[Token],
 ) -> Result<(Items<Declaration>, &[Token]), Stopped>
-    ensures read { Gives (λ x. ((x.0, tt), kinds x.1.now)) result (with_front (first ∷ []) (commas_at declaration_at (kinds tokens.now))) }
+    ensures read { Gives (λ x. ((x.0, tt), kinds x.1.now)) result
+        (with_front (first ∷ []) (commas_at declaration_at (kinds tokens.now))) }
     ensures shorter { IfOk result (λ x. length x.1.now ≤ length tokens.now) }
 {
     let mut found = Items::new(alloc);
@@ -62,7 +64,8 @@ fn some_parameters(
     alloc: Global,
     tokens: &[Token],
 ) -> Result<(Items<Declaration>, &[Token]), Stopped>
-    ensures read { Gives (λ x. (x.0, kinds x.1.now)) result (some_listed_at declaration_at (kinds tokens.now)) }
+    ensures read { Gives (λ x. (x.0, kinds x.1.now)) result
+        (some_listed_at declaration_at (kinds tokens.now)) }
     ensures shorter { IfOk result (λ x. length x.1.now < length tokens.now) }
 {
     let (first, rest) = declaration(tokens)?;
@@ -106,7 +109,8 @@ fn begins_local(tokens: &[Token]) -> bool
 
 /// A local variable from `var` on, and the tokens after it.
 fn local(tokens: &[Token]) -> Result<(Declaration, &[Token]), Stopped>
-    ensures read { Gives (λ x. ((x.0, tt), kinds x.1.now)) result (local_by (fix locals_step) tt (kinds tokens.now)) }
+    ensures read { Gives (λ x. ((x.0, tt), kinds x.1.now)) result
+        (local_by (fix locals_step) tt (kinds tokens.now)) }
     ensures shorter { IfOk result (λ x. length x.1.now < length tokens.now) }
 {
     match front(tokens) {
@@ -149,7 +153,13 @@ fn assembled(
     locals: Items<Declaration>,
     stmts: Items<Stmt>,
 ) -> Result<Proc, Memory>
-    ensures is { IfOk result (λ p. p ≡ record { name = head.name; parameters = head.parameters; outcome = head.outcome; locals = locals; body = block_of stmts }) }
+    ensures is { IfOk result (λ p. p ≡ record {
+      name = head.name;
+      parameters = head.parameters;
+      outcome = head.outcome;
+      locals = locals;
+      body = block_of stmts;
+    }) }
 {
     let body = Block::new(alloc, stmts)?;
     Proc::new(
@@ -171,7 +181,9 @@ fn behind_locals(
     tokens: &[Token],
 ) -> Result<(Proc, u32, &[Token]), Stopped>
     requires room { number + length tokens.now < 2 ^ 32 }
-    ensures read { Gives (λ x. ((x.0, x.1), kinds x.2.now)) result (behind_locals_at number head.name head.parameters head.outcome locals (kinds tokens.now)) }
+    ensures read { Gives (λ x. ((x.0, x.1), kinds x.2.now)) result
+        (behind_locals_at number head.name head.parameters head.outcome locals
+        (kinds tokens.now)) }
     ensures shorter { IfOk result (λ x. length x.2.now < length tokens.now) }
     ensures numbers { IfOk result (λ x. x.1 + length x.2.now ≤ number + length tokens.now) }
 {
@@ -189,7 +201,8 @@ fn behind_head(
     tokens: &[Token],
 ) -> Result<(Proc, u32, &[Token]), Stopped>
     requires room { number + length tokens.now < 2 ^ 32 }
-    ensures read { Gives (λ x. ((x.0, x.1), kinds x.2.now)) result (behind_head_at number head.name head.parameters head.outcome (kinds tokens.now)) }
+    ensures read { Gives (λ x. ((x.0, x.1), kinds x.2.now)) result
+        (behind_head_at number head.name head.parameters head.outcome (kinds tokens.now)) }
     ensures shorter { IfOk result (λ x. length x.2.now < length tokens.now) }
     ensures numbers { IfOk result (λ x. x.1 + length x.2.now ≤ number + length tokens.now) }
 {
@@ -206,7 +219,8 @@ fn behind_parenthesis(
     tokens: &[Token],
 ) -> Result<(Proc, u32, &[Token]), Stopped>
     requires room { number + length tokens.now < 2 ^ 32 }
-    ensures read { Gives (λ x. ((x.0, x.1), kinds x.2.now)) result (behind_parenthesis_at number name (kinds tokens.now)) }
+    ensures read { Gives (λ x. ((x.0, x.1), kinds x.2.now)) result
+        (behind_parenthesis_at number name (kinds tokens.now)) }
     ensures shorter { IfOk result (λ x. length x.2.now < length tokens.now) }
     ensures numbers { IfOk result (λ x. x.1 + length x.2.now ≤ number + length tokens.now) }
 {
@@ -227,7 +241,8 @@ fn procedure_behind_word(
     tokens: &[Token],
 ) -> Result<(Proc, u32, &[Token]), Stopped>
     requires room { number + length tokens.now < 2 ^ 32 }
-    ensures read { Gives (λ x. ((x.0, x.1), kinds x.2.now)) result (procedure_behind number (kinds tokens.now)) }
+    ensures read { Gives (λ x. ((x.0, x.1), kinds x.2.now)) result
+        (procedure_behind number (kinds tokens.now)) }
     ensures shorter { IfOk result (λ x. length x.2.now < length tokens.now) }
     ensures numbers { IfOk result (λ x. x.1 + length x.2.now ≤ number + length tokens.now) }
 {
@@ -244,7 +259,8 @@ pub(crate) fn procedure(
     tokens: &[Token],
 ) -> Result<(Proc, u32, &[Token]), Stopped>
     requires room { number + length tokens.now < 2 ^ 32 }
-    ensures read { Gives (λ x. ((x.0, x.1), kinds x.2.now)) result (procedure_at number (kinds tokens.now)) }
+    ensures read { Gives (λ x. ((x.0, x.1), kinds x.2.now)) result
+        (procedure_at number (kinds tokens.now)) }
     ensures shorter { IfOk result (λ x. length x.2.now < length tokens.now) }
     ensures numbers { IfOk result (λ x. x.1 + length x.2.now ≤ number + length tokens.now) }
 {
@@ -269,7 +285,8 @@ fn procedures(
     tokens: &[Token],
 ) -> Result<(Items<Proc>, u32, &[Token]), Stopped>
     requires room { number + length tokens.now < 2 ^ 32 }
-    ensures read { Gives (λ x. ((x.0, x.1), kinds x.2.now)) result (with_front (first ∷ []) (procedures_at number (kinds tokens.now))) }
+    ensures read { Gives (λ x. ((x.0, x.1), kinds x.2.now)) result
+        (with_front (first ∷ []) (procedures_at number (kinds tokens.now))) }
 {
     let mut found = Items::new(alloc);
     found.push(first)?;

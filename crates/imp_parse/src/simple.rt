@@ -23,7 +23,8 @@ fn write_next(
     link: Text,
     tokens: &[Token],
 ) -> Result<(Stmt, &[Token]), Stopped>
-    ensures read { Gives (λ x. (x.0, kinds x.1.now)) result (write_next_at number link (kinds tokens.now)) }
+    ensures read { Gives (λ x. (x.0, kinds x.1.now)) result
+        (write_next_at number link (kinds tokens.now)) }
     ensures shorter { IfOk result (λ x. length x.1.now < length tokens.now) }
 {
     let rest = mark(Mark::Equals, tokens)?;
@@ -39,7 +40,8 @@ fn write_item(
     link: Text,
     tokens: &[Token],
 ) -> Result<(Stmt, &[Token]), Stopped>
-    ensures read { Gives (λ x. (x.0, kinds x.1.now)) result (write_item_at number link (kinds tokens.now)) }
+    ensures read { Gives (λ x. (x.0, kinds x.1.now)) result
+        (write_item_at number link (kinds tokens.now)) }
     ensures shorter { IfOk result (λ x. length x.1.now < length tokens.now) }
 {
     let rest = mark(Mark::Equals, tokens)?;
@@ -55,7 +57,8 @@ fn field(
     link: Text,
     tokens: &[Token],
 ) -> Result<(Stmt, &[Token]), Stopped>
-    ensures read { Gives (λ x. (x.0, kinds x.1.now)) result (field_at number link (kinds tokens.now)) }
+    ensures read { Gives (λ x. (x.0, kinds x.1.now)) result
+        (field_at number link (kinds tokens.now)) }
     ensures shorter { IfOk result (λ x. length x.1.now < length tokens.now) }
 {
     match front(tokens) {
@@ -73,7 +76,8 @@ fn write_element(
     index: Expr,
     tokens: &[Token],
 ) -> Result<(Stmt, &[Token]), Stopped>
-    ensures read { Gives (λ x. (x.0, kinds x.1.now)) result (write_element_at number array index (kinds tokens.now)) }
+    ensures read { Gives (λ x. (x.0, kinds x.1.now)) result
+        (write_element_at number array index (kinds tokens.now)) }
     ensures shorter { IfOk result (λ x. length x.1.now < length tokens.now) }
 {
     let rest = mark(Mark::Equals, tokens)?;
@@ -94,7 +98,8 @@ fn element(
     array: Text,
     tokens: &[Token],
 ) -> Result<(Stmt, &[Token]), Stopped>
-    ensures read { Gives (λ x. (x.0, kinds x.1.now)) result (element_at number array (kinds tokens.now)) }
+    ensures read { Gives (λ x. (x.0, kinds x.1.now)) result
+        (element_at number array (kinds tokens.now)) }
     ensures shorter { IfOk result (λ x. length x.1.now < length tokens.now) }
 {
     let (index, rest) = expression(alloc, tokens)?;
@@ -109,7 +114,8 @@ fn assignment(
     target: Text,
     tokens: &[Token],
 ) -> Result<(Stmt, &[Token]), Stopped>
-    ensures read { Gives (λ x. (x.0, kinds x.1.now)) result (assignment_at number target (kinds tokens.now)) }
+    ensures read { Gives (λ x. (x.0, kinds x.1.now)) result
+        (assignment_at number target (kinds tokens.now)) }
     ensures shorter { IfOk result (λ x. length x.1.now < length tokens.now) }
 {
     let (stmt, rest) = rhs(alloc, number, target, tokens)?;
@@ -125,7 +131,8 @@ fn named(
     target: Text,
     tokens: &[Token],
 ) -> Result<(Stmt, &[Token]), Stopped>
-    ensures read { Gives (λ x. (x.0, kinds x.1.now)) result (named_at number target (kinds tokens.now)) }
+    ensures read { Gives (λ x. (x.0, kinds x.1.now)) result
+        (named_at number target (kinds tokens.now)) }
     ensures shorter { IfOk result (λ x. length x.1.now < length tokens.now) }
 {
     match front(tokens) {
@@ -138,7 +145,8 @@ fn named(
 
 /// What is asserted, after the word.
 fn assertion(alloc: Global, number: u32, tokens: &[Token]) -> Result<(Stmt, &[Token]), Stopped>
-    ensures read { Gives (λ x. (x.0, kinds x.1.now)) result (assertion_at number (kinds tokens.now)) }
+    ensures read { Gives (λ x. (x.0, kinds x.1.now)) result
+        (assertion_at number (kinds tokens.now)) }
     ensures shorter { IfOk result (λ x. length x.1.now < length tokens.now) }
 {
     let (claim, rest) = condition(alloc, tokens)?;
@@ -148,7 +156,8 @@ fn assertion(alloc: Global, number: u32, tokens: &[Token]) -> Result<(Stmt, &[To
 
 /// A call whose result is not assigned, after its first word.
 fn plain_call(alloc: Global, number: u32, tokens: &[Token]) -> Result<(Stmt, &[Token]), Stopped>
-    ensures read { Gives (λ x. (x.0, kinds x.1.now)) result (plain_call_at number (kinds tokens.now)) }
+    ensures read { Gives (λ x. (x.0, kinds x.1.now)) result
+        (plain_call_at number (kinds tokens.now)) }
     ensures shorter { IfOk result (λ x. length x.1.now < length tokens.now) }
 {
     let (callee, arguments, rest) = invoke(alloc, tokens)?;

@@ -49,7 +49,8 @@ pub(crate) fn numbered(
     tokens: &[Token],
 ) -> Result<(Stmt, u32, &[Token]), Stopped>
     requires room { number + length tokens.now < 2 ^ 32 }
-    ensures read { Gives (λ x. ((x.0, x.1), kinds x.2.now)) result (numbered_at number (kinds tokens.now)) }
+    ensures read { Gives (λ x. ((x.0, x.1), kinds x.2.now)) result
+        (numbered_at number (kinds tokens.now)) }
     ensures shorter { IfOk result (λ x. length x.2.now < length tokens.now) }
     ensures numbers { IfOk result (λ x. x.1 + length x.2.now ≤ number + length tokens.now) }
 {
@@ -65,7 +66,8 @@ fn composed(
     next: u32,
     rest: &[Token],
 ) -> Result<(Stmt, u32, &[Token]), Stopped>
-    ensures read { Gives (λ x. ((x.0, x.1), kinds x.2.now)) result (composed_at (statement_of number node) next (kinds rest.now)) }
+    ensures read { Gives (λ x. ((x.0, x.1), kinds x.2.now)) result
+        (composed_at (statement_of number node) next (kinds rest.now)) }
     ensures shorter { IfOk result (λ x. length x.2.now ≤ length rest.now) }
     ensures numbers { IfOk result (λ x. x.1 + length x.2.now ≤ next + length rest.now) }
 {
@@ -80,7 +82,8 @@ fn closed_block(
     next: u32,
     tokens: &[Token],
 ) -> Result<(Block, u32, &[Token]), Stopped>
-    ensures read { Gives (λ x. ((x.0, x.1), kinds x.2.now)) result (closed_block_at stmts next (kinds tokens.now)) }
+    ensures read { Gives (λ x. ((x.0, x.1), kinds x.2.now)) result
+        (closed_block_at stmts next (kinds tokens.now)) }
     ensures shorter { IfOk result (λ x. length x.2.now < length tokens.now) }
     ensures numbers { IfOk result (λ x. x.1 + length x.2.now < next + length tokens.now) }
 {
@@ -94,7 +97,8 @@ fn closed_block(
 #[tactic(auto, unfolding(crate::specs::StatementReading::statement_by))]
 fn statement(alloc: Global, number: u32, tokens: &[Token]) -> Result<(Stmt, u32, &[Token]), Stopped>
     requires room { number + length tokens.now < 2 ^ 32 }
-    ensures read { Gives (λ x. ((x.0, x.1), kinds x.2.now)) result (statement_by (fix statements_step) number (kinds tokens.now)) }
+    ensures read { Gives (λ x. ((x.0, x.1), kinds x.2.now)) result
+        (statement_by (fix statements_step) number (kinds tokens.now)) }
     ensures shorter { IfOk result (λ x. length x.2.now < length tokens.now) }
     ensures numbers { IfOk result (λ x. x.1 + length x.2.now ≤ number + length tokens.now) }
 {
@@ -109,7 +113,8 @@ fn statement(alloc: Global, number: u32, tokens: &[Token]) -> Result<(Stmt, u32,
 #[cycle(statement)]
 fn if_stmt(alloc: Global, number: u32, tokens: &[Token]) -> Result<(Stmt, u32, &[Token]), Stopped>
     requires room { number + length tokens.now + 1 < 2 ^ 32 }
-    ensures read { Gives (λ x. ((x.0, x.1), kinds x.2.now)) result (if_by (fix statements_step) number (kinds tokens.now)) }
+    ensures read { Gives (λ x. ((x.0, x.1), kinds x.2.now)) result
+        (if_by (fix statements_step) number (kinds tokens.now)) }
     ensures shorter { IfOk result (λ x. length x.2.now < length tokens.now) }
     ensures numbers { IfOk result (λ x. x.1 + length x.2.now ≤ number + length tokens.now) }
 {
@@ -130,7 +135,8 @@ fn while_stmt(
     tokens: &[Token],
 ) -> Result<(Stmt, u32, &[Token]), Stopped>
     requires room { number + length tokens.now + 1 < 2 ^ 32 }
-    ensures read { Gives (λ x. ((x.0, x.1), kinds x.2.now)) result (while_by (fix statements_step) number (kinds tokens.now)) }
+    ensures read { Gives (λ x. ((x.0, x.1), kinds x.2.now)) result
+        (while_by (fix statements_step) number (kinds tokens.now)) }
     ensures shorter { IfOk result (λ x. length x.2.now < length tokens.now) }
     ensures numbers { IfOk result (λ x. x.1 + length x.2.now ≤ number + length tokens.now) }
 {
@@ -146,7 +152,8 @@ fn while_stmt(
 #[cycle(statement)]
 fn block(alloc: Global, number: u32, tokens: &[Token]) -> Result<(Block, u32, &[Token]), Stopped>
     requires room { number + length tokens.now < 2 ^ 32 }
-    ensures read { Gives (λ x. ((x.0, x.1), kinds x.2.now)) result (block_by (fix statements_step) number (kinds tokens.now)) }
+    ensures read { Gives (λ x. ((x.0, x.1), kinds x.2.now)) result
+        (block_by (fix statements_step) number (kinds tokens.now)) }
     ensures shorter { IfOk result (λ x. length x.2.now < length tokens.now) }
     ensures numbers { IfOk result (λ x. x.1 + length x.2.now ≤ number + length tokens.now) }
 {
@@ -163,7 +170,8 @@ fn else_block(
     tokens: &[Token],
 ) -> Result<(Block, u32, &[Token]), Stopped>
     requires room { number + length tokens.now < 2 ^ 32 }
-    ensures read { Gives (λ x. ((x.0, x.1), kinds x.2.now)) result (else_by (fix statements_step) number (kinds tokens.now)) }
+    ensures read { Gives (λ x. ((x.0, x.1), kinds x.2.now)) result
+        (else_by (fix statements_step) number (kinds tokens.now)) }
     ensures shorter { IfOk result (λ x. length x.2.now ≤ length tokens.now) }
     ensures numbers { IfOk result (λ x. x.1 + length x.2.now ≤ number + length tokens.now) }
 {
@@ -181,7 +189,8 @@ pub(crate) fn statements(
     tokens: &[Token],
 ) -> Result<(Items<Stmt>, u32, &[Token]), Stopped>
     requires room { number + length tokens.now < 2 ^ 32 }
-    ensures read { Gives (λ x. ((x.0, x.1), kinds x.2.now)) result (statements_at number (kinds tokens.now)) }
+    ensures read { Gives (λ x. ((x.0, x.1), kinds x.2.now)) result
+        (statements_at number (kinds tokens.now)) }
     ensures shorter { IfOk result (λ x. length x.2.now ≤ length tokens.now) }
     ensures numbers { IfOk result (λ x. x.1 + length x.2.now ≤ number + length tokens.now) }
 {

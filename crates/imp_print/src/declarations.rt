@@ -68,7 +68,8 @@ fn put_local(
     right: &Text,
     local: &Declaration,
 ) -> Result<(), Memory>
-    ensures added { OnOk result (text.new ≡ text.old ++ line listing None right.now (codes "var " ++ declaration_text local.now ++ codes ";")) }
+    ensures added { OnOk result (text.new ≡ text.old ++ line listing None right.now
+        (codes "var " ++ declaration_text local.now ++ codes ";")) }
 {
     begin_line(text, listing, None, right)?;
     text.append(b"var ")?;

@@ -19,7 +19,8 @@ fn put_name(text: &mut Text, name: &Text, more: &[u8]) -> Result<(), Memory>
 
 /// Adds an element of an array: its name, and the index in brackets.
 fn put_element(text: &mut Text, array: &Text, index: &Expr) -> Result<(), Memory>
-    ensures added { OnOk result (text.new ≡ text.old ++ (array.now ++ codes "[" ++ expression_text index.now ++ codes "]")) }
+    ensures added { OnOk result (text.new ≡ text.old ++ (array.now
+        ++ codes "[" ++ expression_text index.now ++ codes "]")) }
 {
     put_name(text, array, b"[")?;
     put_expr(text, index)?;

@@ -29,7 +29,8 @@ fn put_head(
     outermost: &Text,
     procedure: &Proc,
 ) -> Result<(), Memory>
-    ensures added { OnOk result (text.new ≡ text.old ++ line listing None outermost.now (head_text procedure.now)) }
+    ensures added { OnOk result (text.new ≡ text.old ++ line listing None outermost.now
+        (head_text procedure.now)) }
 {
     begin_line(text, listing, None, outermost)?;
     put_signature(text, procedure)?;
@@ -64,7 +65,8 @@ fn put_procedures(
 ) -> Result<(), Memory>
     requires outermost { outermost.now ≡ [] }
     requires inside { inside.now ≡ codes "  " }
-    ensures added { OnOk result (text.new ≡ text.old ++ of_programs.program_text listing procedures.now) }
+    ensures added { OnOk result (text.new ≡ text.old ++ of_programs.program_text listing
+        procedures.now) }
 {
     'each: for i in 0..procedures.len() {
         put_procedure(text, listing, outermost, inside, &procedures[i])?;

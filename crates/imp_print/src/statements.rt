@@ -55,7 +55,8 @@ fn put_action_line(
     right: &Text,
     action: &Action,
 ) -> Result<(), Memory>
-    ensures added { OnOk result (text.new ≡ text.old ++ line listing number right.now (action_text (action_of action.now) ++ codes ";")) }
+    ensures added { OnOk result (text.new ≡ text.old ++ line listing number right.now
+        (action_text (action_of action.now) ++ codes ";")) }
 {
     begin_line(text, listing, number, right)?;
     put_action(text, action)?;
@@ -71,7 +72,8 @@ fn put_call_line(
     call: &Call,
 ) -> Result<(), Memory>
     ensures added { let arguments = operands_of call.now.arguments in
-        OnOk result (text.new ≡ text.old ++ line listing number right.now (call_text call.now.target call.now.callee arguments ++ codes ";")) }
+        OnOk result (text.new ≡ text.old ++ line listing number right.now
+        (call_text call.now.target call.now.callee arguments ++ codes ";")) }
 {
     begin_line(text, listing, number, right)?;
     put_call(text, call)?;
@@ -87,7 +89,8 @@ fn put_test_line(
     word: &[u8],
     test: &Cond,
 ) -> Result<(), Memory>
-    ensures added { OnOk result (text.new ≡ text.old ++ line listing number right.now (word.now ++ condition_text test.now ++ codes ") {")) }
+    ensures added { OnOk result (text.new ≡ text.old ++ line listing number right.now
+        (word.now ++ condition_text test.now ++ codes ") {")) }
 {
     begin_line(text, listing, number, right)?;
     text.append(word)?;
@@ -126,7 +129,8 @@ pub(crate) fn put_stmt(
 /// Adds a block of a statement that stands so far to the right: two spaces more.
 #[cycle(put_stmt)]
 fn put_inner(text: &mut Text, listing: bool, right: &Text, block: &Block) -> Result<(), Memory>
-    ensures added { OnOk result (text.new ≡ text.old ++ block_text listing (deeper right.now) block.now) }
+    ensures added { OnOk result (text.new ≡ text.old ++ block_text listing
+        (deeper right.now) block.now) }
 {
     let more = deeper(right)?;
     put_block(text, listing, &more, block)
@@ -141,7 +145,8 @@ fn is_empty(block: &Block) -> bool
 /// Adds the end of an if: an else that is not empty, and the last brace.
 #[cycle(put_stmt)]
 fn put_else(text: &mut Text, listing: bool, right: &Text, otherwise: &Block) -> Result<(), Memory>
-    ensures added { OnOk result (text.new ≡ text.old ++ else_text listing right.now (is_empty otherwise.now) (block_text listing (deeper right.now) otherwise.now)) }
+    ensures added { OnOk result (text.new ≡ text.old ++ else_text listing right.now
+        (is_empty otherwise.now) (block_text listing (deeper right.now) otherwise.now)) }
 {
     if is_empty(otherwise) {
         return put_line(text, listing, None, right, b"}");

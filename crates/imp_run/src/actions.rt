@@ -17,7 +17,10 @@ use std::alloc::Global;
 
 #[tactic(auto, unfolding(concrete_sem::specs::Effects::effect_of))]
 fn claim(store: &Store<'_>, slots: &Slots, cond: &SlotCond) -> Result<(), Halt>
-    ensures is { Comes result (effect_of (plain.Assert cond.now) store.now slots.now) (store.now, slots.now) }
+    ensures is { Comes result (effect_of (plain.Assert cond.now) store.now slots.now) (
+      store.now,
+      slots.now,
+    ) }
 {
     match truth_of(slots, cond) {
         Ok(true) => Ok(()),
@@ -28,7 +31,10 @@ fn claim(store: &Store<'_>, slots: &Slots, cond: &SlotCond) -> Result<(), Halt>
 
 #[tactic(auto, unfolding(concrete_sem::specs::Effects::effect_of))]
 fn set_int(store: &Store<'_>, slots: &mut Slots, x: u32, expr: &SlotExpr) -> Result<(), Halt>
-    ensures is { Comes result (effect_of (plain.SetInt x expr.now) store.now slots.old) (store.now, slots.new) }
+    ensures is { Comes result (effect_of (plain.SetInt x expr.now) store.now slots.old) (
+      store.now,
+      slots.new,
+    ) }
 {
     match value_of(slots, expr) {
         Ok(value) => {
@@ -41,7 +47,10 @@ fn set_int(store: &Store<'_>, slots: &mut Slots, x: u32, expr: &SlotExpr) -> Res
 
 #[tactic(auto, unfolding(concrete_sem::specs::Effects::effect_of))]
 fn input(store: &mut Store<'_>, slots: &mut Slots, x: u32) -> Result<(), Halt>
-    ensures is { Comes result (effect_of (plain.Input x) store.old slots.old) (store.new, slots.new) }
+    ensures is { Comes result (effect_of (plain.Input x) store.old slots.old) (
+      store.new,
+      slots.new,
+    ) }
 {
     match store.take_input() {
         Some(value) => {
@@ -54,7 +63,10 @@ fn input(store: &mut Store<'_>, slots: &mut Slots, x: u32) -> Result<(), Halt>
 
 #[tactic(auto, unfolding(concrete_sem::specs::Effects::effect_of))]
 fn read_item(store: &Store<'_>, slots: &mut Slots, x: u32, q: u32) -> Result<(), Halt>
-    ensures is { Comes result (effect_of (plain.ReadItem x q) store.now slots.old) (store.now, slots.new) }
+    ensures is { Comes result (effect_of (plain.ReadItem x q) store.now slots.old) (
+      store.now,
+      slots.new,
+    ) }
 {
     match cell_of(store, slots.link_at(q)) {
         Ok((_, cell)) => {
@@ -67,7 +79,10 @@ fn read_item(store: &Store<'_>, slots: &mut Slots, x: u32, q: u32) -> Result<(),
 
 #[tactic(auto, unfolding(concrete_sem::specs::Effects::effect_of))]
 fn read_next(store: &Store<'_>, slots: &mut Slots, p: u32, q: u32) -> Result<(), Halt>
-    ensures is { Comes result (effect_of (plain.ReadNext p q) store.now slots.old) (store.now, slots.new) }
+    ensures is { Comes result (effect_of (plain.ReadNext p q) store.now slots.old) (
+      store.now,
+      slots.new,
+    ) }
 {
     match cell_of(store, slots.link_at(q)) {
         Ok((_, cell)) => {
@@ -80,7 +95,10 @@ fn read_next(store: &Store<'_>, slots: &mut Slots, p: u32, q: u32) -> Result<(),
 
 #[tactic(auto, unfolding(concrete_sem::specs::Effects::effect_of))]
 fn write_next(store: &mut Store<'_>, slots: &Slots, p: u32, q: u32) -> Result<(), Halt>
-    ensures is { Comes result (effect_of (plain.WriteNext p q) store.old slots.now) (store.new, slots.now) }
+    ensures is { Comes result (effect_of (plain.WriteNext p q) store.old slots.now) (
+      store.new,
+      slots.now,
+    ) }
 {
     match cell_of(store, slots.link_at(p)) {
         Ok((place, cell)) => {
@@ -119,7 +137,8 @@ fn make_array(
     a: u32,
     expr: &SlotExpr,
 ) -> Result<(), Halt>
-    ensures is { Comes result (effect_of (plain.MakeArray a expr.now) store.now slots.old) (store.now, slots.new) }
+    ensures is { Comes result (effect_of (plain.MakeArray a expr.now) store.now slots.old)
+        (store.now, slots.new) }
 {
     let count = match value_of(slots, expr) {
         Ok(count) => count,
@@ -135,7 +154,10 @@ fn make_array(
 
 #[tactic(auto, unfolding(concrete_sem::specs::Effects::effect_of))]
 fn copy_array(store: &Store<'_>, slots: &mut Slots, a: u32, b: u32) -> Result<(), Halt>
-    ensures is { Comes result (effect_of (plain.CopyArray a b) store.now slots.old) (store.now, slots.new) }
+    ensures is { Comes result (effect_of (plain.CopyArray a b) store.now slots.old) (
+      store.now,
+      slots.new,
+    ) }
 {
     let elements = slots.share_array(b)?;
     slots.set_number(a, SlotValue::Array(elements));
@@ -144,7 +166,10 @@ fn copy_array(store: &Store<'_>, slots: &mut Slots, a: u32, b: u32) -> Result<()
 
 #[tactic(auto, unfolding(concrete_sem::specs::Effects::effect_of))]
 fn make_cell(store: &mut Store<'_>, slots: &mut Slots, p: u32) -> Result<(), Halt>
-    ensures is { Comes result (effect_of (plain.MakeCell p) store.old slots.old) (store.new, slots.new) }
+    ensures is { Comes result (effect_of (plain.MakeCell p) store.old slots.old) (
+      store.new,
+      slots.new,
+    ) }
 {
     let place = store.add_cell()?;
     slots.set_link(p, Some(place));
@@ -159,7 +184,8 @@ fn read_element(
     a: u32,
     expr: &SlotExpr,
 ) -> Result<(), Halt>
-    ensures is { Comes result (effect_of (plain.ReadElement x a expr.now) store.now slots.old) (store.now, slots.new) }
+    ensures is { Comes result (effect_of (plain.ReadElement x a expr.now) store.now slots.old)
+        (store.now, slots.new) }
 {
     let index = match value_of(slots, expr) {
         Ok(index) => index,
@@ -193,7 +219,8 @@ fn write_element(
     place: &SlotExpr,
     expr: &SlotExpr,
 ) -> Result<(), Halt>
-    ensures is { Comes result (effect_of (plain.WriteElement a place.now expr.now) store.now slots.old) (store.now, slots.new) }
+    ensures is { Comes result (effect_of (plain.WriteElement a place.now expr.now) store.now
+        slots.old) (store.now, slots.new) }
 {
     let index = match value_of(slots, place) {
         Ok(index) => index,
@@ -212,7 +239,8 @@ fn write_element(
 
 #[tactic(auto, unfolding(concrete_sem::specs::Effects::effect_of))]
 fn write_item(store: &mut Store<'_>, slots: &Slots, p: u32, expr: &SlotExpr) -> Result<(), Halt>
-    ensures is { Comes result (effect_of (plain.WriteItem p expr.now) store.old slots.now) (store.new, slots.now) }
+    ensures is { Comes result (effect_of (plain.WriteItem p expr.now) store.old slots.now)
+        (store.new, slots.now) }
 {
     let item = match value_of(slots, expr) {
         Ok(item) => item,
@@ -230,7 +258,10 @@ fn write_item(store: &mut Store<'_>, slots: &Slots, p: u32, expr: &SlotExpr) -> 
 
 #[tactic(auto, unfolding(concrete_sem::specs::Effects::effect_of))]
 fn set_null(store: &Store<'_>, slots: &mut Slots, p: u32) -> Result<(), Halt>
-    ensures is { Comes result (effect_of (plain.SetNull p) store.now slots.old) (store.now, slots.new) }
+    ensures is { Comes result (effect_of (plain.SetNull p) store.now slots.old) (
+      store.now,
+      slots.new,
+    ) }
 {
     slots.set_link(p, None);
     Ok(())
@@ -238,7 +269,10 @@ fn set_null(store: &Store<'_>, slots: &mut Slots, p: u32) -> Result<(), Halt>
 
 #[tactic(auto, unfolding(concrete_sem::specs::Effects::effect_of))]
 fn copy_link(store: &Store<'_>, slots: &mut Slots, p: u32, q: u32) -> Result<(), Halt>
-    ensures is { Comes result (effect_of (plain.CopyLink p q) store.now slots.old) (store.now, slots.new) }
+    ensures is { Comes result (effect_of (plain.CopyLink p q) store.now slots.old) (
+      store.now,
+      slots.new,
+    ) }
 {
     let link = slots.link_at(q);
     slots.set_link(p, link);
@@ -260,7 +294,10 @@ pub(crate) fn perform(
     slots: &mut Slots,
     action: &SlotAction,
 ) -> Result<(), Halt>
-    ensures is { Comes result (effect_of (effect action.now) store.old slots.old) (store.new, slots.new) }
+    ensures is { Comes result (effect_of (effect action.now) store.old slots.old) (
+      store.new,
+      slots.new,
+    ) }
 {
     match action {
         SlotAction::Skip => skip(store, slots),

@@ -51,7 +51,10 @@ fn do_simple<'a>(
     action: &SlotAction,
     rest: &'a [SlotNode],
 ) -> Result<Stepped, Memory>
-    ensures is { IfOk result (λ s. StepsTo s store.old slots.old (λ base. steps.Do (plain.Simple number (effect_of action.now) (code_of rest.now)) (work_on base work.old.items)) store.new slots.new (λ base. work_on base work.new.items)) }
+    ensures is { IfOk result (λ s. StepsTo s store.old slots.old
+        (λ base. steps.Do (plain.Simple number (effect_of action.now) (code_of rest.now))
+        (work_on base work.old.items)) store.new slots.new
+        (λ base. work_on base work.new.items)) }
 {
     match perform(alloc, store, slots, action) {
         Ok(()) => {
@@ -75,7 +78,10 @@ fn do_if<'a>(
     blocks: (&'a SlotBlock, &'a SlotBlock),
     rest: &'a [SlotNode],
 ) -> Result<Stepped, Memory>
-    ensures is { IfOk result (λ s. StepsTo s store.now slots.now (λ base. steps.Do (plain.If number cond.now blocks.entry.0.now blocks.entry.1.now (code_of rest.now)) (work_on base work.old.items)) store.now slots.now (λ base. work_on base work.new.items)) }
+    ensures is { IfOk result (λ s. StepsTo s store.now slots.now
+        (λ base. steps.Do (plain.If number cond.now blocks.entry.0.now blocks.entry.1.now
+        (code_of rest.now)) (work_on base work.old.items)) store.now slots.now
+        (λ base. work_on base work.new.items)) }
 {
     let (then, els) = blocks;
     match truth_of(slots, cond) {
@@ -100,7 +106,10 @@ fn do_while<'a>(
     body: &'a SlotBlock,
     rest: &'a [SlotNode],
 ) -> Result<Stepped, Memory>
-    ensures is { IfOk result (λ s. StepsTo s store.now slots.now (λ base. steps.Do (plain.While number cond.now body.now (code_of rest.now)) (work_on base work.old.items)) store.now slots.now (λ base. work_on base work.new.items)) }
+    ensures is { IfOk result (λ s. StepsTo s store.now slots.now
+        (λ base. steps.Do (plain.While number cond.now body.now (code_of rest.now))
+        (work_on base work.old.items)) store.now slots.now
+        (λ base. work_on base work.new.items)) }
 {
     push_block(work, rest)?;
     push_item(work, Item::Test(number, cond, body))?;
@@ -116,7 +125,9 @@ fn do_test<'a>(
     cond: &'a SlotCond,
     body: &'a SlotBlock,
 ) -> Result<Stepped, Memory>
-    ensures is { IfOk result (λ s. StepsTo s store.now slots.now (λ base. steps.Test number cond.now body.now (work_on base work.old.items)) store.now slots.now (λ base. work_on base work.new.items)) }
+    ensures is { IfOk result (λ s. StepsTo s store.now slots.now
+        (λ base. steps.Test number cond.now body.now (work_on base work.old.items)) store.now
+        slots.now (λ base. work_on base work.new.items)) }
 {
     match truth_of(slots, cond) {
         Ok(true) => {
@@ -140,7 +151,9 @@ fn do_break<'a>(
     number: u32,
     rest: &'a [SlotNode],
 ) -> Result<Stepped, Memory>
-    ensures is { IfOk result (λ s. StepsTo s store.now slots.now (λ base. steps.Do (plain.Break number (code_of rest.now)) (work_on base work.old.items)) store.now slots.now (λ base. work_on base work.new.items)) }
+    ensures is { IfOk result (λ s. StepsTo s store.now slots.now
+        (λ base. steps.Do (plain.Break number (code_of rest.now)) (work_on base work.old.items))
+        store.now slots.now (λ base. work_on base work.new.items)) }
 {
     match leave_loop(work) {
         Some(head) => {
@@ -161,7 +174,9 @@ fn do_call<'a>(
     rest: &'a [SlotNode],
 ) -> Result<Slots, Halt>
     ensures passed { Gave result (pass call.now.entering slots.now) }
-    ensures work { OnOk result ((w : steps.Work) → work_on w work.new.items ≡ steps.Done number (Some call.now) (steps.push (code_of rest.now) (work_on w work.old.items))) }
+    ensures work { OnOk result ((w : steps.Work) → work_on w work.new.items ≡
+        steps.Done number (Some call.now) (steps.push (code_of rest.now)
+        (work_on w work.old.items))) }
 {
     let callee = pass(alloc, slots, call.entering())?;
     push_block(work, rest)?;
@@ -187,7 +202,9 @@ fn enter<'a>(
     alloc: Global,
 ) -> Result<(), Memory>
     ensures heap { machine.new.store ≡ machine.old.store }
-    ensures frames { OnOk result (frames_of machine.new ≡ In place slots (steps.push (code_of body.now) (steps.Ret place)) ∷ frames_of machine.old) }
+    ensures frames { OnOk result (frames_of machine.new ≡
+        In place slots (steps.push (code_of body.now) (steps.Ret place))
+        ∷ frames_of machine.old) }
 {
     let mut work = Vec::new(alloc);
     push_block(&mut work, body)?;
@@ -200,7 +217,8 @@ fn enter<'a>(
 /// The last frame is removed, and its caller takes the result.
 #[tactic(auto, using(crate::proofs::WorkLemmas::frames_on_push))]
 fn leave(machine: &mut RunState<'_>) -> Result<Stepped, Memory>
-    ensures is { IfOk result (λ s. steps.returns_to machine.old.store machine.old.last.slots (frames_on [] machine.old.below.items) ≡ step_of s (config_of machine.new)) }
+    ensures is { IfOk result (λ s. steps.returns_to machine.old.store machine.old.last.slots
+        (frames_on [] machine.old.below.items) ≡ step_of s (config_of machine.new)) }
 {
     let Some(mut caller) = machine.below.pop() else {
         return Ok(Stepped::Ended);
@@ -229,7 +247,11 @@ fn begin_call<'a>(
     place: u32,
     rest: &'a [SlotNode],
 ) -> Result<Stepped, Memory>
-    ensures is { IfOk result (λ s. steps.step_frame program.now machine.old.last.place (frames_on [] machine.old.below.items) machine.old.store machine.old.last.slots (steps.Do (plain.Call number call.now place (code_of rest.now)) (work_of machine.old.last.place machine.old.last.work.items)) ≡ step_of s (config_of machine.new)) }
+    ensures is { IfOk result (λ s. steps.step_frame program.now machine.old.last.place
+        (frames_on [] machine.old.below.items) machine.old.store machine.old.last.slots
+        (steps.Do (plain.Call number call.now place (code_of rest.now))
+        (work_of machine.old.last.place machine.old.last.work.items)) ≡
+        step_of s (config_of machine.new)) }
 {
     let last = &mut machine.last;
     match do_call(alloc, &last.slots, &mut last.work, number, call, rest) {
@@ -253,7 +275,8 @@ fn begin_simple<'a>(
     action: &SlotAction,
     rest: &'a [SlotNode],
 ) -> Result<Stepped, Memory>
-    ensures is { IfOk result (λ s. BeginsSo (plain.Simple number (effect_of action.now) (code_of rest.now)) machine.old s machine.new) }
+    ensures is { IfOk result (λ s. BeginsSo (plain.Simple number (effect_of action.now)
+        (code_of rest.now)) machine.old s machine.new) }
 {
     let last = &mut machine.last;
     let stepped = do_simple(
@@ -275,7 +298,8 @@ fn begin_if<'a>(
     blocks: (&'a SlotBlock, &'a SlotBlock),
     rest: &'a [SlotNode],
 ) -> Result<Stepped, Memory>
-    ensures is { IfOk result (λ s. BeginsSo (plain.If number cond.now blocks.entry.0.now blocks.entry.1.now (code_of rest.now)) machine.old s machine.new) }
+    ensures is { IfOk result (λ s. BeginsSo (plain.If number cond.now blocks.entry.0.now
+        blocks.entry.1.now (code_of rest.now)) machine.old s machine.new) }
 {
     let last = &mut machine.last;
     let stepped = do_if(
@@ -297,7 +321,8 @@ fn begin_while<'a>(
     body: &'a SlotBlock,
     rest: &'a [SlotNode],
 ) -> Result<Stepped, Memory>
-    ensures is { IfOk result (λ s. BeginsSo (plain.While number cond.now body.now (code_of rest.now)) machine.old s machine.new) }
+    ensures is { IfOk result (λ s. BeginsSo (plain.While number cond.now body.now
+        (code_of rest.now)) machine.old s machine.new) }
 {
     let last = &mut machine.last;
     let stepped = do_while(
@@ -317,7 +342,8 @@ fn begin_break<'a>(
     number: u32,
     rest: &'a [SlotNode],
 ) -> Result<Stepped, Memory>
-    ensures is { IfOk result (λ s. BeginsSo (plain.Break number (code_of rest.now)) machine.old s machine.new) }
+    ensures is { IfOk result (λ s. BeginsSo (plain.Break number (code_of rest.now)) machine.old s
+        machine.new) }
 {
     let last = &mut machine.last;
     let stepped = do_break(&machine.store, &last.slots, &mut last.work, number, rest)?;
@@ -352,7 +378,11 @@ fn begin<'a>(
     node: &'a SlotNode,
     rest: &'a [SlotNode],
 ) -> Result<Stepped, Memory>
-    ensures is { IfOk result (λ s. steps.step_frame program.now machine.old.last.place (frames_on [] machine.old.below.items) machine.old.store machine.old.last.slots (steps.Do (before_code node.now (code_of rest.now)) (work_of machine.old.last.place machine.old.last.work.items)) ≡ step_of s (config_of machine.new)) }
+    ensures is { IfOk result (λ s. steps.step_frame program.now machine.old.last.place
+        (frames_on [] machine.old.below.items) machine.old.store machine.old.last.slots
+        (steps.Do (before_code node.now (code_of rest.now))
+        (work_of machine.old.last.place machine.old.last.work.items)) ≡
+        step_of s (config_of machine.new)) }
 {
     match node {
         SlotNode::Simple(number, action) => {
@@ -383,7 +413,8 @@ pub(crate) fn step<'a>(
     program: &'a [Routine],
     machine: &mut RunState<'a>,
 ) -> Result<Stepped, Memory>
-    ensures is { IfOk result (λ s. steps.step program.now (config_of machine.old) ≡ step_of s (config_of machine.new)) }
+    ensures is { IfOk result (λ s. steps.step program.now (config_of machine.old) ≡
+        step_of s (config_of machine.new)) }
 {
     match pop_item(&mut machine.last.work) {
         None => leave(machine),

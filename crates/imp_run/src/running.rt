@@ -38,7 +38,8 @@ fn stands_at(program: &[Routine], machine: &RunState<'_>, at: Option<&Location>)
 
 /// The item on top stands at the location.
 fn stands(program: &[Routine], last: &Activation<'_>, location: &Location) -> bool
-    ensures is { result ≡ same_location (location_of program.now (work_of last.now.place last.now.work.items)) location.now }
+    ensures is { result ≡ same_location (location_of program.now
+        (work_of last.now.place last.now.work.items)) location.now }
 {
     match last.work.last() {
         Some(item) => is_at(item, location),
@@ -124,7 +125,8 @@ fn first_machine<'a>(
     inputs: &'a [i64],
 ) -> Result<Option<RunState<'a>>, Memory>
     requires few { length program.now < 2 ^ 32 }
-    ensures is { IfOk result (λ machine. config_or_none machine inputs.now ≡ start program.now inputs.now) }
+    ensures is { IfOk result (λ machine. config_or_none machine inputs.now ≡
+        start program.now inputs.now) }
 {
     let Some(main) = program.last() else {
         return Ok(None);
@@ -191,7 +193,8 @@ fn run_machine<'a>(
     at: Option<&Location>,
 ) -> Result<RunResult, Memory>
     requires room { fuel < 2 ^ 64 - 1 }
-    ensures outcome { IfOk result (λ o. run_of o ≡ run_from program.now (stands_at program.now (option_copied at.entry)) fuel (config_of machine.old)) }
+    ensures outcome { IfOk result (λ o. run_of o ≡ run_from program.now
+        (stands_at program.now (option_copied at.entry)) fuel (config_of machine.old)) }
 {
     let mut left = fuel;
     let mut reached = 0;
@@ -221,7 +224,8 @@ pub fn run(
 ) -> Result<RunResult, Memory>
     requires few { length program.now < 2 ^ 32 }
     requires room { fuel < 2 ^ 64 - 1 }
-    ensures outcome { IfOk result (λ o. run_of o ≡ run_from program.now (stands_at program.now (option_copied at.entry)) fuel (start program.now inputs.now)) }
+    ensures outcome { IfOk result (λ o. run_of o ≡ run_from program.now
+        (stands_at program.now (option_copied at.entry)) fuel (start program.now inputs.now)) }
 {
     match first_machine(alloc, program, inputs)? {
         Some(mut machine) => run_machine(alloc, program, &mut machine, fuel, at),

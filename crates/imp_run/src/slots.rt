@@ -69,8 +69,10 @@ impl Slots {
     /// The first slots stay, and the others of the layout are added as they start; slots that the
     /// layout does not have go.
     pub(crate) fn fill(&mut self, layout: &Layout) -> Result<(), Memory>
-        ensures numbers { OnOk result (self.new.numbers ≡ over self.old.numbers (map first_number layout.now.numbers)) }
-        ensures links { OnOk result (self.new.links ≡ over self.old.links (map first_link layout.now.links)) }
+        ensures numbers { OnOk result (self.new.numbers ≡
+            over self.old.numbers (map first_number layout.now.numbers)) }
+        ensures links { OnOk result (self.new.links ≡ over self.old.links
+            (map first_link layout.now.links)) }
     {
         fill_numbers(&mut self.numbers, layout.numbers())?;
         fill_links(&mut self.links, layout.links())
@@ -177,7 +179,8 @@ impl Slots {
         value: i64,
     ) -> Result<(), Memory>
         requires there { at < length (array_at self.old a) }
-        ensures is { OnOk result (self.new ≡ with_number self.old a (Array (slice_set (array_at self.old a) at value))) }
+        ensures is { OnOk result (self.new ≡ with_number self.old a
+            (Array (slice_set (array_at self.old a) at value))) }
     {
         let taken = self.take_array(a);
         let elements = taken.with(alloc, at, value)?;
@@ -230,7 +233,8 @@ fn first_held(slot: &NumericSlot) -> SlotValue
 }
 
 fn fill_numbers(numbers: &mut Vec<SlotValue>, layout: &[NumericSlot]) -> Result<(), Memory>
-    ensures is { OnOk result (map number_of numbers.new.items ≡ over (map number_of numbers.old.items) (map first_number layout.now)) }
+    ensures is { OnOk result (map number_of numbers.new.items ≡
+        over (map number_of numbers.old.items) (map first_number layout.now)) }
 {
     numbers.truncate(layout.len());
     for slot in &layout[numbers.len()..] {

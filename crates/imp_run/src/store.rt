@@ -46,7 +46,8 @@ impl<'a> Store<'a> {
 
     /// The next input, which is taken away.
     pub(crate) fn take_input(&mut self) -> Option<i64>
-        ensures taken { MatchOption result (self.old.inputs ≡ []) (λ z. self.old.inputs ≡ z ∷ self.new.inputs) }
+        ensures taken { MatchOption result (self.old.inputs ≡ [])
+            (λ z. self.old.inputs ≡ z ∷ self.new.inputs) }
         ensures cells { self.new.cells ≡ self.old.cells }
     {
         match self.inputs {
@@ -68,7 +69,8 @@ impl<'a> Store<'a> {
     /// Adds a cell with item 0 and no next one, and gives its place.
     pub(crate) fn add_cell(&mut self) -> Result<usize, Memory>
         ensures place { IfOk result (λ k. k ≡ length self.old.cells) }
-        ensures cells { OnOk result (self.new.cells ≡ self.old.cells ++ (record { item = pos 0; next = None } ∷ [])) }
+        ensures cells { OnOk result (self.new.cells ≡ self.old.cells
+            ++ (record { item = pos 0; next = None } ∷ [])) }
         ensures inputs { self.new.inputs ≡ self.old.inputs }
     {
         let place = self.cells.len();

@@ -22,7 +22,8 @@ pub(crate) enum Item<'a> {
 /// Puts an item on top.
 #[tactic(auto, using(crate::proofs::WorkLemmas::work_on_push))]
 pub(crate) fn push_item<'a>(work: &mut Vec<Item<'a>>, item: Item<'a>) -> Result<(), Memory>
-    ensures is { OnOk result ((w : Work) → work_on w work.new.items ≡ put item.entry (work_on w work.old.items)) }
+    ensures is { OnOk result ((w : Work) → work_on w work.new.items ≡
+        put item.entry (work_on w work.old.items)) }
 {
     work.push(item)?;
     Ok(())
@@ -31,7 +32,8 @@ pub(crate) fn push_item<'a>(work: &mut Vec<Item<'a>>, item: Item<'a>) -> Result<
 /// Puts the statements of a block on top.
 #[tactic(auto, using(crate::proofs::WorkLemmas::work_on_push, crate::proofs::WorkLemmas::push_before))]
 pub(crate) fn push_block<'a>(work: &mut Vec<Item<'a>>, block: &'a [SlotNode]) -> Result<(), Memory>
-    ensures is { OnOk result ((w : Work) → work_on w work.new.items ≡ push (code_of block.now) (work_on w work.old.items)) }
+    ensures is { OnOk result ((w : Work) → work_on w work.new.items ≡
+        push (code_of block.now) (work_on w work.old.items)) }
 {
     match block {
         [] => Ok(()),
@@ -43,7 +45,8 @@ pub(crate) fn push_block<'a>(work: &mut Vec<Item<'a>>, block: &'a [SlotNode]) ->
 #[tactic(auto, using(crate::proofs::WorkLemmas::work_on_push))]
 pub(crate) fn pop_item<'a>(work: &mut Vec<Item<'a>>) -> Option<Item<'a>>
     ensures fewer { IfSome result (λ item. vec_len work.new < vec_len work.old) }
-    ensures is { MatchOption result ((w : Work) → work_on w work.old.items ≡ w) (λ item. (w : Work) → work_on w work.old.items ≡ put item (work_on w work.new.items)) }
+    ensures is { MatchOption result ((w : Work) → work_on w work.old.items ≡ w)
+        (λ item. (w : Work) → work_on w work.old.items ≡ put item (work_on w work.new.items)) }
 {
     work.pop()
 }

@@ -130,7 +130,11 @@ impl Model for Routine {
 
     ghost coded = { routine_code };
 
-    ghost view = { λ a. record { name = a.parts.value.name; layout = a.parts.value.layout; code = a.parts.value.body } };
+    ghost view = { λ a. record {
+      name = a.parts.value.name;
+      layout = a.parts.value.layout;
+      code = a.parts.value.body;
+    } };
 }
 
 impl Routine {

@@ -55,7 +55,10 @@ impl Model for Entering {
 
     ghost use Rattle.imp_slots.specs.CallViews.{argument_of};
 
-    ghost view = { λ a. record { layout = a.parts.value.layout; arguments = map argument_of a.parts.value.arguments } };
+    ghost view = { λ a. record {
+      layout = a.parts.value.layout;
+      arguments = map argument_of a.parts.value.arguments;
+    } };
 }
 
 impl Entering {
@@ -65,7 +68,10 @@ impl Entering {
         layout: Layout,
         arguments: Items<Argument>,
     ) -> Result<Entering, Memory>
-        ensures same { IfOk result (λ e. e ≡ record { layout = layout; arguments = map argument_of arguments }) }
+        ensures same { IfOk result (λ e. e ≡ record {
+          layout = layout;
+          arguments = map argument_of arguments;
+        }) }
     {
         let parts = Rc::new(alloc, EnteringParts { layout, arguments })?;
         Ok(Entering { parts })

@@ -179,7 +179,8 @@ impl Eq for Argument {
 }
 
 fn arguments_same(a: &[Argument], b: &[Argument]) -> bool
-    ensures same { result ≡ code_same (list_to argument_to (map argument_of a.now)) (list_to argument_to (map argument_of b.now)) }
+    ensures same { result ≡ code_same (list_to argument_to (map argument_of a.now))
+        (list_to argument_to (map argument_of b.now)) }
 {
     a == b
 }

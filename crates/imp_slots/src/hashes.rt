@@ -246,7 +246,8 @@ impl Hash for Argument {
 }
 
 fn hash_arguments<H: Hasher>(arguments: &[Argument], state: &mut H)
-    ensures fed { state.new ≡ fold H.write state.old (fed.slice argument_fed (map argument_of arguments.now)) }
+    ensures fed { state.new ≡ fold H.write state.old (fed.slice argument_fed
+        (map argument_of arguments.now)) }
 {
     arguments.hash(state);
 }

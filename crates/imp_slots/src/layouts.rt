@@ -90,7 +90,10 @@ impl Layout {
         numbers: Items<NumericSlot>,
         links: Items<Text>,
     ) -> Result<Layout, Memory>
-        ensures same { IfOk result (λ layout. layout ≡ record { numbers = numbers; links = links }) }
+        ensures same { IfOk result (λ layout. layout ≡ record {
+          numbers = numbers;
+          links = links;
+        }) }
     {
         let slots = Rc::new(alloc, Slots { numbers, links })?;
         Ok(Layout { slots })

@@ -47,7 +47,13 @@ impl Proc {
         locals: Items<Declaration>,
         body: Block,
     ) -> Result<Proc, Memory>
-        ensures is { IfOk result (λ p. p ≡ record { name = name; parameters = parameters; outcome = outcome; locals = locals; body = body }) }
+        ensures is { IfOk result (λ p. p ≡ record {
+          name = name;
+          parameters = parameters;
+          outcome = outcome;
+          locals = locals;
+          body = body;
+        }) }
     {
         let head = ProcParts {
             name,
@@ -104,7 +110,10 @@ impl Proc {
 
     /// The procedure with a further local variable, the last one. It fails only when memory runs out.
     pub fn with_local(&self, alloc: Global, local: Declaration) -> Result<Proc, Memory>
-        ensures is { IfOk result (λ p. p ≡ record self.now { locals = self.now.locals ++ local ∷ [] }) }
+        ensures is { IfOk result (λ p. p ≡ record self.now {
+          locals = self.now.locals ++ local
+              ∷ [];
+        }) }
     {
         let mut locals = copied(alloc, self.locals())?;
         locals.push(local)?;

@@ -37,9 +37,11 @@ pub(crate) fn make_room(places: &mut Vec<TableSlot>, below: usize) -> Result<(),
 #[tactic(auto, using(imp_check::proofs::TableLemmas::take_at))]
 pub(crate) fn put_all(places: &mut Vec<TableSlot>, puts: &mut [Put])
     requires within { AreWithin (length places.old.items) puts.old }
-    ensures is { (m : ℕ) → entry_in places.new.items m ≡ overlay puts.old (entry_in places.old.items) m }
+    ensures is { (m : ℕ) → entry_in places.new.items m ≡
+        overlay puts.old (entry_in places.old.items) m }
     ensures as_long { length places.new.items ≡ length places.old.items }
-    ensures back { (m : ℕ) → overlay puts.new (entry_in places.new.items) m ≡ entry_in places.old.items m }
+    ensures back { (m : ℕ) → overlay puts.new (entry_in places.new.items) m ≡
+        entry_in places.old.items m }
     ensures back_within { AreWithin (length places.old.items) puts.new }
 {
     put_in(places.as_mut_slice(), puts);
@@ -76,7 +78,9 @@ fn put_in(places: &mut [TableSlot], puts: &mut [Put])
 #[inline]
 pub(crate) fn put_of(puts: &[Put], number: u32) -> Option<&Put>
     requires falling { AreFalling puts.now }
-    ensures is { MatchOption result ((at : ℕ → Option Entry) → overlay puts.now at number ≡ at number) (λ put. (at : ℕ → Option Entry) → overlay puts.now at number ≡ put.now.entry) }
+    ensures is { MatchOption result ((at : ℕ → Option Entry) →
+        overlay puts.now at number ≡ at number) (λ put. (at : ℕ → Option Entry) →
+        overlay puts.now at number ≡ put.now.entry) }
 {
     let mut low = 0;
     let mut high = puts.len();

@@ -43,9 +43,13 @@ impl Model for Table {
 
     ghost coded = { tabled_code };
 
-    ghost view = { λ a. record { program = program_by (entry_in a.places.items) a.count a.heads; room = length a.places.items } };
+    ghost view = { λ a. record {
+      program = program_by (entry_in a.places.items) a.count a.heads;
+      room = length a.places.items;
+    } };
 
-    ghost invariant = { λ a. AreOf (program_by (entry_in a.places.items) a.count a.heads) (entry_in a.places.items) a.count a.heads a.sites };
+    ghost invariant = { λ a. AreOf (program_by (entry_in a.places.items) a.count a.heads)
+        (entry_in a.places.items) a.count a.heads a.sites };
 }
 
 impl Table {
@@ -122,7 +126,8 @@ impl Table {
     /// The call statements of a procedure, in the order of the text; none for a procedure that is not there. It takes
     /// constant time.
     pub fn sites(&self, proc: ProcId) -> &[StmtId]
-        ensures is { proc < length self.now.program → result.now ≡ sites_in (entries_of self.now.program) proc }
+        ensures is { proc < length self.now.program → result.now ≡
+            sites_in (entries_of self.now.program) proc }
         ensures none { length self.now.program ≤ proc → result.now ≡ [] }
     {
         self.view().sites(proc)
@@ -209,7 +214,9 @@ fn changed_places(
     mut places: Vec<TableSlot>,
     below: u32,
 ) -> Result<Vec<Put>, Memory>
-    ensures comes { IfOk result (λ puts. (n : ℕ) → n < below → overlay puts.items (entry_of (entries_of from.now.program)) n ≡ entry_in places.items n) }
+    ensures comes { IfOk result (λ puts. (n : ℕ) → n < below →
+        overlay puts.items (entry_of (entries_of from.now.program)) n ≡
+        entry_in places.items n) }
     ensures within { IfOk result (λ puts. AreWithin below puts.items) }
 {
     make_room(&mut places, below as usize)?;
@@ -226,7 +233,8 @@ fn changed_places(
 
 /// Whether something stands at a place, or at its number in a table.
 fn stands(table: &Table, number: u32, place: &TableSlot) -> bool
-    ensures neither { result ≡ false → (place.now ≡ None) × (entry_of (entries_of table.now.program) number ≡ None) }
+    ensures neither { result ≡ false → (place.now ≡ None) ×
+        (entry_of (entries_of table.now.program) number ≡ None) }
 {
     place.entry().is_some() || table.entry(StmtId::new(number)).is_some()
 }

@@ -45,7 +45,8 @@ impl<'a> Model for View<'a> {
 
     ghost view = { λ a. program_over a.table.now.program a.puts.now a.count a.heads.now };
 
-    ghost invariant = { λ a. AreRead a.table.now.program a.puts.now a.count a.heads.now a.sites.now (program_over a.table.now.program a.puts.now a.count a.heads.now) };
+    ghost invariant = { λ a. AreRead a.table.now.program a.puts.now a.count a.heads.now a.sites.now
+        (program_over a.table.now.program a.puts.now a.count a.heads.now) };
 }
 
 impl<'a> View<'a> {
@@ -124,7 +125,8 @@ impl<'a> View<'a> {
     /// The ends of a procedure's body, or `None` where there is no such procedure.
     #[inline]
     pub fn body(&self, proc: ProcId) -> Option<BlockEnds>
-        ensures is { result ≡ option_map (λ (p : Procedure). ends_of p.body) (slice_get self.now proc) }
+        ensures is { result ≡ option_map (λ (p : Procedure). ends_of p.body)
+            (slice_get self.now proc) }
     {
         match self.head(proc) {
             Some(head) => Some(head.body),

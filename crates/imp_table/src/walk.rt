@@ -32,7 +32,8 @@ pub(crate) fn add_block(
     first: Option<StmtId>,
     found: &mut Items<StmtId>,
 ) -> Result<(), Memory>
-    ensures added { OnOk result (found.new ≡ found.old ++ walk (entry_of (entries_of view.now)) most first) }
+    ensures added { OnOk result (found.new ≡ found.old ++ walk (entry_of (entries_of view.now)) most
+        first) }
 {
     let mut left = most;
     let mut at = first;

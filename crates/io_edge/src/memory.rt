@@ -71,7 +71,8 @@ pub(crate) fn copy_file(
     ensures bytes { IfOk result (λ v. bytes_of name.now files.now ≡ Some v.items) }
     ensures never_failed { IsErrOf result LoadFault.Failed → ⊥ }
     ensures absent { IsErrOf result LoadFault.Absent → bytes_of name.now files.now ≡ None }
-    ensures too_long { IsErrOf result LoadFault.TooLong → IsLonger (bytes_of name.now files.now) limit }
+    ensures too_long { IsErrOf result LoadFault.TooLong →
+        IsLonger (bytes_of name.now files.now) limit }
 {
     let Some(bytes) = find(files, name) else {
         return Err(LoadFault::Absent);
@@ -136,9 +137,11 @@ impl Files for MemFiles {
         ensures stays { told_of self.new.files ≡ told_of self.old.files }
         ensures fits { IfOk result (λ v. length v.items ≤ limit) }
         ensures bytes { IfOk result (λ v. bytes_of name.now self.old.files ≡ Some v.items) }
-        ensures failed { IsErrOf result LoadFault.Failed → Rose self.old.plan.faults self.new.plan.faults }
+        ensures failed { IsErrOf result LoadFault.Failed →
+            Rose self.old.plan.faults self.new.plan.faults }
         ensures absent { IsErrOf result LoadFault.Absent → bytes_of name.now self.old.files ≡ None }
-        ensures too_long { IsErrOf result LoadFault.TooLong → IsLonger (bytes_of name.now self.old.files) limit }
+        ensures too_long { IsErrOf result LoadFault.TooLong →
+            IsLonger (bytes_of name.now self.old.files) limit }
         // It fails exactly where the plan says so.
         ensures planned { is_planned self.old.plan ≡ true → IsErrOf result LoadFault.Failed }
         ensures unplanned { is_planned self.old.plan ≡ false → IsErrOf result LoadFault.Failed → ⊥ }
@@ -206,12 +209,14 @@ impl Source for MemSource {
         ensures within { IfOk result (λ n. n ≤ length buffer.old) }
         ensures never_falls { self.old.plan.faults ≤ self.new.plan.faults }
         ensures hands_out { HandsOut (Some self.old.left) (Some self.new.left) result buffer.new }
-        ensures end { IfOk result (λ n. n ≡ 0 → 0 < length buffer.old → IfSome (Some self.old.left) (λ left. left ≡ [])) }
+        ensures end { IfOk result (λ n. n ≡ 0 → 0 < length buffer.old →
+            IfSome (Some self.old.left) (λ left. left ≡ [])) }
         ensures failed { OnErr result (Rose self.old.plan.faults self.new.plan.faults) }
         // It fails exactly where the plan says so, and hands out as much as the room and `most` allow.
         ensures planned { is_err result ≡ is_planned self.old.plan }
         ensures plan { self.new.plan ≡ after_call self.old.plan }
-        ensures most { IfOk result (λ n. n ≡ min (min (length self.old.left) (length buffer.old)) self.old.most) }
+        ensures most { IfOk result (λ n. n ≡ min (min (length self.old.left) (length buffer.old))
+            self.old.most) }
         ensures same_most { self.new.most ≡ self.old.most }
     {
         if self.plan.fails() {
@@ -277,7 +282,8 @@ impl Sink for MemSink {
         ensures within { IfOk result (λ n. n ≤ length piece.now) }
         ensures never_falls { self.old.plan.faults ≤ self.new.plan.faults }
         ensures takes { Takes (Some self.old.bytes) (Some self.new.bytes) result piece.now }
-        ensures nothing_taken { IfOk result (λ n. n ≡ 0 → 0 < length piece.now → Rose self.old.plan.faults self.new.plan.faults) }
+        ensures nothing_taken { IfOk result (λ n. n ≡ 0 → 0 < length piece.now →
+            Rose self.old.plan.faults self.new.plan.faults) }
         ensures failed { OnErr result (Rose self.old.plan.faults self.new.plan.faults) }
         // It fails where the plan says so, and takes as much as `most` allows.
         ensures planned { is_planned self.old.plan ≡ true → IsErr result }

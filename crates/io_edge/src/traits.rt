@@ -44,10 +44,13 @@ pub trait Files {
         ensures never_falls { faults self.old ≤ faults self.new }
         ensures stays { told self.new ≡ told self.old }
         ensures fits { IfOk result (λ v. length v.items ≤ limit) }
-        ensures bytes { IfOk result (λ v. IfSome (told self.old) (λ files. files name.now ≡ Some v.items)) }
-        ensures failed { IsErrOf result LoadFault.Failed → Rose (faults self.old) (faults self.new) }
+        ensures bytes { IfOk result (λ v. IfSome (told self.old)
+            (λ files. files name.now ≡ Some v.items)) }
+        ensures failed { IsErrOf result LoadFault.Failed →
+            Rose (faults self.old) (faults self.new) }
         ensures absent { IsErrOf result LoadFault.Absent → Lacks (told self.old) name.now }
-        ensures too_long { IsErrOf result LoadFault.TooLong → IfSome (told self.old) (λ files. IsLonger (files name.now) limit) };
+        ensures too_long { IsErrOf result LoadFault.TooLong →
+            IfSome (told self.old) (λ files. IsLonger (files name.now) limit) };
 }
 
 /// A stream of bytes that is read.
@@ -68,7 +71,8 @@ pub trait Source {
         ensures within { IfOk result (λ n. n ≤ length buffer.old) }
         ensures never_falls { faults self.old ≤ faults self.new }
         ensures hands_out { HandsOut (told self.old) (told self.new) result buffer.new }
-        ensures end { IfOk result (λ n. n ≡ 0 → 0 < length buffer.old → IfSome (told self.old) (λ left. left ≡ [])) }
+        ensures end { IfOk result (λ n. n ≡ 0 → 0 < length buffer.old →
+            IfSome (told self.old) (λ left. left ≡ [])) }
         ensures failed { OnErr result (Rose (faults self.old) (faults self.new)) };
 }
 
@@ -90,6 +94,7 @@ pub trait Sink {
         ensures within { IfOk result (λ n. n ≤ length piece.now) }
         ensures never_falls { faults self.old ≤ faults self.new }
         ensures takes { Takes (told self.old) (told self.new) result piece.now }
-        ensures nothing_taken { IfOk result (λ n. n ≡ 0 → 0 < length piece.now → Rose (faults self.old) (faults self.new)) }
+        ensures nothing_taken { IfOk result (λ n. n ≡ 0 → 0 < length piece.now →
+            Rose (faults self.old) (faults self.new)) }
         ensures failed { OnErr result (Rose (faults self.old) (faults self.new)) };
 }

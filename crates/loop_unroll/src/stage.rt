@@ -27,7 +27,8 @@ pub(crate) fn stage_of<V: Eq>(graph: &Graph<V>, budget: u32, cells: &[usize]) ->
     requires equality { IsDecided V.eq }
     requires cells { AreCells graph.now.cells cells.now }
     requires earlier { GoesOnTo budget (iterate_of graph.now.cells cells.now) (length cells.now) }
-    ensures stage { IsStage budget (iterate_of graph.now.cells cells.now) (length cells.now) result }
+    ensures stage { IsStage budget (iterate_of graph.now.cells cells.now)
+        (length cells.now) result }
 {
     let count = cells.len();
     if count == 0 {

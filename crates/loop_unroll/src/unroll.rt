@@ -13,7 +13,8 @@ pub fn next_wanted<V: Eq>(graph: &Graph<V>, budget: u32, cells: &[usize]) -> Opt
     requires equality { IsDecided V.eq }
     requires cells { AreCells graph.now.cells cells.now }
     requires earlier { GoesOnTo budget (iterate_of graph.now.cells cells.now) (length cells.now) }
-    ensures none { IsNone result ↔ StopsWithin budget (iterate_of graph.now.cells cells.now) (length cells.now) }
+    ensures none { IsNone result ↔ StopsWithin budget (iterate_of graph.now.cells cells.now)
+        (length cells.now) }
     ensures next { IfSome result (λ n. n ≡ length cells.now) }
 {
     match stage_of(graph, budget, cells) {
@@ -28,7 +29,8 @@ pub fn converged<V: Eq>(graph: &Graph<V>, budget: u32, cells: &[usize]) -> bool
     requires equality { IsDecided V.eq }
     requires cells { AreCells graph.now.cells cells.now }
     requires earlier { GoesOnTo budget (iterate_of graph.now.cells cells.now) (length cells.now) }
-    ensures is { IsTrue result ↔ ConvergesWithin (iterate_of graph.now.cells cells.now) (length cells.now) }
+    ensures is { IsTrue result ↔ ConvergesWithin (iterate_of graph.now.cells cells.now)
+        (length cells.now) }
 {
     matches!(stage_of(graph, budget, cells), Stage::Equal)
 }
@@ -39,7 +41,8 @@ pub fn over<V: Eq>(graph: &Graph<V>, budget: u32, cells: &[usize]) -> bool
     requires equality { IsDecided V.eq }
     requires cells { AreCells graph.now.cells cells.now }
     requires earlier { GoesOnTo budget (iterate_of graph.now.cells cells.now) (length cells.now) }
-    ensures is { IsTrue result ↔ OverrunsWithin budget (iterate_of graph.now.cells cells.now) (length cells.now) }
+    ensures is { IsTrue result ↔ OverrunsWithin budget (iterate_of graph.now.cells cells.now)
+        (length cells.now) }
 {
     matches!(stage_of(graph, budget, cells), Stage::Over | Stage::Spent)
 }

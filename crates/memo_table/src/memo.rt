@@ -67,7 +67,8 @@ impl<S> Memo<S> {
     #[inline]
     pub fn get(&mut self, key: &Key) -> Option<usize>
         ensures value { result ≡ lookup (⟦<Key as PartialEq>⟧.eq key.now) self.old.entries }
-        ensures recent { self.new ≡ lru_cache (promoted (⟦<Key as PartialEq>⟧.eq key.now) self.old.entries) self.old.cap }
+        ensures recent { self.new ≡ lru_cache (promoted (⟦<Key as PartialEq>⟧.eq key.now)
+            self.old.entries) self.old.cap }
         ensures found { FindsResult S self.old.entries key.now result }
         ensures results { LeavesResults S self.old.entries self.new.entries }
     {
@@ -78,9 +79,11 @@ impl<S> Memo<S> {
     /// least recent entry goes. Out of memory changes nothing, and never comes for a key that is there.
     #[inline]
     pub fn keep(&mut self, key: Key, value: usize) -> Result<(), Memory>
-        ensures kept { OnOk result (self.new ≡ lru_cache (put_entries ⟦<Key as PartialEq>⟧.eq self.old key value) self.old.cap) }
+        ensures kept { OnOk result (self.new ≡ lru_cache
+            (put_entries ⟦<Key as PartialEq>⟧.eq self.old key value) self.old.cap) }
         ensures unchanged { OnErr result (self.new ≡ self.old) }
-        ensures known { IsSome (lookup (⟦<Key as PartialEq>⟧.eq key) self.old.entries) → IsOk result }
+        ensures known { IsSome (lookup (⟦<Key as PartialEq>⟧.eq key) self.old.entries) →
+            IsOk result }
         ensures results { AddsResult S self.old.entries key value self.new.entries }
     {
         let _replaced = self.cache.put(key, value)?;

@@ -39,7 +39,8 @@ fn put(line: &mut Vec<u8>, bytes: &[u8]) -> Result<(), Memory>
 /// Adds the number of a byte below 32, as JSON has it.
 fn put_numbered(line: &mut Vec<u8>, byte: u8) -> Result<(), Memory>
     requires { byte < 32 }
-    ensures escaped { OnOk result (line.new.items ≡ line.old.items ++ 92 ∷ 117 ∷ 48 ∷ 48 ∷ digit_char (byte / 16) ∷ digit_char (byte % 16) ∷ []) }
+    ensures escaped { OnOk result (line.new.items ≡ line.old.items ++ 92 ∷ 117 ∷ 48 ∷ 48
+        ∷ digit_char (byte / 16) ∷ digit_char (byte % 16) ∷ []) }
 {
     let digits = [hex_digit(byte / 16), hex_digit(byte % 16)];
     line.extend_from_slice(b"\\u00")?;

@@ -99,7 +99,8 @@ pub(crate) fn location_if_there(
     alloc: Global,
     request: &Value,
 ) -> Result<Option<Option<Location>>, Memory>
-    ensures location { IfOk result (λ location. location ≡ location_if_there (get (codes "at") (view request.now))) }
+    ensures location { IfOk result (λ location. location ≡
+        location_if_there (get (codes "at") (view request.now))) }
 {
     let Some(member) = request.get("at") else {
         return Ok(Some(None));
@@ -176,7 +177,8 @@ fn string_at(alloc: Global, request: &Value) -> Result<Option<Items<StmtId>>, Me
 /// A member that is a list of numbers of statements. It takes time linear in the list, and fails for want of
 /// memory alone.
 pub fn ids_at(alloc: Global, request: &Value, key: &str) -> Result<Option<Items<StmtId>>, Memory>
-    ensures ids { IfOk result (λ ids. ids ≡ option_and_then (list_in (number_in greatest_id)) (get key.now (view request.now))) }
+    ensures ids { IfOk result (λ ids. ids ≡ option_and_then (list_in (number_in greatest_id))
+        (get key.now (view request.now))) }
 {
     let Some(member) = request.get(key) else {
         return Ok(None);
@@ -189,7 +191,8 @@ pub fn ids_at(alloc: Global, request: &Value, key: &str) -> Result<Option<Items<
 
 /// The statements of these numbers, where each is one.
 fn ids_in(alloc: Global, members: &[Value]) -> Result<Option<Items<StmtId>>, Memory>
-    ensures ids { IfOk result (λ ids. ids ≡ items_read (number_in greatest_id) (items_view members.now)) }
+    ensures ids { IfOk result (λ ids. ids ≡ items_read (number_in greatest_id)
+        (items_view members.now)) }
 {
     let mut ids = Items::new(alloc);
     for member in members {
@@ -216,7 +219,8 @@ pub(crate) fn inputs_at(alloc: Global, request: &Value) -> Result<Option<Items<i
 
 /// The integers of these values, where each is one.
 fn integers_in(alloc: Global, members: &[Value]) -> Result<Option<Items<i64>>, Memory>
-    ensures integers { IfOk result (λ integers. integers ≡ items_read integer_in (items_view members.now)) }
+    ensures integers { IfOk result (λ integers. integers ≡
+        items_read integer_in (items_view members.now)) }
 {
     let mut integers = Items::new(alloc);
     for member in members {

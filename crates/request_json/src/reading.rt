@@ -42,7 +42,8 @@ fn or_bad(request: Option<Request>) -> Result<Request, ReadError>
 /// The request that was found, where there is one.
 fn found(request: Result<Option<Request>, Memory>) -> Result<Request, ReadError>
     ensures request { IfOk result (λ found. request ≡ Ok (Some found)) }
-    ensures refused { IfErr result (λ error. (error ≡ ReadError.Memory → ⊥) → (request ≡ Ok None) × (error ≡ ReadError.BadMember)) }
+    ensures refused { IfErr result (λ error. (error ≡ ReadError.Memory → ⊥) → (request ≡ Ok None) ×
+        (error ≡ ReadError.BadMember)) }
 {
     or_bad(request?)
 }
@@ -50,7 +51,8 @@ fn found(request: Result<Option<Request>, Memory>) -> Result<Request, ReadError>
 /// The query, where its call string is not too long.
 fn query_of(alloc: Global, request: &Value) -> Result<Query, ReadError>
     ensures query { IfOk result (λ query. bounded_query (query_at (view request.now)) ≡ Ok query) }
-    ensures refused { IfErr result (λ error. (error ≡ ReadError.Memory → ⊥) → bounded_query (query_at (view request.now)) ≡ Err error) }
+    ensures refused { IfErr result (λ error. (error ≡ ReadError.Memory → ⊥) →
+        bounded_query (query_at (view request.now)) ≡ Err error) }
 {
     allowed(query_at(alloc, request)?)
 }
@@ -186,7 +188,8 @@ fn cancel_at(request: &Value) -> Option<Request>
 #[tactic(auto, unfolding(crate::specs::Requests::verb_request))]
 fn verb_request(alloc: Global, verb: Verb, request: &Value) -> Result<Request, ReadError>
     ensures request { IfOk result (λ found. verb_request verb (view request.now) ≡ Ok found) }
-    ensures refused { IfErr result (λ error. (error ≡ ReadError.Memory → ⊥) → verb_request verb (view request.now) ≡ Err error) }
+    ensures refused { IfErr result (λ error. (error ≡ ReadError.Memory → ⊥) →
+        verb_request verb (view request.now) ≡ Err error) }
 {
     match verb {
         Verb::State => Ok(Request::State(query_of(alloc, request)?)),
@@ -213,8 +216,11 @@ fn verb_request(alloc: Global, verb: Verb, request: &Value) -> Result<Request, R
 
 /// The request of a value.
 fn request_in(alloc: Global, request: &Value) -> Result<Request, ReadError>
-    ensures request { IfOk result (λ found. called_request (view request.now) (text_at (codes "do") (view request.now)) ≡ Ok found) }
-    ensures refused { IfErr result (λ error. (error ≡ ReadError.Memory → ⊥) → called_request (view request.now) (text_at (codes "do") (view request.now)) ≡ Err error) }
+    ensures request { IfOk result (λ found. called_request (view request.now)
+        (text_at (codes "do") (view request.now)) ≡ Ok found) }
+    ensures refused { IfErr result (λ error. (error ≡ ReadError.Memory → ⊥) →
+        called_request (view request.now) (text_at (codes "do") (view request.now)) ≡
+        Err error) }
 {
     let Some(name) = text_at(request, "do") else {
         return Err(ReadError::BadMember);
@@ -249,7 +255,8 @@ pub fn json_of(alloc: Global, line: &[u8]) -> Result<Option<Value>, Memory>
 #[tactic(auto, unfolding(crate::specs::Requests::request_of))]
 pub fn read_request(alloc: Global, line: &[u8]) -> Result<Request, ReadError>
     ensures request { IfOk result (λ request. request_of line.now ≡ Ok request) }
-    ensures refused { IfErr result (λ error. (error ≡ ReadError.Memory → ⊥) → request_of line.now ≡ Err error) }
+    ensures refused { IfErr result (λ error. (error ≡ ReadError.Memory → ⊥) →
+        request_of line.now ≡ Err error) }
 {
     match json_of(alloc, line)? {
         Some(request) => request_in(alloc, &request),

@@ -114,7 +114,8 @@ fn put_text_behind(line: &mut Vec<u8>, words: &[u8], text: &[u8]) -> Result<(), 
 
 /// Adds numbers, each after a comma, and the bracket that closes their list.
 fn put_more_ids(line: &mut Vec<u8>, ids: &[StmtId]) -> Result<(), Memory>
-    ensures list { OnOk result (line.new.items ≡ line.old.items ++ items_text true (items_of count ids.now)) }
+    ensures list { OnOk result (line.new.items ≡ line.old.items ++ items_text true
+        (items_of count ids.now)) }
 {
     for id in ids {
         put_number_behind(line, b",", u64::from(id.number()))?;
@@ -127,7 +128,8 @@ fn put_more_ids(line: &mut Vec<u8>, ids: &[StmtId]) -> Result<(), Memory>
 /// memory alone.
 #[tactic(auto, using(crate::proofs::WritingLemmas::list_text))]
 pub fn put_ids(line: &mut Vec<u8>, ids: &[StmtId]) -> Result<(), Memory>
-    ensures list { OnOk result (line.new.items ≡ line.old.items ++ compact_text (list_of count ids.now)) }
+    ensures list { OnOk result (line.new.items ≡ line.old.items
+        ++ compact_text (list_of count ids.now)) }
 {
     match ids {
         [] => line.extend_from_slice(b"[]")?,
@@ -142,7 +144,8 @@ pub fn put_ids(line: &mut Vec<u8>, ids: &[StmtId]) -> Result<(), Memory>
 /// Adds the check of a statement, with a comma after each field.
 #[tactic(auto, using(crate::proofs::WritingLemmas::check_text))]
 fn put_check(line: &mut Vec<u8>, item: &Finding) -> Result<(), Memory>
-    ensures fields { OnOk result (line.new.items ≡ line.old.items ++ fields_text (check_fields item.now)) }
+    ensures fields { OnOk result (line.new.items ≡ line.old.items
+        ++ fields_text (check_fields item.now)) }
 {
     put_text_behind(line, b"\"check\":", check_word(item.check).as_bytes())?;
     put_number_behind(line, b",\"id\":", u64::from(item.id.number()))?;
@@ -153,7 +156,8 @@ fn put_check(line: &mut Vec<u8>, item: &Finding) -> Result<(), Memory>
 /// Adds the check of a statement, and what is found of it.
 #[tactic(auto, using(crate::proofs::WritingLemmas::item_text))]
 fn put_item(line: &mut Vec<u8>, item: &Finding) -> Result<(), Memory>
-    ensures item { OnOk result (line.new.items ≡ line.old.items ++ compact_text (item_data item.now)) }
+    ensures item { OnOk result (line.new.items ≡ line.old.items
+        ++ compact_text (item_data item.now)) }
 {
     line.push(b'{')?;
     put_check(line, item)?;
@@ -164,7 +168,8 @@ fn put_item(line: &mut Vec<u8>, item: &Finding) -> Result<(), Memory>
 
 /// Adds what is found of one more statement, after a comma.
 fn put_next_item(line: &mut Vec<u8>, item: &Finding) -> Result<(), Memory>
-    ensures item { OnOk result (line.new.items ≡ (line.old.items ++ codes ",") ++ compact_text (item_data item.now)) }
+    ensures item { OnOk result (line.new.items ≡ (line.old.items ++ codes ",")
+        ++ compact_text (item_data item.now)) }
 {
     line.push(b',')?;
     put_item(line, item)
@@ -172,7 +177,8 @@ fn put_next_item(line: &mut Vec<u8>, item: &Finding) -> Result<(), Memory>
 
 /// Adds what is found of statements, each after a comma, and the bracket that closes their list.
 fn put_more_items(line: &mut Vec<u8>, items: &[Finding]) -> Result<(), Memory>
-    ensures list { OnOk result (line.new.items ≡ line.old.items ++ items_text true (items_of item_data items.now)) }
+    ensures list { OnOk result (line.new.items ≡ line.old.items ++ items_text true
+        (items_of item_data items.now)) }
 {
     for item in items {
         put_next_item(line, item)?;
@@ -184,7 +190,8 @@ fn put_more_items(line: &mut Vec<u8>, items: &[Finding]) -> Result<(), Memory>
 /// Adds a list of what is found of statements.
 #[tactic(auto, using(crate::proofs::WritingLemmas::list_text))]
 fn put_items(line: &mut Vec<u8>, items: &[Finding]) -> Result<(), Memory>
-    ensures list { OnOk result (line.new.items ≡ line.old.items ++ compact_text (list_of item_data items.now)) }
+    ensures list { OnOk result (line.new.items ≡ line.old.items
+        ++ compact_text (list_of item_data items.now)) }
 {
     match items {
         [] => line.extend_from_slice(b"[]")?,
@@ -199,7 +206,8 @@ fn put_items(line: &mut Vec<u8>, items: &[Finding]) -> Result<(), Memory>
 
 /// Adds an object with one number, after its key and colon.
 fn put_one(line: &mut Vec<u8>, front: &[u8], number: u64) -> Result<(), Memory>
-    ensures text { OnOk result (line.new.items ≡ ((line.old.items ++ front.now) ++ decimal number) ++ codes "}") }
+    ensures text { OnOk result (line.new.items ≡ ((line.old.items ++ front.now) ++ decimal number)
+        ++ codes "}") }
 {
     put_number_behind(line, front, number)?;
     line.push(b'}')?;
@@ -209,7 +217,8 @@ fn put_one(line: &mut Vec<u8>, front: &[u8], number: u64) -> Result<(), Memory>
 /// Adds which fault ended a run, and where, with a comma after each.
 #[tactic(auto, using(crate::proofs::WritingLemmas::end_fault_text))]
 fn put_end_by_fault(line: &mut Vec<u8>, id: StmtId, fault: FaultKind) -> Result<(), Memory>
-    ensures fields { OnOk result (line.new.items ≡ line.old.items ++ fields_text (end_fields (RunEnd.Fault id fault))) }
+    ensures fields { OnOk result (line.new.items ≡ line.old.items
+        ++ fields_text (end_fields (RunEnd.Fault id fault))) }
 {
     put_text_behind(line, b"\"fault\":", fault_word(fault).as_bytes())?;
     put_number_behind(line, b",\"id\":", u64::from(id.number()))?;
@@ -220,7 +229,8 @@ fn put_end_by_fault(line: &mut Vec<u8>, id: StmtId, fault: FaultKind) -> Result<
 /// Adds where a run found no more inputs, with a comma after.
 #[tactic(auto, using(crate::proofs::WritingLemmas::end_inputs_text))]
 fn put_end_of_inputs(line: &mut Vec<u8>, id: StmtId) -> Result<(), Memory>
-    ensures fields { OnOk result (line.new.items ≡ line.old.items ++ fields_text (end_fields (RunEnd.InputsUsedUp id))) }
+    ensures fields { OnOk result (line.new.items ≡ line.old.items
+        ++ fields_text (end_fields (RunEnd.InputsUsedUp id))) }
 {
     put_number_behind(line, b"\"id\":", u64::from(id.number()))?;
     line.push(b',')?;
@@ -229,7 +239,8 @@ fn put_end_of_inputs(line: &mut Vec<u8>, id: StmtId) -> Result<(), Memory>
 
 /// Adds where a run ended, and by which fault, with a comma after each.
 fn put_end(line: &mut Vec<u8>, end: &RunEnd) -> Result<(), Memory>
-    ensures fields { OnOk result (line.new.items ≡ line.old.items ++ fields_text (end_fields end.now)) }
+    ensures fields { OnOk result (line.new.items ≡ line.old.items
+        ++ fields_text (end_fields end.now)) }
 {
     match end {
         RunEnd::Ended | RunEnd::FuelUsedUp => Ok(()),
@@ -241,7 +252,8 @@ fn put_end(line: &mut Vec<u8>, end: &RunEnd) -> Result<(), Memory>
 /// Adds how often a run stood at the location, with a comma after, where that was counted.
 #[tactic(auto, using(crate::proofs::WritingLemmas::reached_text))]
 fn put_reached(line: &mut Vec<u8>, reached: Option<u64>) -> Result<(), Memory>
-    ensures fields { OnOk result (line.new.items ≡ line.old.items ++ fields_text (reached_fields reached)) }
+    ensures fields { OnOk result (line.new.items ≡ line.old.items
+        ++ fields_text (reached_fields reached)) }
 {
     if let Some(count) = reached {
         put_number_behind(line, b"\"reached\":", count)?;
@@ -253,7 +265,8 @@ fn put_reached(line: &mut Vec<u8>, reached: Option<u64>) -> Result<(), Memory>
 /// Adds the reply of a run.
 #[tactic(auto, using(crate::proofs::WritingLemmas::run_text))]
 fn put_run(line: &mut Vec<u8>, end: &RunEnd, reached: Option<u64>) -> Result<(), Memory>
-    ensures reply { OnOk result (line.new.items ≡ line.old.items ++ compact_text (object_of (reply_fields (Reply.Run end.now reached)))) }
+    ensures reply { OnOk result (line.new.items ≡ line.old.items
+        ++ compact_text (object_of (reply_fields (Reply.Run end.now reached)))) }
 {
     line.push(b'{')?;
     put_end(line, end)?;
@@ -266,7 +279,8 @@ fn put_run(line: &mut Vec<u8>, end: &RunEnd, reached: Option<u64>) -> Result<(),
 /// Adds where a program's fault is, with a comma after each field.
 #[tactic(auto, using(crate::proofs::WritingLemmas::fault_text))]
 fn put_fault(line: &mut Vec<u8>, fault: &ProgramFault) -> Result<(), Memory>
-    ensures fields { OnOk result (line.new.items ≡ line.old.items ++ fields_text (fault_fields fault.now)) }
+    ensures fields { OnOk result (line.new.items ≡ line.old.items
+        ++ fields_text (fault_fields fault.now)) }
 {
     put_number_behind(line, b"\"at\":", u64::from(fault.at.number()))?;
     put_text_behind(line, b",\"name\":", fault.name.as_slice())?;
@@ -278,7 +292,8 @@ fn put_fault(line: &mut Vec<u8>, fault: &ProgramFault) -> Result<(), Memory>
 /// Adds where the cause of a refusal is, with a comma after each field.
 #[tactic(auto, using(crate::proofs::WritingLemmas::unread_text))]
 fn put_place(line: &mut Vec<u8>, refusal: &Refusal) -> Result<(), Memory>
-    ensures fields { OnOk result (line.new.items ≡ line.old.items ++ fields_text (place_fields refusal.now)) }
+    ensures fields { OnOk result (line.new.items ≡ line.old.items
+        ++ fields_text (place_fields refusal.now)) }
 {
     match refusal {
         Refusal::Unread { at, name } => {
@@ -295,7 +310,8 @@ fn put_place(line: &mut Vec<u8>, refusal: &Refusal) -> Result<(), Memory>
 /// Adds a refusal.
 #[tactic(auto, using(crate::proofs::WritingLemmas::refusal_text))]
 fn put_refusal(line: &mut Vec<u8>, refusal: &Refusal) -> Result<(), Memory>
-    ensures reply { OnOk result (line.new.items ≡ line.old.items ++ compact_text (object_of (reply_fields (Reply.Refused refusal.now)))) }
+    ensures reply { OnOk result (line.new.items ≡ line.old.items
+        ++ compact_text (object_of (reply_fields (Reply.Refused refusal.now)))) }
 {
     line.push(b'{')?;
     put_place(line, refusal)?;
@@ -304,7 +320,8 @@ fn put_refusal(line: &mut Vec<u8>, refusal: &Refusal) -> Result<(), Memory>
 
 /// Adds an object with one text, after its key and colon.
 fn put_only(line: &mut Vec<u8>, front: &[u8], text: &[u8]) -> Result<(), Memory>
-    ensures text { OnOk result (line.new.items ≡ ((line.old.items ++ front.now) ++ quoted text.now) ++ codes "}") }
+    ensures text { OnOk result (line.new.items ≡ ((line.old.items ++ front.now) ++ quoted text.now)
+        ++ codes "}") }
 {
     put_text_behind(line, front, text)?;
     line.push(b'}')?;
@@ -314,7 +331,8 @@ fn put_only(line: &mut Vec<u8>, front: &[u8], text: &[u8]) -> Result<(), Memory>
 /// Adds a loop that did not end within the budget.
 #[tactic(auto, using(crate::proofs::WritingLemmas::over_text))]
 fn put_over(line: &mut Vec<u8>, head: StmtId, chain: &Chain) -> Result<(), Memory>
-    ensures reply { OnOk result (line.new.items ≡ line.old.items ++ compact_text (object_of (reply_fields (Reply.Over head chain.now)))) }
+    ensures reply { OnOk result (line.new.items ≡ line.old.items
+        ++ compact_text (object_of (reply_fields (Reply.Over head chain.now)))) }
 {
     line.extend_from_slice(b"{\"chain\":")?;
     put_ids(line, chain.sites())?;
@@ -324,7 +342,8 @@ fn put_over(line: &mut Vec<u8>, head: StmtId, chain: &Chain) -> Result<(), Memor
 /// Adds a report.
 #[tactic(auto, using(crate::proofs::WritingLemmas::report_text))]
 fn put_report(line: &mut Vec<u8>, items: &[Finding]) -> Result<(), Memory>
-    ensures reply { OnOk result (line.new.items ≡ line.old.items ++ compact_text (object_of (reply_fields (Reply.Report items.now)))) }
+    ensures reply { OnOk result (line.new.items ≡ line.old.items
+        ++ compact_text (object_of (reply_fields (Reply.Report items.now)))) }
 {
     line.extend_from_slice(b"{\"report\":")?;
     put_items(line, items)?;
@@ -335,7 +354,8 @@ fn put_report(line: &mut Vec<u8>, items: &[Finding]) -> Result<(), Memory>
 /// Adds how many cells the last query filled, and how many there are.
 #[tactic(auto, using(crate::proofs::WritingLemmas::cost_text))]
 fn put_cost(line: &mut Vec<u8>, cost: u64, kept: u64) -> Result<(), Memory>
-    ensures reply { OnOk result (line.new.items ≡ line.old.items ++ compact_text (object_of (reply_fields (Reply.Cost cost kept)))) }
+    ensures reply { OnOk result (line.new.items ≡ line.old.items
+        ++ compact_text (object_of (reply_fields (Reply.Cost cost kept)))) }
 {
     put_number_behind(line, b"{\"cost\":", cost)?;
     put_one(line, b",\"kept\":", kept)
@@ -344,7 +364,8 @@ fn put_cost(line: &mut Vec<u8>, cost: u64, kept: u64) -> Result<(), Memory>
 /// Adds a program.
 #[tactic(auto, using(crate::proofs::WritingLemmas::program_text))]
 fn put_program(line: &mut Vec<u8>, next: u32, text: &[u8]) -> Result<(), Memory>
-    ensures reply { OnOk result (line.new.items ≡ line.old.items ++ compact_text (object_of (reply_fields (Reply.Program next text.now)))) }
+    ensures reply { OnOk result (line.new.items ≡ line.old.items
+        ++ compact_text (object_of (reply_fields (Reply.Program next text.now)))) }
 {
     put_number_behind(line, b"{\"next\":", u64::from(next))?;
     put_only(line, b",\"program\":", text)
@@ -353,7 +374,8 @@ fn put_program(line: &mut Vec<u8>, next: u32, text: &[u8]) -> Result<(), Memory>
 /// Adds the statements that a state depends on.
 #[tactic(auto, using(crate::proofs::WritingLemmas::why_text))]
 fn put_why(line: &mut Vec<u8>, ids: &[StmtId]) -> Result<(), Memory>
-    ensures reply { OnOk result (line.new.items ≡ line.old.items ++ compact_text (object_of (reply_fields (Reply.Why ids.now)))) }
+    ensures reply { OnOk result (line.new.items ≡ line.old.items
+        ++ compact_text (object_of (reply_fields (Reply.Why ids.now)))) }
 {
     line.extend_from_slice(b"{\"why\":")?;
     put_ids(line, ids)?;
@@ -364,7 +386,8 @@ fn put_why(line: &mut Vec<u8>, ids: &[StmtId]) -> Result<(), Memory>
 /// Adds a reply.
 #[tactic(auto, using(crate::proofs::WritingLemmas::state_text, crate::proofs::WritingLemmas::listing_text, crate::proofs::WritingLemmas::next_text, crate::proofs::WritingLemmas::ticket_text, crate::proofs::WritingLemmas::pending_text, crate::proofs::WritingLemmas::cancelled_text))]
 fn put_reply(line: &mut Vec<u8>, reply: &Reply) -> Result<(), Memory>
-    ensures reply { OnOk result (line.new.items ≡ line.old.items ++ compact_text (object_of (reply_fields reply.now))) }
+    ensures reply { OnOk result (line.new.items ≡ line.old.items
+        ++ compact_text (object_of (reply_fields reply.now))) }
 {
     match reply {
         Reply::State(text) => put_only(line, b"{\"state\":", text.as_slice()),

@@ -43,8 +43,10 @@ const MOST_TEXT: usize = 1 << 30;
 /// when memory runs out, also where the text has more than 2^30 bytes.
 pub fn replace_of(alloc: Global, id: StmtId, text: &[u8], next: u32) -> Result<Edit, TextError>
     requires low { next ≤ 1000001 }
-    ensures made { IfOk result (λ e. (readings : Readings) → replace_of readings next id text.now ≡ Ok e) }
-    ensures refused { IfErr result (λ e. (readings : Readings) → IsTextError (replace_of readings next id text.now) e) }
+    ensures made { IfOk result (λ e. (readings : Readings) →
+        replace_of readings next id text.now ≡ Ok e) }
+    ensures refused { IfErr result (λ e. (readings : Readings) →
+        IsTextError (replace_of readings next id text.now) e) }
     ensures continues { IfOk result (λ e. Continues e next) }
 {
     if text.len() > MOST_TEXT {
@@ -64,8 +66,10 @@ pub fn replace_of(alloc: Global, id: StmtId, text: &[u8], next: u32) -> Result<E
 /// As [`replace_of`], of a text of statements.
 pub fn insert_of(alloc: Global, place: Place, text: &[u8], next: u32) -> Result<Edit, TextError>
     requires low { next ≤ 1000001 }
-    ensures made { IfOk result (λ e. (readings : Readings) → insert_of readings next place text.now ≡ Ok e) }
-    ensures refused { IfErr result (λ e. (readings : Readings) → IsTextError (insert_of readings next place text.now) e) }
+    ensures made { IfOk result (λ e. (readings : Readings) →
+        insert_of readings next place text.now ≡ Ok e) }
+    ensures refused { IfErr result (λ e. (readings : Readings) →
+        IsTextError (insert_of readings next place text.now) e) }
     ensures continues { IfOk result (λ e. Continues e next) }
 {
     if text.len() > MOST_TEXT {
@@ -85,7 +89,8 @@ pub fn insert_of(alloc: Global, place: Place, text: &[u8], next: u32) -> Result<
 /// As [`replace_of`], of a text of a condition.
 pub fn guard_of(alloc: Global, id: StmtId, text: &[u8]) -> Result<Edit, TextError>
     ensures made { IfOk result (λ e. (readings : Readings) → guard_of readings id text.now ≡ Ok e) }
-    ensures refused { IfErr result (λ e. (readings : Readings) → IsTextError (guard_of readings id text.now) e) }
+    ensures refused { IfErr result (λ e. (readings : Readings) →
+        IsTextError (guard_of readings id text.now) e) }
     ensures continues { (next : ℕ) → IfOk result (λ e. Continues e next) }
 {
     if text.len() > MOST_TEXT {
@@ -105,8 +110,10 @@ pub fn guard_of(alloc: Global, id: StmtId, text: &[u8]) -> Result<Edit, TextErro
 /// As [`replace_of`], of a text of a procedure.
 pub fn add_of(alloc: Global, before: Text, text: &[u8], next: u32) -> Result<Edit, TextError>
     requires low { next ≤ 1000001 }
-    ensures made { IfOk result (λ e. (readings : Readings) → add_of readings next before text.now ≡ Ok e) }
-    ensures refused { IfErr result (λ e. (readings : Readings) → IsTextError (add_of readings next before text.now) e) }
+    ensures made { IfOk result (λ e. (readings : Readings) →
+        add_of readings next before text.now ≡ Ok e) }
+    ensures refused { IfErr result (λ e. (readings : Readings) →
+        IsTextError (add_of readings next before text.now) e) }
     ensures continues { IfOk result (λ e. Continues e next) }
 {
     if text.len() > MOST_TEXT {

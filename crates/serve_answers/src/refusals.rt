@@ -78,7 +78,8 @@ fn procedure_edited(alloc: Global, table: &Table, edit: &Edit) -> Result<Text, M
 
 /// The limit of statement numbers, at the procedure that an edit changes.
 fn numbers_refusal(alloc: Global, table: &Table, edit: &Edit) -> Result<Refusal, Memory>
-    ensures refusal { IfOk result (λ r. r ≡ refusal_of table.now.program edit.now EditError.Numbers) }
+    ensures refusal { IfOk result (λ r. r ≡ refusal_of table.now.program edit.now
+        EditError.Numbers) }
 {
     Ok(Refusal::Limit(ProgramFault {
         at: StmtId::new(0),

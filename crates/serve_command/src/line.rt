@@ -48,35 +48,41 @@ fn word_of<'a>(alloc: Global, name: &'a str) -> Arg<'a>
 /// The command with one more argument.
 fn with_argument<'a>(command: Made<'a>, argument: Arg<'a>) -> Made<'a>
     requires local { argument.global ≡ false }
-    ensures makes { (app : App) → Makes command.entry app → Makes result (with_rule app (rule_of argument.entry)) }
+    ensures makes { (app : App) → Makes command.entry app →
+        Makes result (with_rule app (rule_of argument.entry)) }
 {
     command?.arg(argument)
 }
 
 /// The command with one more option.
 fn with_option<'a>(alloc: Global, command: Made<'a>, name: &'a str, default: &'a str) -> Made<'a>
-    ensures makes { (app : App) → Makes command.entry app → Makes result (with_rule app (option_of name.entry.now default.entry.now)) }
+    ensures makes { (app : App) → Makes command.entry app →
+        Makes result (with_rule app (option_of name.entry.now default.entry.now)) }
 {
     with_argument(command, option_of(alloc, name, default))
 }
 
 /// The command with one more option that has to be there.
 fn with_needed<'a>(alloc: Global, command: Made<'a>, name: &'a str) -> Made<'a>
-    ensures makes { (app : App) → Makes command.entry app → Makes result (with_rule app (needed_of name.entry.now)) }
+    ensures makes { (app : App) → Makes command.entry app →
+        Makes result (with_rule app (needed_of name.entry.now)) }
 {
     with_argument(command, needed_of(alloc, name))
 }
 
 /// The command with one more word that has to be there.
 fn with_word<'a>(alloc: Global, command: Made<'a>, name: &'a str) -> Made<'a>
-    ensures makes { (app : App) → Makes command.entry app → Makes result (with_rule app (word_of name.entry.now)) }
+    ensures makes { (app : App) → Makes command.entry app →
+        Makes result (with_rule app (word_of name.entry.now)) }
 {
     with_argument(command, word_of(alloc, name))
 }
 
 /// The command of this name, with the options that say how a program is analysed.
 fn with_settings<'a>(alloc: Global, name: &'a str) -> Made<'a>
-    ensures makes { Makes result (with_rule (with_rule (with_rule (with_rule (new_app name.entry.now) domain_rule) widening_rule) delay_rule) budget_rule) }
+    ensures makes { Makes result (with_rule (with_rule (with_rule
+        (with_rule (new_app name.entry.now) domain_rule) widening_rule) delay_rule)
+        budget_rule) }
 {
     let command = Ok(Command::new(alloc, name));
     let command = with_option(alloc, command, "domain", "interval");
@@ -124,14 +130,16 @@ fn verifies<'a>(alloc: Global) -> Made<'a>
 
 /// The command with this one below it.
 fn with_below<'a>(command: Made<'a>, below: Command<'a>) -> Made<'a>
-    ensures makes { (app : App) → (fields_of below.entry).has_globals ≡ false → Makes command.entry app → Makes result (with_subcommand app (shape_of below.entry)) }
+    ensures makes { (app : App) → (fields_of below.entry).has_globals ≡ false →
+        Makes command.entry app → Makes result (with_subcommand app (shape_of below.entry)) }
 {
     command?.subcommand(below)
 }
 
 /// The command with one more below it, as far as both are made.
 fn with_command<'a>(command: Made<'a>, below: Made<'a>) -> Made<'a>
-    ensures makes { (app : App) (shape : Shape) → Makes command.entry app → Makes below.entry (alone shape) → Makes result (with_subcommand app shape) }
+    ensures makes { (app : App) (shape : Shape) → Makes command.entry app →
+        Makes below.entry (alone shape) → Makes result (with_subcommand app shape) }
 {
     with_below(command, below?)
 }

@@ -33,7 +33,8 @@ fn value_at<'a>(matches: &ArgMatches<'a>, name: &str) -> Option<&'a str>
 
 /// The number that is the value of an option, where it is within the bounds.
 fn long_number_at(matches: &ArgMatches<'_>, name: &str, least: u64, most: u64) -> Option<u64>
-    ensures number { result ≡ value_in (number_in least most) name.now (rows_of (found_of matches.now)) }
+    ensures number { result ≡ value_in (number_in least most) name.now
+        (rows_of (found_of matches.now)) }
     ensures within { IfSome result (λ n. n ≤ most) }
 {
     match value_at(matches, name) {
@@ -44,7 +45,8 @@ fn long_number_at(matches: &ArgMatches<'_>, name: &str, least: u64, most: u64) -
 
 /// The same for bounds of 32 bits.
 fn number_at(matches: &ArgMatches<'_>, name: &str, least: u32, most: u32) -> Option<u32>
-    ensures number { result ≡ value_in (number_in least most) name.now (rows_of (found_of matches.now)) }
+    ensures number { result ≡ value_in (number_in least most) name.now
+        (rows_of (found_of matches.now)) }
 {
     match long_number_at(matches, name, least as u64, most as u64) {
         Some(number) => Some(number as u32),
@@ -74,7 +76,8 @@ fn single_at(matches: &ArgMatches<'_>) -> Option<SingleDomain>
 
 /// Whether the numbers of a procedure are the thresholds of widening.
 fn thresholds_at(matches: &ArgMatches<'_>) -> Option<bool>
-    ensures thresholds { result ≡ value_in thresholds_of (codes "widening") (rows_of (found_of matches.now)) }
+    ensures thresholds { result ≡ value_in thresholds_of (codes "widening")
+        (rows_of (found_of matches.now)) }
 {
     match value_at(matches, "widening") {
         Some(text) => thresholds_of(text),
@@ -231,9 +234,12 @@ fn job_at(alloc: Global, name: &str, matches: &ArgMatches<'_>) -> Result<Option<
 
 /// What the commands take of the words.
 fn matches_of<'a>(alloc: Global, words: &'a [String]) -> Result<ArgMatches<'a>, WordsError>
-    ensures taken { IfOk result (λ matches. fault_of daig_app (map string_bytes words.entry.now) ≡ []) }
-    ensures rows { IfOk result (λ matches. subcommand_rows_of matches ≡ subcommand_of daig_app (map string_bytes words.entry.now)) }
-    ensures refused { IfErr result (λ error. error ≡ WordsError.Refused → is_empty (fault_of daig_app (map string_bytes words.entry.now)) ≡ false) }
+    ensures taken { IfOk result (λ matches. fault_of daig_app (map string_bytes words.entry.now) ≡
+        []) }
+    ensures rows { IfOk result (λ matches. subcommand_rows_of matches ≡
+        subcommand_of daig_app (map string_bytes words.entry.now)) }
+    ensures refused { IfErr result (λ error. error ≡ WordsError.Refused →
+        is_empty (fault_of daig_app (map string_bytes words.entry.now)) ≡ false) }
 {
     match daig(alloc)?.try_get_matches_from(words) {
         Ok(matches) => Ok(matches),
@@ -246,7 +252,8 @@ fn matches_of<'a>(alloc: Global, words: &'a [String]) -> Result<ArgMatches<'a>, 
 
 /// The job of the command that was met.
 fn job_met(alloc: Global, matches: &ArgMatches<'_>) -> Result<Option<Job>, Memory>
-    ensures job { IfOk result (λ job. job ≡ option_and_then job_in (subcommand_rows_of matches.now)) }
+    ensures job { IfOk result (λ job. job ≡ option_and_then job_in
+        (subcommand_rows_of matches.now)) }
 {
     match matches.subcommand() {
         Some((name, found)) => job_at(alloc, name, found),
@@ -261,7 +268,8 @@ fn job_met(alloc: Global, matches: &ArgMatches<'_>) -> Result<Option<Job>, Memor
 #[tactic(auto, unfolding(crate::specs::Jobs::job_of))]
 pub fn read_words(alloc: Global, words: &[String]) -> Result<Job, WordsError>
     ensures job { IfOk result (λ job. job_of (map string_bytes words.now) ≡ Some job) }
-    ensures refused { IfErr result (λ error. error ≡ WordsError.Refused → job_of (map string_bytes words.now) ≡ None) }
+    ensures refused { IfErr result (λ error. error ≡ WordsError.Refused →
+        job_of (map string_bytes words.now) ≡ None) }
 {
     let matches = matches_of(alloc, words)?;
     match job_met(alloc, &matches)? {

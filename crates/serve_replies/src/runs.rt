@@ -33,7 +33,8 @@ fn run_reply(
     at: Option<&Location>,
 ) -> Result<Reply, Memory>
     requires few { length routines.now < 2 ^ 32 }
-    ensures reply { IfOk result (λ reply. reply ≡ run_reply routines.now inputs.now fuel (option_copied at.entry)) }
+    ensures reply { IfOk result (λ reply. reply ≡ run_reply routines.now inputs.now fuel
+        (option_copied at.entry)) }
 {
     let outcome = run(alloc, routines, inputs, u64::from(fuel), at)?;
     Ok(Reply::Run {
@@ -53,7 +54,8 @@ pub fn asked_run(
 ) -> Result<Reply, Memory>
     requires same { routines.now ≡ routines_of program.now }
     requires few { length routines.now < 2 ^ 32 }
-    ensures reply { IfOk result (λ reply. reply ≡ asked_run routines.now inputs.now fuel (option_copied at.entry)) }
+    ensures reply { IfOk result (λ reply. reply ≡ asked_run routines.now inputs.now fuel
+        (option_copied at.entry)) }
 {
     match at {
         None => run_reply(alloc, routines, inputs, fuel, None),

@@ -18,7 +18,8 @@ use std::alloc::Global;
 /// The variables of the procedure of a location, where the program has the location.
 #[tactic(auto, using(crate::proofs::Layouts::layout_is))]
 fn layout_found<'a>(program: &View<'a>, at: &Location) -> Option<&'a Layout>
-    ensures layout { option_copied result ≡ layout_found (routines_of program.now) (procedure_of (routines_of program.now) at.now) }
+    ensures layout { option_copied result ≡ layout_found (routines_of program.now)
+        (procedure_of (routines_of program.now) at.now) }
 {
     match place_of(program, at) {
         Ok(proc) => program.layout(proc),
@@ -33,7 +34,8 @@ fn layout_text<D: Domain>(
     layout: Option<&Layout>,
     state: &D::State,
 ) -> Result<Text, Memory>
-    ensures text { IfOk result (λ text. text ≡ (D.operations dom.now).text (layout_or_none (option_copied layout.entry)) state.now) }
+    ensures text { IfOk result (λ text. text ≡ (D.operations dom.now).text
+        (layout_or_none (option_copied layout.entry)) state.now) }
 {
     match layout {
         Some(layout) => dom.text(alloc, layout, state),
@@ -52,7 +54,8 @@ pub fn state_reply<D: Domain>(
     at: &Location,
     state: &D::State,
 ) -> Result<Reply, Memory>
-    ensures reply { IfOk result (λ reply. reply ≡ value_reply (D.operations dom.now) (layout_at (routines_of program.now) at.now) (State state.now)) }
+    ensures reply { IfOk result (λ reply. reply ≡ value_reply (D.operations dom.now)
+        (layout_at (routines_of program.now) at.now) (State state.now)) }
 {
     let text = layout_text(alloc, dom, layout_found(program, at), state)?;
     Ok(Reply::State(text))

@@ -103,7 +103,8 @@ fn set_mark<T: Eq + Hash>(states: &mut IndexMap<T, usize, NumberHashing>, place:
 #[inline]
 fn mark_of<T: Eq + Hash>(states: &IndexMap<T, usize, NumberHashing>, place: usize) -> usize
     requires there { place < index_map_len states.now }
-    ensures is { (s : T) (mark : ℕ) → slice_get states.now.entries place ≡ Some (s, mark) → result ≡ mark }
+    ensures is { (s : T) (mark : ℕ) → slice_get states.now.entries place ≡ Some (s, mark) →
+        result ≡ mark }
 {
     match states.get_index(place) {
         Some((_, mark)) => *mark,
@@ -144,7 +145,7 @@ fn keep_marked<T: Eq + Hash + Drop>(states: &mut IndexMap<T, usize, NumberHashin
 {
     states.retain(
         |_state: &T, mark: &mut usize| -> bool
-            ensures { (result ≡ is_mark mark.old) × (mark.new ≡ mark.old) }
+            ensures is { (result ≡ is_mark mark.old) × (mark.new ≡ mark.old) }
         { *mark > 0 },
     );
 }

@@ -85,9 +85,11 @@ impl<T: Eq + Hash + Drop> StateTable<T> {
     #[inline]
     pub fn find(&self, state: &T) -> Option<usize>
         ensures number { result ≡ position (T.eq state.now) self.now }
-        ensures same { TellsApart T.eq → IfSome result (λ n. slice_get self.now n ≡ Some state.now) }
+        ensures same { TellsApart T.eq → IfSome result (λ n. slice_get self.now n ≡
+            Some state.now) }
         ensures small { IfSome result (λ n. n < 2 ^ 63) }
-        ensures found { (n : ℕ) (s : T) → slice_get self.now n ≡ Some s → T.eq state.now s ≡ true → result ≡ Some n }
+        ensures found { (n : ℕ) (s : T) → slice_get self.now n ≡ Some s → T.eq state.now s ≡ true →
+            result ≡ Some n }
     {
         let _states = self.states.len();
         self.states.get_index_of(state)

@@ -41,7 +41,8 @@ pub(crate) struct Setup<'a> {
 
 /// A session with a program.
 fn started<D: Domain + Drop>(alloc: Global, domain: D, setup: Setup<'_>) -> Result<Session<D>, Fail>
-    ensures ready { IfOk result (λ s. IsReady (D.operations s.engine.domain) s.engine.store s.book) }
+    ensures ready { IfOk result (λ s. IsReady (D.operations s.engine.domain) s.engine.store
+        s.book) }
 {
     if setup.memo == 0 {
         return Err("no memo".into());
@@ -70,8 +71,10 @@ fn play<D: Domain, L: Ledger>(
     line: Line<'_>,
     steps: &mut Steps<L>,
 ) -> Result<String, Fail>
-    requires ready { IsReady (D.operations session.old.engine.domain) session.old.engine.store session.old.book }
-    ensures ready { IfOk result (λ _. IsReady (D.operations session.new.engine.domain) session.new.engine.store session.new.book) }
+    requires ready { IsReady (D.operations session.old.engine.domain) session.old.engine.store
+        session.old.book }
+    ensures ready { IfOk result (λ _. IsReady (D.operations session.new.engine.domain)
+        session.new.engine.store session.new.book) }
 {
     match line {
         Line::After(stmt) => queried(alloc, session, &Location::After(StmtId::new(stmt)), steps),
@@ -92,7 +95,8 @@ fn lines<D: Domain, L: Ledger>(
     script: &[Line<'_>],
     steps: &mut Steps<L>,
 ) -> Result<String, Fail>
-    requires ready { IsReady (D.operations session.old.engine.domain) session.old.engine.store session.old.book }
+    requires ready { IsReady (D.operations session.old.engine.domain) session.old.engine.store
+        session.old.book }
 {
     let mut all = String::new(alloc);
     for next in script {
@@ -113,7 +117,8 @@ fn counted<D: Domain, L: Ledger>(
     requires name { blank.name ≡ L.name }
     requires parts { blank.parts ≡ L.parts }
     requires some { 0 < blank.parts }
-    requires ready { IsReady (D.operations session.old.engine.domain) session.old.engine.store session.old.book }
+    requires ready { IsReady (D.operations session.old.engine.domain) session.old.engine.store
+        session.old.book }
 {
     let mut steps = Steps::<L>::new(blank);
     lines(alloc, session, script, &mut steps)

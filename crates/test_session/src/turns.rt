@@ -49,8 +49,10 @@ pub(crate) fn queried<D: Domain, L: Ledger>(
     at: &Location,
     steps: &mut Steps<L>,
 ) -> Result<String, Fail>
-    requires ready { IsReady (D.operations session.old.engine.domain) session.old.engine.store session.old.book }
-    ensures ready { IfOk result (λ _. IsReady (D.operations session.new.engine.domain) session.new.engine.store session.new.book) }
+    requires ready { IsReady (D.operations session.old.engine.domain) session.old.engine.store
+        session.old.book }
+    ensures ready { IfOk result (λ _. IsReady (D.operations session.new.engine.domain)
+        session.new.engine.store session.new.book) }
 {
     match session.query(alloc, at, &[], steps) {
         Ok(value) => answered(alloc, session, proc_at(session.program(), at), &value),
@@ -66,8 +68,10 @@ pub(crate) fn queried_twice<D: Domain, L: Ledger>(
     at: &Location,
     steps: &mut Steps<L>,
 ) -> Result<String, Fail>
-    requires ready { IsReady (D.operations session.old.engine.domain) session.old.engine.store session.old.book }
-    ensures ready { IfOk result (λ _. IsReady (D.operations session.new.engine.domain) session.new.engine.store session.new.book) }
+    requires ready { IsReady (D.operations session.old.engine.domain) session.old.engine.store
+        session.old.book }
+    ensures ready { IfOk result (λ _. IsReady (D.operations session.new.engine.domain)
+        session.new.engine.store session.new.book) }
 {
     let first = queried(alloc, session, at, steps)?;
     let none = session.cost();
@@ -83,8 +87,10 @@ pub(crate) fn asked<D: Domain>(
     session: &mut Session<D>,
     at: Location,
 ) -> Result<String, Fail>
-    requires ready { IsReady (D.operations session.old.engine.domain) session.old.engine.store session.old.book }
-    ensures ready { IfOk result (λ _. IsReady (D.operations session.new.engine.domain) session.new.engine.store session.new.book) }
+    requires ready { IsReady (D.operations session.old.engine.domain) session.old.engine.store
+        session.old.book }
+    ensures ready { IfOk result (λ _. IsReady (D.operations session.new.engine.domain)
+        session.new.engine.store session.new.book) }
 {
     if session.next_ticket() > 1000 {
         return Err("many tickets".into());
@@ -103,8 +109,10 @@ pub(crate) fn stepped<D: Domain, L: Ledger>(
     most: u32,
     steps: &mut Steps<L>,
 ) -> Result<String, Fail>
-    requires ready { IsReady (D.operations session.old.engine.domain) session.old.engine.store session.old.book }
-    ensures ready { IfOk result (λ _. IsReady (D.operations session.new.engine.domain) session.new.engine.store session.new.book) }
+    requires ready { IsReady (D.operations session.old.engine.domain) session.old.engine.store
+        session.old.book }
+    ensures ready { IfOk result (λ _. IsReady (D.operations session.new.engine.domain)
+        session.new.engine.store session.new.book) }
 {
     let proc = match session.ticket_at(ticket) {
         Some(at) => proc_at(session.program(), at),
@@ -129,9 +137,11 @@ fn refusal_text(alloc: Global, why: EditError) -> Result<String, Fail> {
 
 /// Makes an edit.
 fn edited<D: Domain>(alloc: Global, session: &mut Session<D>, edit: &Edit) -> Result<String, Fail>
-    requires ready { IsReady (D.operations session.old.engine.domain) session.old.engine.store session.old.book }
+    requires ready { IsReady (D.operations session.old.engine.domain) session.old.engine.store
+        session.old.book }
     requires continues { Continues edit.now session.old.book.next }
-    ensures ready { IfOk result (λ _. IsReady (D.operations session.new.engine.domain) session.new.engine.store session.new.book) }
+    ensures ready { IfOk result (λ _. IsReady (D.operations session.new.engine.domain)
+        session.new.engine.store session.new.book) }
 {
     match session.prepare(alloc, edit) {
         Ok(prepared) => {
@@ -150,8 +160,10 @@ pub(crate) fn replaced<D: Domain>(
     stmt: u32,
     text: &str,
 ) -> Result<String, Fail>
-    requires ready { IsReady (D.operations session.old.engine.domain) session.old.engine.store session.old.book }
-    ensures ready { IfOk result (λ _. IsReady (D.operations session.new.engine.domain) session.new.engine.store session.new.book) }
+    requires ready { IsReady (D.operations session.old.engine.domain) session.old.engine.store
+        session.old.book }
+    ensures ready { IfOk result (λ _. IsReady (D.operations session.new.engine.domain)
+        session.new.engine.store session.new.book) }
 {
     let edit = replacement(alloc, stmt, text, session.next())?;
     edited(alloc, session, &edit)

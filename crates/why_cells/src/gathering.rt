@@ -35,8 +35,10 @@ fn look<V>(
     requires there { IsSome (map.get graph.now.cells cell) }
     requires set { IsSetOf cells.old.items seen.old }
     ensures set { OnOk result (IsSetOf cells.new.items seen.new) }
-    ensures joins { (f : Filled V) → map.get graph.now.cells cell ≡ Some f → OnOk result (Joins cells.old.items f.inputs cells.new.items) }
-    ensures inputs { (f : Filled V) → map.get graph.now.cells cell ≡ Some f → AreCells graph.now.cells f.inputs }
+    ensures joins { (f : Filled V) → map.get graph.now.cells cell ≡ Some f →
+        OnOk result (Joins cells.old.items f.inputs cells.new.items) }
+    ensures inputs { (f : Filled V) → map.get graph.now.cells cell ≡ Some f →
+        AreCells graph.now.cells f.inputs }
 {
     match graph.inputs(cell) {
         Some(inputs) => add_all(cells, seen, inputs),

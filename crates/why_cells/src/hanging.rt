@@ -101,7 +101,8 @@ fn pointed(names: &Names, name: &Name) -> Option<u32>
 fn row_of<'a>(flow: &'a Flow<'_>, names: &Names, name: &Name) -> Option<Row<'a>>
     requires there { name.now.path < length names.now.paths }
     ensures is { option_map (row_in (path_at names.now.paths name.now.path)) result ≡
-        flat_row flow.now.engine (reverse flow.now.program) (path_at names.now.paths name.now.path) name.now.point }
+        flat_row flow.now.engine (reverse flow.now.program) (path_at names.now.paths name.now.path)
+        name.now.point }
 {
     flow.row(last_frame(names, name.path), name.point)
 }
@@ -123,7 +124,8 @@ fn is_effect(row: &Row<'_>) -> bool
 #[tactic(auto, using(crate::proofs::Hung::live_some, crate::proofs::Hung::live_none))]
 fn is_live<D: Domain>(engine: &Engine<D>, cell: usize) -> bool
     requires there { (v : PlainValue D.State) × (value_in engine.now.store cell ≡ Some v) }
-    ensures is { (v : PlainValue D.State) → value_in engine.now.store cell ≡ Some v → result ≡ is_live (D.operations engine.now.domain) v }
+    ensures is { (v : PlainValue D.State) → value_in engine.now.store cell ≡ Some v →
+        result ≡ is_live (D.operations engine.now.domain) v }
 {
     match engine.state(cell) {
         Some(state) => !engine.domain().dead(state),
@@ -133,7 +135,8 @@ fn is_live<D: Domain>(engine: &Engine<D>, cell: usize) -> bool
 
 /// The first input of a cell.
 fn first_input<V>(graph: &Graph<V>, cell: usize) -> Option<usize>
-    ensures is { (f : Filled V) → map.get graph.now.cells cell ≡ Some f → result ≡ slice_get f.inputs 0 }
+    ensures is { (f : Filled V) → map.get graph.now.cells cell ≡ Some f →
+        result ≡ slice_get f.inputs 0 }
     ensures there { IfSome result (λ n. IsSome (map.get graph.now.cells n)) }
 {
     match graph.inputs(cell) {
@@ -148,9 +151,14 @@ fn first_input<V>(graph: &Graph<V>, cell: usize) -> Option<usize>
 /// Whether the value before a cell after a simple statement, which is no break, is a state that is not a dead one.
 fn is_live_in_front<D: Domain>(engine: &Engine<D>, flow: &Flow<'_>, cell: usize) -> bool
     requires right { IsRight (D.operations engine.now.domain) flow.now engine.now.store }
-    requires there { (x : CellName) × (r : PlainRow) × IsCellAt engine.now.store cell x × (flat_row flow.now.engine (reverse flow.now.program) x.path x.point ≡ Some r) × (is_effect r ≡ true) }
-    ensures is { (x : CellName) (r : PlainRow) → IsCellAt engine.now.store cell x → flat_row flow.now.engine (reverse flow.now.program) x.path x.point ≡ Some r → is_effect r ≡ true →
-        result ≡ matters (D.operations engine.now.domain) (found (D.operations engine.now.domain) flow.now) r }
+    requires there { (x : CellName) × (r : PlainRow) × IsCellAt engine.now.store cell x ×
+        (flat_row flow.now.engine (reverse flow.now.program) x.path x.point ≡ Some r) ×
+        (is_effect r ≡ true) }
+    ensures is { (x : CellName) (r : PlainRow) → IsCellAt engine.now.store cell x →
+        flat_row flow.now.engine (reverse flow.now.program) x.path x.point ≡ Some r →
+        is_effect r ≡ true →
+        result ≡ matters (D.operations engine.now.domain)
+        (found (D.operations engine.now.domain) flow.now) r }
 {
     match first_input(engine.graph(), cell) {
         Some(first) => is_live(engine, first),
@@ -162,9 +170,14 @@ fn is_live_in_front<D: Domain>(engine: &Engine<D>, flow: &Flow<'_>, cell: usize)
 #[tactic(auto, using(crate::proofs::Hung::other_matters))]
 fn matters<D: Domain>(engine: &Engine<D>, flow: &Flow<'_>, cell: usize, row: &Row<'_>) -> bool
     requires right { IsRight (D.operations engine.now.domain) flow.now engine.now.store }
-    requires there { (x : CellName) × IsCellAt engine.now.store cell x × (flat_row flow.now.engine (reverse flow.now.program) x.path x.point ≡ Some (row_in x.path row.now)) }
-    ensures is { (x : CellName) → IsCellAt engine.now.store cell x → flat_row flow.now.engine (reverse flow.now.program) x.path x.point ≡ Some (row_in x.path row.now) →
-        result ≡ matters (D.operations engine.now.domain) (found (D.operations engine.now.domain) flow.now) (row_in x.path row.now) }
+    requires there { (x : CellName) × IsCellAt engine.now.store cell x ×
+        (flat_row flow.now.engine (reverse flow.now.program) x.path x.point ≡
+        Some (row_in x.path row.now)) }
+    ensures is { (x : CellName) → IsCellAt engine.now.store cell x →
+        flat_row flow.now.engine (reverse flow.now.program) x.path x.point ≡
+        Some (row_in x.path row.now) →
+        result ≡ matters (D.operations engine.now.domain)
+        (found (D.operations engine.now.domain) flow.now) (row_in x.path row.now) }
 {
     if !is_effect(row) {
         return true;
@@ -189,7 +202,8 @@ fn is_simple(form: &SlotForm) -> bool
 /// Whether the row after a statement is that of a simple one, which is no break. It makes no row.
 #[tactic(auto, using(crate::proofs::Simple::behind_none, crate::proofs::Simple::behind_some))]
 fn is_behind_simple(flow: &Flow<'_>, stmt: StmtId) -> bool
-    ensures is { (w : List PathFrame) → result ≡ is_effect_at (flat_row flow.now.engine (reverse flow.now.program) w (Post stmt)) }
+    ensures is { (w : List PathFrame) → result ≡ is_effect_at
+        (flat_row flow.now.engine (reverse flow.now.program) w (Post stmt)) }
 {
     let prog = flow.program();
     prog.procs();
@@ -201,7 +215,8 @@ fn is_behind_simple(flow: &Flow<'_>, stmt: StmtId) -> bool
 
 /// Whether a point is one after a simple statement, which is no break.
 fn is_effect_point(flow: &Flow<'_>, point: Point) -> bool
-    ensures is { result ≡ true → (w : List PathFrame) → is_effect_at (flat_row flow.now.engine (reverse flow.now.program) w point) ≡ true }
+    ensures is { result ≡ true → (w : List PathFrame) → is_effect_at
+        (flat_row flow.now.engine (reverse flow.now.program) w point) ≡ true }
 {
     match point {
         Point::Post(stmt) => is_behind_simple(flow, stmt),
@@ -212,10 +227,13 @@ fn is_effect_point(flow: &Flow<'_>, point: Point) -> bool
 /// Whether the name of a cell hangs on the statement that it names. After a simple statement its row is not needed.
 fn hangs<D: Domain>(engine: &Engine<D>, flow: &Flow<'_>, cell: usize, name: &Name) -> bool
     requires right { IsRight (D.operations engine.now.domain) flow.now engine.now.store }
-    requires there { IsCellAt engine.now.store cell (name_in engine.now.store.names.paths name.now) }
+    requires there { IsCellAt engine.now.store cell (name_in engine.now.store.names.paths
+        name.now) }
     requires path { name.now.path < length engine.now.store.names.paths }
-    ensures is { result ≡ hangs (D.operations engine.now.domain) (found (D.operations engine.now.domain) flow.now)
-        (flat_row flow.now.engine (reverse flow.now.program) (path_at engine.now.store.names.paths name.now.path) name.now.point) }
+    ensures is { result ≡ hangs (D.operations engine.now.domain)
+        (found (D.operations engine.now.domain) flow.now)
+        (flat_row flow.now.engine (reverse flow.now.program)
+        (path_at engine.now.store.names.paths name.now.path) name.now.point) }
 {
     if is_effect_point(flow, name.point) {
         return is_live_in_front(engine, flow, cell);
@@ -235,10 +253,13 @@ fn hung_on<D: Domain>(
 ) -> Option<u32>
     requires right { IsRight (D.operations engine.now.domain) flow.now engine.now.store }
     requires there { IsSome (map.get engine.now.store.graph.cells cell) }
-    ensures only { (x : CellName) (n : ℕ) → slice_get engine.now.store.names.names cell ≡ Some x → result ≡ Some n →
-        Contains (hung_on (D.operations engine.now.domain) flow.now.engine flow.now.program same_name x (flat_row flow.now.engine (reverse flow.now.program) x.path x.point)) n }
+    ensures only { (x : CellName) (n : ℕ) → slice_get engine.now.store.names.names cell ≡ Some x →
+        result ≡ Some n →
+        Contains (hung_on (D.operations engine.now.domain) flow.now.engine flow.now.program
+        same_name x (flat_row flow.now.engine (reverse flow.now.program) x.path x.point)) n }
     ensures each { (x : CellName) (n : ℕ) → slice_get engine.now.store.names.names cell ≡ Some x →
-        Contains (hung_on (D.operations engine.now.domain) flow.now.engine flow.now.program same_name x (flat_row flow.now.engine (reverse flow.now.program) x.path x.point)) n →
+        Contains (hung_on (D.operations engine.now.domain) flow.now.engine flow.now.program
+        same_name x (flat_row flow.now.engine (reverse flow.now.program) x.path x.point)) n →
         (result ≡ Some n) ⊎ Contains told.now n }
 {
     let names = engine.names();
@@ -273,7 +294,8 @@ pub(crate) fn all_hung<D: Domain>(
     requires right { IsRight (D.operations engine.now.domain) flow.now engine.now.store }
     requires there { AreCells engine.now.store.graph.cells cells.now }
     ensures are { (xs : List CellName) → AreNumbers engine.now.store.names.names cells.now xs →
-        IfOk result (λ ns. SameItems ns.items (all_hung (D.operations engine.now.domain) flow.now.engine flow.now.program same_name xs)) }
+        IfOk result (λ ns. SameItems ns.items (all_hung (D.operations engine.now.domain)
+        flow.now.engine flow.now.program same_name xs)) }
 {
     let mut told = NumberSet::new(alloc);
     let mut hung = Vec::new(alloc);

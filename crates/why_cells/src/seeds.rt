@@ -18,7 +18,8 @@ fn add_fix(
 ) -> Result<(), Memory>
     requires there { before < length names.now.paths }
     ensures adds { AllNamed names.now.names (fix_of frame (path_at names.now.paths before)) →
-        OnOk result ((ns : List ℕ) × (cells.new.items ≡ cells.old.items ++ ns) × AreNumbers names.now.names ns (fix_of frame (path_at names.now.paths before))) }
+        OnOk result ((ns : List ℕ) × (cells.new.items ≡ cells.old.items ++ ns) ×
+        AreNumbers names.now.names ns (fix_of frame (path_at names.now.paths before))) }
 {
     match frame {
         NameFrame::InCall(_) => Ok(()),
@@ -42,7 +43,8 @@ fn add_fix(
 fn add_fixes(names: &Names, path: PathId, cells: &mut Vec<usize>) -> Result<(), Memory>
     requires there { path < length names.now.paths }
     ensures adds { AllNamed names.now.names (fixes (path_at names.now.paths path)) →
-        OnOk result ((ns : List ℕ) × (cells.new.items ≡ cells.old.items ++ ns) × AreNumbers names.now.names ns (fixes (path_at names.now.paths path))) }
+        OnOk result ((ns : List ℕ) × (cells.new.items ≡ cells.old.items ++ ns) ×
+        AreNumbers names.now.names ns (fixes (path_at names.now.paths path))) }
 {
     let mut rest = path;
     while let Some((before, frame)) = names.last_frame(rest) {
@@ -59,7 +61,8 @@ pub(crate) fn with_fixes(
     found: &[usize],
 ) -> Result<Vec<usize>, Memory>
     requires within { (i n : ℕ) → slice_get found.now i ≡ Some n → n < length names.now.names }
-    ensures are { (xs : List CellName) → AreNumbers names.now.names found.now xs → AllNamed names.now.names (with_fixes xs) →
+    ensures are { (xs : List CellName) → AreNumbers names.now.names found.now xs →
+        AllNamed names.now.names (with_fixes xs) →
         IfOk result (λ cells. AreNumbers names.now.names cells.items (with_fixes xs)) }
 {
     let mut cells = Vec::new(alloc);

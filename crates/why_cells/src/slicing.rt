@@ -32,9 +32,15 @@ pub fn upstream<D: Domain>(
     string: &[u32],
     walk: &Walk,
 ) -> Result<Items<StmtId>, Memory>
-    requires filled { (p : ℕ) × (ts : List PlainTarget) × (procedure_of flow.now.program at.now ≡ In p) × (targets flow.now.program p at.now string.now ≡ Some ts) × AreFilled (D.operations engine.now.domain) engine.now.store walk.now flow.now ts }
-    ensures is { (p : ℕ) (ts : List PlainTarget) → procedure_of flow.now.program at.now ≡ In p → targets flow.now.program p at.now string.now ≡ Some ts → AreFilled (D.operations engine.now.domain) engine.now.store walk.now flow.now ts →
-        IfOk result (λ stmts. stmts ≡ upstream (D.operations engine.now.domain) flow.now.engine flow.now.program same_name at.now string.now p ts) }
+    requires filled { (p : ℕ) × (ts : List PlainTarget) ×
+        (procedure_of flow.now.program at.now ≡ In p) ×
+        (targets flow.now.program p at.now string.now ≡ Some ts) ×
+        AreFilled (D.operations engine.now.domain) engine.now.store walk.now flow.now ts }
+    ensures is { (p : ℕ) (ts : List PlainTarget) → procedure_of flow.now.program at.now ≡ In p →
+        targets flow.now.program p at.now string.now ≡ Some ts →
+        AreFilled (D.operations engine.now.domain) engine.now.store walk.now flow.now ts →
+        IfOk result (λ stmts. stmts ≡ upstream (D.operations engine.now.domain) flow.now.engine
+        flow.now.program same_name at.now string.now p ts) }
 {
     let chains = call_chains::targets(alloc, flow.program(), at, string)?;
     let seeds = with_fixes(alloc, engine.names(), walk.found())?;

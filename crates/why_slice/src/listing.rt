@@ -32,7 +32,8 @@ fn put_sites(stmts: &mut StatementSet, chain: &Chain) -> Result<(), Memory>
 
 /// Puts the call sites of chains among the others.
 fn put_chains(stmts: &mut StatementSet, chains: &[Chain]) -> Result<(), Memory>
-    ensures put { OnOk result (stmts.new ≡ fold (insert_key nat_cmp) stmts.old (all_of chains.now)) }
+    ensures put { OnOk result (stmts.new ≡ fold (insert_key nat_cmp) stmts.old
+        (all_of chains.now)) }
 {
     for chain in chains {
         put_sites(stmts, chain)?;
@@ -42,7 +43,8 @@ fn put_chains(stmts: &mut StatementSet, chains: &[Chain]) -> Result<(), Memory>
 
 /// Puts the statement that a location names among the others.
 fn put_place(stmts: &mut StatementSet, at: &Location) -> Result<(), Memory>
-    ensures put { OnOk result (stmts.new ≡ fold (insert_key nat_cmp) stmts.old (listed (statement_at at.now))) }
+    ensures put { OnOk result (stmts.new ≡ fold (insert_key nat_cmp) stmts.old
+        (listed (statement_at at.now))) }
 {
     match at {
         Location::Before(stmt) | Location::After(stmt) | Location::Head(stmt) => {
@@ -65,7 +67,8 @@ pub fn upstream(
     chains: &[Chain],
     hung: &[u32],
 ) -> Result<Items<StmtId>, Memory>
-    ensures is { IfOk result (λ stmts. stmts ≡ sorted_once (listed (statement_at at.now) ++ (all_of chains.now ++ hung.now))) }
+    ensures is { IfOk result (λ stmts. stmts ≡ sorted_once
+        (listed (statement_at at.now) ++ (all_of chains.now ++ hung.now))) }
 {
     let mut stmts = StatementSet::new(alloc);
     put_place(&mut stmts, at)?;
