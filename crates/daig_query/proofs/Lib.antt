@@ -20,6 +20,7 @@ pub mod Stacked
 pub mod Running
 pub mod Turns
 pub mod Starting
+pub mod Rows
 pub mod Tops
 pub mod Turning
 pub mod Demands

@@ -28,7 +28,7 @@ use Rattle.cell_graph.specs.Named.{AreNumbers}
 use Rattle.daig_query.specs.Kept.{Cells, kept, Names}
 use Rattle.cell_graph.specs.Asked.{inputs}
 use Rattle.daig_query.specs.Right.{IsRight}
-use Rattle.daig_query.specs.Opened.{name_of, IsRowOf, IsOpen, next_of, IsAt, IsNext, Looks}
+use Rattle.daig_query.specs.Opened.{name_of, IsRowOf, IsOpen, next_of, IsAt, IsFurther, IsNext}
 use Rattle.cell_graph.proofs.Same.{same_is}
 use Rattle.daig_query.proofs.Growing.{keeps_same, keeps_trans, names_grow, name_stays, right_named, open_grows, next_grows}
 use Rattle.cell_graph.proofs.Numbers.{adds_here, adds_keeps, adds_once, filled_number, numbers_push, at_member}
@@ -134,6 +134,23 @@ module _ {S : Type 0} (dom : Operations S) (plan : Plan) where
       long : length (o.inputs ++ cell ∷ []) ≡ suc (length o.inputs)
       long = length-append o.inputs (cell ∷ []) ∙ (let e : length o.inputs + 1 ≡ suc (length o.inputs) = omega arith in e)
 
+  -- a name that is being filled stays so where names are added
+  pub at_named : (old new : Store S) → IsRight dom plan new → Names old new → (row : Row) (o : Open) → IsAt dom plan old row o → IsAt dom plan new row o
+  at_named old new right names row o at = record {
+    right = right;
+    entry = open_grows dom plan old new (names_grow old new names) o at.entry;
+    its_row = subst (λ z. IsRowOf plan z row) (sym (name_stays old new names.paths o at.entry.path)) at.its_row;
+  }
+
+  -- it is further then, after more of its inputs were found
+  pub further : (old new : Store S) → IsRight dom plan new → Names old new → (row : Row) (start o : Open) → o.cell ≡ start.cell → o.name ≡ start.name → IsAt dom plan old row o →
+      (inputs_now : List ℕ) → inputs_now ≡ o.inputs → IsFurther dom plan new row start (record { cell = o.cell; name = o.name; inputs = inputs_now })
+  further old new right names row start o c n at inputs_now same = record {
+    at = subst (λ xs. IsAt dom plan new row (record { cell = o.cell; name = o.name; inputs = xs })) (sym same) (at_named old new right names row o at);
+    cell = c;
+    name = n;
+  }
+
   module _ (old new : Store S) (right : IsRight dom plan old) (y : CellName) (x : Name) (cell : ℕ) (named : Named old new y x cell) where
     pub later : IsRight dom plan new
     later = right_named dom plan old new right named.names named.once
@@ -171,13 +188,8 @@ module _ {S : Type 0} (dom : Operations S) (plan : Plan) where
       has = input_named old right (name_of old o) y at.entry.named (at_member (inputs dom plan (name_of old o)) (length o.inputs) y next)
 
       -- the next input has no cell
-      pub looks : (start : Open) → o.cell ≡ start.cell → o.name ≡ start.name → (u : Open) → u ≡ record { cell = cell; name = x; inputs = [] } → get new.graph.cells cell ≡ None → Looks dom plan new row start o (Some u)
-      looks start c n u e none = record {
-        at = at_later;
-        cell = c;
-        name = n;
-        next = subst (λ v. IsNext dom plan new o (Some v)) (sym e) (next_later ∙ ap Some (sym named.is), fresh has, is_absent none);
-      }
+      pub finds : get new.graph.cells cell ≡ None → IsNext dom plan new o (Some (record { cell = cell; name = x; inputs = [] }))
+      finds none = (next_later ∙ ap Some (sym named.is), fresh has, is_absent none)
 
       -- the next input has one
       pub more : (m : Open) → m.cell ≡ o.cell → m.name ≡ o.name → m.inputs ≡ o.inputs ++ cell ∷ [] → IsSome (get new.graph.cells cell) → IsAt dom plan new row m

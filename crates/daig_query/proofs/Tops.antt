@@ -1,5 +1,5 @@
 -- A turn at the name on top of a stack.
-use Rattle.std.proofs.Common.{◌≡◌, ℕ, suc, ◌+◌, ◌<◌, ◌⊎◌, ◌||◌, false, List, [], ◌∷◌, ◌++◌, length, Option, Some, None, IsSome, is_some, slice_get, refl, sym, ap, subst, ◌∙◌, inl, inr, arith, length-append}
+use Rattle.std.proofs.Common.{◌≡◌, ℕ, suc, ◌+◌, ◌<◌, ◌⊎◌, ◌||◌, false, List, [], ◌∷◌, ◌++◌, length, Some, None, IsSome, is_some, slice_get, refl, sym, ap, subst, ◌∙◌, inl, inr, arith, length-append}
 use Rattle.std.specs.FinMap.{get, len}
 use Rattle.std.proofs.lemmas.List.{map-append}
 use Rattle.std.proofs.lemmas.Option.{slice_get_within}
@@ -21,7 +21,7 @@ use Rattle.daig_query.specs.declared.store.Store.{Store}
 use Rattle.daig_query.specs.declared.walk.Walk.{Walk}
 use Rattle.daig_query.specs.Kept.{kept, Grows, Names}
 use Rattle.daig_query.specs.Right.{IsRight}
-use Rattle.daig_query.specs.Opened.{name_of, next_of, row_at, IsOpen, Looks, Puts}
+use Rattle.daig_query.specs.Opened.{name_of, next_of, row_at, IsOpen, IsFurther, IsNext, Puts}
 use Rattle.daig_query.specs.Turned.{stacked_names, AreKept, HandsDown, Pushes, FillsTop, Waits}
 use Rattle.daig_query.specs.Walked.{AreStacked, IsPlaced, IsGood, place_of}
 use Rattle.daig_query.proofs.Growing.{few_trans, names_few, names_grow, grows_trans, kept_same, name_stays, open_grows, next_grows}
@@ -137,16 +137,13 @@ module _ {S : Type 0} (dom : Operations S) (plan : Plan) where
       stacked = subst (λ k. AreStacked dom plan store k new.stack.items) (sym (place_same dom plan ts store w new target step path)) stacked;
     }
 
-    -- Before a turn the top is taken off; it is looked at in a store with more names.
-    module _ (old mid : Store S) (w : Walk) (top : Open) (right : IsRight dom plan old) (later : IsRight dom plan mid) (names : Names old mid) (placed : IsPlaced dom plan ts old w) (stacked : AreStacked dom plan old (place_of ts old w) (w.stack.items ++ top ∷ [])) where
+    -- In a turn the name on top of others is looked at in a store with more names.
+    module _ (old mid : Store S) (w : Walk) (os : List Open) (top : Open) (right : IsRight dom plan old) (later : IsRight dom plan mid) (names : Names old mid) (placed : IsPlaced dom plan ts old w) (stacked : AreStacked dom plan old (place_of ts old w) (os ++ top ∷ [])) where
       abbrev grows : Grows old mid
       grows = names_grow old mid names
 
       placed_mid : IsPlaced dom plan ts mid w
       placed_mid = placed_grows dom plan ts old mid w later grows placed
-
-      abbrev os : List Open
-      os = w.stack.items
 
       stacked_mid : AreStacked dom plan mid (place_of ts mid w) (os ++ top ∷ [])
       stacked_mid = stacked_with_names ts old mid w (os ++ top ∷ []) grows placed stacked
@@ -167,15 +164,15 @@ module _ {S : Type 0} (dom : Operations S) (plan : Plan) where
       rest_names : (new : Store S) → Grows old new → stacked_names new os ≡ stacked_names old os
       rest_names new more = names_stay old new more os within
 
-      module _ (row : Row) (entry : Open) (found : Option Open) (looks : Looks dom plan mid row top entry found) where
+      module _ (row : Row) (entry : Open) (further : IsFurther dom plan mid row top entry) where
         pub same_name_mid : name_of mid entry ≡ name_of old top
-        same_name_mid = ap (λ (n : _). name_of mid (record top { name = n })) looks.name ∙ name_stays old mid grows.paths top top_open.path
+        same_name_mid = ap (λ (n : _). name_of mid (record top { name = n })) further.name ∙ name_stays old mid grows.paths top top_open.path
 
         same_top : name_of mid entry ≡ name_of mid top
-        same_top = ap (λ (n : _). name_of mid (record top { name = n })) looks.name
+        same_top = ap (λ (n : _). name_of mid (record top { name = n })) further.name
 
         stacked_entry : AreStacked dom plan mid (place_of ts mid w) (os ++ entry ∷ [])
-        stacked_entry = stacked_again mid (place_of ts mid w) os top entry same_top looks.at.entry stacked_mid
+        stacked_entry = stacked_again mid (place_of ts mid w) os top entry same_top further.at.entry stacked_mid
 
         -- with it
         pub good_entry : (new : Walk) → new.target ≡ w.target → new.step ≡ w.step → new.path ≡ w.path → new.found.items ≡ w.found.items → new.stack.items ≡ os ++ entry ∷ [] → IsGood dom plan ts mid new
@@ -191,7 +188,7 @@ module _ {S : Type 0} (dom : Operations S) (plan : Plan) where
         split = map-append (name_of old) os (top ∷ [])
 
         ready_mid : next_of dom plan mid entry ≡ None → AreKept mid (inputs dom plan (name_of old top))
-        ready_mid none = subst (λ x. AreKept mid (inputs dom plan x)) same_name_mid (open_ready dom plan mid later entry looks.at.entry none)
+        ready_mid none = subst (λ x. AreKept mid (inputs dom plan x)) same_name_mid (open_ready dom plan mid later entry further.at.entry none)
 
         -- it waits
         pub waits_top : (new : Walk) → next_of dom plan mid entry ≡ None → new.stack.items ≡ os ++ entry ∷ [] → Waits dom plan ts old mid (stacked_names old (os ++ top ∷ [])) new
@@ -212,7 +209,7 @@ module _ {S : Type 0} (dom : Operations S) (plan : Plan) where
             stacked_new = stacked_with_names ts mid new w os puts.grows placed_mid stacked_rest
 
             number : slice_get new.names.names entry.cell ≡ Some (name_of mid entry)
-            number = puts.grows.names entry.cell (name_of mid entry) looks.at.entry.number
+            number = puts.grows.names entry.cell (name_of mid entry) further.at.entry.number
 
             there : IsSome (get new.graph.cells entry.cell)
             there =
@@ -256,18 +253,18 @@ module _ {S : Type 0} (dom : Operations S) (plan : Plan) where
         pub absent_mid : kept old (name_of old top) ≡ false → kept mid (name_of mid entry) ≡ false
         absent_mid h = ap (kept mid) same_name_mid ∙ (kept_same dom plan old mid right names later.once (name_of old top) ∙ h)
 
-      module _ (row : Row) (entry u : Open) (looks : Looks dom plan mid row top entry (Some u)) where
+      module _ (row : Row) (entry u : Open) (further : IsFurther dom plan mid row top entry) (next : IsNext dom plan mid entry (Some u)) where
         -- its next input is pushed on it
         pub good_pushed : (new : Walk) → new.target ≡ w.target → new.step ≡ w.step → new.path ≡ w.path → new.found.items ≡ w.found.items → new.stack.items ≡ (os ++ entry ∷ []) ++ u ∷ [] → IsGood dom plan ts mid new
         good_pushed new target step path found stack =
             good_with mid w new target step path found placed_mid (
-            subst (AreStacked dom plan mid (place_of ts mid w)) (sym stack) (stacked_push mid (place_of ts mid w) os entry u looks.next.1 looks.next.0 (stacked_entry row entry (Some u) looks))
+            subst (AreStacked dom plan mid (place_of ts mid w)) (sym stack) (stacked_push mid (place_of ts mid w) os entry u next.1 next.0 (stacked_entry row entry further))
             )
 
         pub pushes_top : (new : Walk) → new.stack.items ≡ (os ++ entry ∷ []) ++ u ∷ [] → Pushes old mid (stacked_names old (os ++ top ∷ [])) new
         pushes_top new stack = record {
           top = name_of mid u;
-          names = ap (stacked_names mid) stack ∙ (map-append (name_of mid) (os ++ entry ∷ []) (u ∷ []) ∙ ap (λ xs. xs ++ name_of mid u ∷ []) (entry_names row entry (Some u) looks));
-          absent = looks.next.2;
+          names = ap (stacked_names mid) stack ∙ (map-append (name_of mid) (os ++ entry ∷ []) (u ∷ []) ∙ ap (λ xs. xs ++ name_of mid u ∷ []) (entry_names row entry further));
+          absent = next.2;
           only = names;
         }

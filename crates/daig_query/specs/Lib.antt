@@ -5,6 +5,7 @@ pub mod Made
 pub mod Recalled
 pub mod Overs
 pub mod Opened
+pub mod Rowed
 pub mod Walked
 pub mod Filled
 pub mod Turned

@@ -1,5 +1,5 @@
 -- Names that are being filled.
-use Rattle.std.specs.Prelude.{◌≡◌, suc, ◌<◌, ◌≤◌, ◌||◌, false, length, take, Option, Some, None, slice_get, reverse}
+use Rattle.std.specs.Prelude.{◌≡◌, suc, ◌<◌, ◌≤◌, ◌||◌, false, [], length, take, Option, Some, None, slice_get, reverse}
 use Rattle.std.specs.FinMap.{len}
 use Rattle.domain_laws.specs.Operations.{Operations}
 use Rattle.cell_names.specs.Known.{KeepsNumbers}
@@ -11,6 +11,7 @@ use Rattle.daig_graph.specs.Cells.{AreCells}
 use Rattle.imp_flow_rows.specs.Near.{row_in}
 use Rattle.imp_flow.specs.Plans.{Plan}
 use Rattle.imp_flow_rows.specs.declared.row.Row.{Row}
+use Rattle.daig_query.specs.declared.opening.Absent.{Absent}
 use Rattle.daig_query.specs.declared.opening.Open.{Open}
 use Rattle.daig_query.specs.declared.store.Store.{Store}
 use Rattle.cell_graph.specs.Same.{same_name}
@@ -22,6 +23,10 @@ use Rattle.daig_query.specs.Right.{IsRight}
 -- the name
 abbrev pub name_of : {S : Type 0} → Store S → Open → CellName
 name_of store o = name_in store.names.paths o.name
+
+-- a name none of whose inputs is found
+abbrev pub unfound : Absent → Open
+unfound a = record { cell = a.cell; name = a.name; inputs = [] }
 
 -- the row of a name, and that a row is the one
 abbrev pub row_at : Plan → CellName → Option plain.Row
@@ -68,12 +73,11 @@ module _ {S : Type 0} (dom : Operations S) (plan : Plan) where
   IsNext store o None = next_of store o ≡ None
   IsNext store o (Some u) = (next_of store o ≡ Some (name_of store u)) × IsOpen store u × (kept store (name_of store u) ≡ false)
 
-  -- the same name with more of its inputs found, and the next one
-  pub record Looks (store : Store S) (row : Row) (old new : Open) (found : Option Open) : Type 0 where
+  -- the same name with more of its inputs found
+  pub record IsFurther (store : Store S) (row : Row) (old new : Open) : Type 0 where
     pub at : IsAt store row new
     pub cell : new.cell ≡ old.cell
     pub name : new.name ≡ old.name
-    pub next : IsNext store new found
 
   -- one cell more
   pub record Puts (old new : Store S) (x : CellName) : Type 0 where

@@ -108,9 +108,13 @@ pub record Drops (cells : Cells) (old new : Walk) : Type 0 where
   pub top : (rest : List Open) (o : Open) → new.stack.items ≡ rest ++ o ∷ [] → get cells o.cell ≡ None
 
 module _ {S : Type 0} (dom : Operations S) (plan : Plan) where
+  -- all these names are being filled
+  abbrev pub AreOpen : Store S → List Open → Type 0
+  AreOpen store stack = (i : ℕ) (o : Open) → slice_get stack i ≡ Some o → IsOpen dom plan store o
+
   -- The names that are being filled, the last on top: the name that is asked for, and of each the next input.
   pub record AreStacked (store : Store S) (k : law.Walk) (stack : List Open) : Type 0 where
-    pub opens : (i : ℕ) (o : Open) → slice_get stack i ≡ Some o → IsOpen dom plan store o
+    pub opens : AreOpen store stack
     pub bottom : (o : Open) → slice_get stack 0 ≡ Some o → asks k ≡ Some (name_of store o)
     pub chained : (i : ℕ) (o u : Open) → slice_get stack i ≡ Some o → slice_get stack (suc i) ≡ Some u → next_of dom plan store o ≡ Some (name_of store u)
 

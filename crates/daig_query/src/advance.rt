@@ -1,21 +1,25 @@
 //! Filling the missing cells of a demand, for the clauses of `advance` and `demand`.
-ghost use Rattle.std.specs.Prelude.{◌≡◌, ◌+◌, ◌*◌, ◌<◌, ◌≤◌, ◌↔◌, ◌⊎◌, [], ◌∷◌, ◌++◌, Some, true, false, suc, length, map, min, IfOk, IfErr, IfSome, IsTrue, OnErr, OnOk};
+ghost use Rattle.std.specs.Prelude.{◌≡◌, ◌≢◌, ◌+◌, ◌*◌, ◌<◌, ◌≤◌, ◌↔◌, [], ◌∷◌, ◌++◌, Some, None, true, false, suc, length, map, min, vec_len, IfOk, IfErr, IfSome, IsTrue, OnErr, OnOk};
+ghost use Rattle.cell_names.specs.Paths.{name_in};
 ghost use Rattle.cell_rows.specs.Targets.{Target as PlainTarget};
 ghost use Rattle.imp_flow.specs.Reached.{target_of};
-ghost use Rattle.daig_query.specs.Kept.{kept, AddsNoCell, Grows, Names as OnlyNames};
+ghost use Rattle.daig_query.specs.Kept.{AddsNoCell, Grows, Names as OnlyNames};
 ghost use Rattle.daig_query.specs.Right.{IsRight};
-ghost use Rattle.daig_query.specs.Opened.{name_of};
-ghost use Rattle.daig_query.specs.Walked.{AreStacked, AreTargets, IsDone, IsGood, IsPlaced, place_of};
+ghost use Rattle.daig_query.specs.Opened.{row_at};
+ghost use Rattle.daig_query.specs.Rowed.{AreRowsOnTop, HasFurtherTop, IsTopAt, KeepsRow, LooksAtTop};
+ghost use Rattle.daig_query.specs.Walked.{AreOpen, AreTargets, IsDone, IsGood, IsPlaced};
 ghost use Rattle.daig_query.specs.Filled.{cells_added, missing, Fills};
 ghost use Rattle.daig_query.specs.Turned.{fills_of, stacked_names, HandsDown, IsTopAbsent, Obeys, Turns};
 
 use crate::engine::Engine;
-use crate::opening::{Open, fill, next_absent, row_of};
+use crate::opening::{Absent, Open, fill, next_absent, opened, row_of};
 use crate::store::Store;
 use crate::walk::{Walk, next_demanded};
 use base_values::Memory;
+use cell_names::{Name, Names};
 use domain_laws::{Domain, Steps};
 use imp_flow::{Flow, Target};
+use imp_flow_rows::Row;
 use std::alloc::Global;
 use std::sync::ledger::Ledger;
 
@@ -81,88 +85,107 @@ fn hand_down(stack: &mut Vec<Open>, cell: usize)
     }
 }
 
-/// A name goes on the stack, and the next of its inputs on top of it.
-#[inline]
-fn push_both(stack: &mut Vec<Open>, entry: Open, input: Open) -> Result<(), Memory>
-    ensures pushed { OnOk result (stack.new.items ≡ (stack.old.items ++ entry ∷ []) ++ input ∷ []) }
-    ensures err { OnErr result ((stack.new.items ≡ stack.old.items) ⊎
-        (stack.new.items ≡ stack.old.items ++ entry ∷ [])) }
+/// Keeps the row of a name, on top of those that are kept.
+fn keep_row<'a>(
+    flow: &'a Flow<'_>,
+    names: &Names,
+    name: &Name,
+    rows: &mut Vec<Row<'a>>,
+) -> Result<(), Memory>
+    requires there { name.now.path < length names.now.paths }
+    requires has_row { row_at flow.now (name_in names.now.paths name.now) ≢ None }
+    ensures keeps { OnOk result (KeepsRow flow.now (name_in names.now.paths name.now) rows.old.items
+        rows.new.items) }
 {
-    stack.push(entry)?;
-    stack.push(input)?;
+    let Some(row) = row_of(flow, names, name) else {
+        unreachable!()
+    };
+    rows.push(row)?;
     Ok(())
 }
 
-/// With a name on top of the stack, which is taken off: its first missing input is pushed on it, or it is filled, and
-/// handed down.
+/// Keeps the row of the name on top, where no row is kept.
 #[inline]
-fn turn_open<D: Domain, L: Ledger>(
-    alloc: Global,
+fn keep_top_row<'a, D: Domain>(
     dom: &D,
-    flow: &Flow<'_>,
-    store: &mut Store<D::State>,
-    targets: &[Target],
-    walk: &mut Walk,
-    top: Open,
-    spent: bool,
-    steps: &mut Steps<L>,
-) -> Result<AdvanceResult, Memory>
-    requires right { IsRight (D.operations dom.now) flow.now store.old }
-    requires placed { IsPlaced (D.operations dom.now) flow.now (map target_of targets.now) store.old
-        walk.old }
-    requires stacked { AreStacked (D.operations dom.now) flow.now store.old
-        (place_of (map target_of targets.now) store.old walk.old)
-        (walk.old.stack.items ++ top ∷ []) }
-    requires absent { kept store.old (name_of store.old top) ≡ false }
-    ensures right { IsRight (D.operations dom.now) flow.now store.new }
-    ensures grows { Grows store.old store.new }
-    ensures walk { IsGood (D.operations dom.now) flow.now (map target_of targets.now) store.new
-        walk.new }
-    ensures turns { IfOk result (Turns (D.operations dom.now) flow.now
-        (map target_of targets.now) store.old store.new
-        (stacked_names store.old (walk.old.stack.items ++ top ∷ [])) walk.new) }
-    ensures obeys { IfOk result (Obeys spent) }
-    ensures err { OnErr result (AddsNoCell store.old store.new) }
-    ensures least { steps.old ≤ steps.new }
-    ensures ticked { IfOk result (λ turn. steps.new ≤ steps.old + D.counted dom.now
-        * fills_of turn) }
-    ensures most { steps.new ≤ steps.old + D.counted dom.now }
+    flow: &'a Flow<'_>,
+    store: &Store<D::State>,
+    walk: &Walk,
+    rows: &mut Vec<Row<'a>>,
+) -> Result<(), Memory>
+    requires right { IsRight (D.operations dom.now) flow.now store.now }
+    requires opens { AreOpen (D.operations dom.now) flow.now store.now walk.now.stack.items }
+    requires some { 0 < vec_len walk.now.stack }
+    requires rows { AreRowsOnTop flow.now (stacked_names store.now walk.now.stack.items)
+        rows.old.items }
+    ensures rows { OnOk result (AreRowsOnTop flow.now (stacked_names store.now walk.now.stack.items)
+        rows.new.items) }
+    ensures some { OnOk result (0 < vec_len rows.new) }
 {
-    let mut entry = top;
-    let Some(row) = row_of(flow, &store.names, &entry.name) else {
-        unreachable!()
-    };
-    if let Some(input) = next_absent(alloc, dom, flow, store, &row, &mut entry)? {
-        push_both(&mut walk.stack, entry, input)?;
-        return Ok(AdvanceResult::Pushed);
+    if rows.is_empty() {
+        let top = &walk.stack[walk.stack.len() - 1];
+        return keep_row(flow, &store.names, &top.name, rows);
     }
-    if spent {
-        walk.stack.push(entry)?;
-        return Ok(AdvanceResult::Spent);
-    }
-    let cell = entry.cell;
-    fill(alloc, dom, flow, store, &row, entry, steps)?;
-    hand_down(&mut walk.stack, cell);
-    Ok(AdvanceResult::Filled)
+    Ok(())
 }
 
-/// A turn of the machine. Where `spent`, nothing is filled.
+/// Finds the inputs of the name on top from left to right, up to the first that has no cell, which is given. The row is
+/// that name's.
 #[inline]
-fn take_turn<D: Domain, L: Ledger>(
-    alloc: Global,
+fn look_at_top<D: Domain>(
     dom: &D,
     flow: &Flow<'_>,
     store: &mut Store<D::State>,
+    row: &Row<'_>,
+    stack: &mut Vec<Open>,
+) -> Result<Option<Absent>, Memory>
+    requires some { 0 < vec_len stack.old }
+    requires top { IsTopAt (D.operations dom.now) flow.now store.old row.now stack.old.items }
+    ensures names { OnlyNames store.old store.new }
+    ensures right { IsRight (D.operations dom.now) flow.now store.new }
+    ensures looks { IfOk result (LooksAtTop (D.operations dom.now) flow.now store.new row.now
+        stack.old.items stack.new.items) }
+    ensures err { OnErr result (HasFurtherTop (D.operations dom.now) flow.now store.new row.now
+        stack.old.items stack.new.items) }
+{
+    match stack.last_mut() {
+        Some(top) => next_absent(dom, flow, store, row, top),
+        None => unreachable!(),
+    }
+}
+
+/// The name on top, which is taken off.
+#[inline]
+fn take_top(stack: &mut Vec<Open>) -> Open
+    requires some { 0 < vec_len stack.old }
+    ensures top { stack.old.items ≡ stack.new.items ++ result ∷ [] }
+{
+    match stack.pop() {
+        Some(top) => top,
+        None => unreachable!(),
+    }
+}
+
+/// With a name on top of the stack: its first missing input is pushed on it, or it is filled, taken off and handed down.
+#[inline]
+fn turn_open<'a, D: Domain, L: Ledger>(
+    alloc: Global,
+    dom: &D,
+    flow: &'a Flow<'_>,
+    store: &mut Store<D::State>,
     targets: &[Target],
     walk: &mut Walk,
+    rows: &mut Vec<Row<'a>>,
     spent: bool,
     steps: &mut Steps<L>,
 ) -> Result<AdvanceResult, Memory>
     requires right { IsRight (D.operations dom.now) flow.now store.old }
-    requires targets { AreTargets flow.now (map target_of targets.now) }
     requires walk { IsGood (D.operations dom.now) flow.now (map target_of targets.now) store.old
         walk.old }
+    requires some { 0 < vec_len walk.old.stack }
     requires absent { IsTopAbsent store.old walk.old.stack.items }
+    requires rows { AreRowsOnTop flow.now (stacked_names store.old walk.old.stack.items)
+        rows.old.items }
     ensures right { IsRight (D.operations dom.now) flow.now store.new }
     ensures grows { Grows store.old store.new }
     ensures walk { IsGood (D.operations dom.now) flow.now (map target_of targets.now) store.new
@@ -176,10 +199,67 @@ fn take_turn<D: Domain, L: Ledger>(
     ensures ticked { IfOk result (λ turn. steps.new ≤ steps.old + D.counted dom.now
         * fills_of turn) }
     ensures most { steps.new ≤ steps.old + D.counted dom.now }
+    ensures rows { OnOk result (AreRowsOnTop flow.now (stacked_names store.new walk.new.stack.items)
+        rows.new.items) }
 {
-    match walk.stack.pop() {
-        None => turn_walk(alloc, dom, flow, store, targets, walk),
-        Some(entry) => turn_open(alloc, dom, flow, store, targets, walk, entry, spent, steps),
+    keep_top_row(dom, flow, store, walk, rows)?;
+    let row = &rows[rows.len() - 1];
+    if let Some(absent) = look_at_top(dom, flow, store, row, &mut walk.stack)? {
+        keep_row(flow, &store.names, &absent.name, rows)?;
+        walk.stack.push(opened(alloc, absent.cell, &absent.name))?;
+        return Ok(AdvanceResult::Pushed);
+    }
+    if spent {
+        return Ok(AdvanceResult::Spent);
+    }
+    let entry = take_top(&mut walk.stack);
+    let cell = entry.cell;
+    fill(alloc, dom, flow, store, row, entry, steps)?;
+    let _ = rows.pop();
+    hand_down(&mut walk.stack, cell);
+    Ok(AdvanceResult::Filled)
+}
+
+/// A turn of the machine. Where `spent`, nothing is filled. The rows are those of the names on top, one for each of these.
+#[inline]
+fn take_turn<'a, D: Domain, L: Ledger>(
+    alloc: Global,
+    dom: &D,
+    flow: &'a Flow<'_>,
+    store: &mut Store<D::State>,
+    targets: &[Target],
+    walk: &mut Walk,
+    rows: &mut Vec<Row<'a>>,
+    spent: bool,
+    steps: &mut Steps<L>,
+) -> Result<AdvanceResult, Memory>
+    requires right { IsRight (D.operations dom.now) flow.now store.old }
+    requires targets { AreTargets flow.now (map target_of targets.now) }
+    requires walk { IsGood (D.operations dom.now) flow.now (map target_of targets.now) store.old
+        walk.old }
+    requires absent { IsTopAbsent store.old walk.old.stack.items }
+    requires rows { AreRowsOnTop flow.now (stacked_names store.old walk.old.stack.items)
+        rows.old.items }
+    ensures right { IsRight (D.operations dom.now) flow.now store.new }
+    ensures grows { Grows store.old store.new }
+    ensures walk { IsGood (D.operations dom.now) flow.now (map target_of targets.now) store.new
+        walk.new }
+    ensures turns { IfOk result (Turns (D.operations dom.now) flow.now
+        (map target_of targets.now) store.old store.new
+        (stacked_names store.old walk.old.stack.items) walk.new) }
+    ensures obeys { IfOk result (Obeys spent) }
+    ensures err { OnErr result (AddsNoCell store.old store.new) }
+    ensures least { steps.old ≤ steps.new }
+    ensures ticked { IfOk result (λ turn. steps.new ≤ steps.old + D.counted dom.now
+        * fills_of turn) }
+    ensures most { steps.new ≤ steps.old + D.counted dom.now }
+    ensures rows { OnOk result (AreRowsOnTop flow.now (stacked_names store.new walk.new.stack.items)
+        rows.new.items) }
+{
+    if walk.stack.is_empty() {
+        turn_walk(alloc, dom, flow, store, targets, walk)
+    } else {
+        turn_open(alloc, dom, flow, store, targets, walk, rows, spent, steps)
     }
 }
 
@@ -219,10 +299,13 @@ fn fill_missing<D: Domain, L: Ledger>(
 {
     walk.drop_filled(&store.graph);
     let before = store.graph.kept_count();
+    let mut rows = Vec::new(alloc);
     'turns: loop {
         let filled = store.graph.kept_count() - before;
         let spent = limit == Some(filled);
-        match take_turn(alloc, dom, flow, store, targets, walk, spent, steps)? {
+        match take_turn(
+            alloc, dom, flow, store, targets, walk, &mut rows, spent, steps,
+        )? {
             AdvanceResult::Pushed => {}
             AdvanceResult::Filled => {}
             AdvanceResult::Spent => {

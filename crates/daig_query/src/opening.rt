@@ -4,7 +4,7 @@ ghost use Rattle.std.specs.FinMap as map;
 ghost use Rattle.cell_names.specs.Paths.{path_at, name_in};
 ghost use Rattle.imp_flow_rows.specs.Near.{row_in};
 ghost use Rattle.daig_query.specs.Kept.{kept, Names as OnlyNames};
-ghost use Rattle.daig_query.specs.Opened.{name_of, row_at, IsAt, IsReady, Looks, Puts, Computes};
+ghost use Rattle.daig_query.specs.Opened.{name_of, row_at, unfound, IsAt, IsFurther, IsNext, IsReady, Puts, Computes};
 ghost use Rattle.daig_query.specs.Made.{IsFixed};
 ghost use Rattle.daig_query.specs.Recalled.{IsRecalled};
 ghost use Rattle.daig_query.specs.Overs.{HasOver};
@@ -31,6 +31,13 @@ pub(crate) struct Open {
     pub(crate) inputs: Inputs,
 }
 
+/// A name that has no cell, and its number.
+#[derive(Clone, Copy)]
+pub(crate) struct Absent {
+    pub(crate) cell: usize,
+    pub(crate) name: Name,
+}
+
 /// A name none of whose inputs is found yet.
 #[inline]
 pub(crate) fn opened(alloc: Global, cell: usize, name: &Name) -> Open
@@ -41,6 +48,14 @@ pub(crate) fn opened(alloc: Global, cell: usize, name: &Name) -> Open
         name: *name,
         inputs: Inputs::new(alloc),
     }
+}
+
+/// A name that has no cell.
+#[inline]
+fn without_cell(cell: usize, name: &Name) -> Absent
+    ensures is { result ≡ record { cell = cell; name = name.now } }
+{
+    Absent { cell, name: *name }
 }
 
 /// Whether there is a cell of this number.
@@ -71,25 +86,26 @@ pub(crate) fn row_of<'a>(flow: &'a Flow<'_>, names: &Names, name: &Name) -> Opti
 /// Finds the inputs of a name from left to right, up to the first that has no cell, which is given.
 #[inline]
 pub(crate) fn next_absent<D: Domain>(
-    alloc: Global,
     dom: &D,
     flow: &Flow<'_>,
     store: &mut Store<D::State>,
     row: &Row<'_>,
     entry: &mut Open,
-) -> Result<Option<Open>, Memory>
+) -> Result<Option<Absent>, Memory>
     requires at { IsAt (D.operations dom.now) flow.now store.old row.now entry.old }
     ensures names { OnlyNames store.old store.new }
     ensures right { IsRight (D.operations dom.now) flow.now store.new }
-    ensures looks { IfOk result (Looks (D.operations dom.now) flow.now store.new row.now entry.old
-        entry.new) }
+    ensures further { IsFurther (D.operations dom.now) flow.now store.new row.now entry.old
+        entry.new }
+    ensures next { IfOk result (λ found. IsNext (D.operations dom.now) flow.now store.new entry.new
+        (option_map unfound found)) }
 {
     'inputs: while let Some(input) = next_input(dom, flow, store, row, entry) {
         let name = input.name(&mut store.names, entry.name.path)?;
         let cell = store.names.add(name)?;
         let there = has_cell(&store.graph, cell);
         if !there {
-            return Ok(Some(opened(alloc, cell, &name)));
+            return Ok(Some(without_cell(cell, &name)));
         }
         entry.inputs.push(cell)?;
     }

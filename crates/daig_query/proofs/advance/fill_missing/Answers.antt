@@ -6,6 +6,7 @@ use Rattle.daig_query.specs.Filled.{cells_added}
 use Rattle.daig_query.specs.Turned.{stacked_names}
 use Rattle.daig_query.proofs.Demands.{limit_met, demand_failed, demand_spent, demand_done, come_pushed, pushed_smaller, come_filled, filled_smaller}
 use Rattle.daig_query.proofs.Growing.{few_more, few_same}
+use Rattle.daig_query.proofs.Rows.{rows_none}
 use Rattle.daig_query.proofs.Starting.{starts}
 use Rattle.daig_query.proofs.Turning.{IsTurn}
 use Rattle.daig_query.proofs.Turns.{limit_open, within_start}
@@ -17,13 +18,14 @@ turns-init g c =
     let plan = c.args.flow.now in
     let ts = map target_of c.args.targets.now in
     let store = c.args.store.now in
-    record {
+    let come = record {
       running = starts dom plan ts store c.args.walk.now c.drop_filled.new.self c.requires.right c.requires.walk c.drop_filled.ensures.is;
       within = within_start dom plan ts c.args.limit store;
       least = omega arith;
       most = omega arith;
       few = few_more store store 0 (cells_added store store) (omega arith) (few_same store store refl refl);
-    }
+    } in
+    record { come = come; rows = rows_none plan (stacked_names store c.drop_filled.new.self.stack.items) c.new-rows.result.items c.new-rows.ensures.items }
 
 pub returns-in_err-take_turn : goal.returns-in_err-take_turn
 returns-in_err-take_turn g c =
@@ -43,7 +45,7 @@ returns-in_err-take_turn g c =
       most = c.take_turn.ensures.most;
     } in
     let p = err_from_is_err_and c.from_residual.result c.from_residual.ensures.1 in
-    let d = demand_failed dom plan ts c.args.store.now c.args.limit each c.args.steps.now c.turns.store c.take_turn.new.store c.turns.walk c.take_turn.new.walk c.eq-spent.result c.turns.steps c.take_turn.new.steps c.turns.invariant t p.0 c.from_residual.result p.1 in
+    let d = demand_failed dom plan ts c.args.store.now c.args.limit each c.args.steps.now c.turns.store c.take_turn.new.store c.turns.walk c.take_turn.new.walk c.eq-spent.result c.turns.steps c.take_turn.new.steps c.turns.invariant.come t p.0 c.from_residual.result p.1 in
     record { fills = d.fills; walk = d.walk; within = d.within; counted = d.counted; all = d.all; done = d.done; more = d.more; limited = d.limited; least = d.least; ticked = d.ticked; most = d.most }
 
 pub turns-smaller-in-Pushed : goal.turns-smaller-in-Pushed
@@ -63,7 +65,7 @@ turns-smaller-in-Pushed g c =
       ticked = c.in_ok-take_turn.ensures.ticked;
       most = c.take_turn.ensures.most;
     } in
-    pushed_smaller dom plan ts c.args.store.now c.args.limit each c.args.steps.now c.turns.store c.take_turn.new.store c.turns.walk c.take_turn.new.walk c.eq-spent.result c.turns.steps c.take_turn.new.steps c.turns.invariant c.in_ok-take_turn.field-0 t c.in-Pushed.is
+    pushed_smaller dom plan ts c.args.store.now c.args.limit each c.args.steps.now c.turns.store c.take_turn.new.store c.turns.walk c.take_turn.new.walk c.eq-spent.result c.turns.steps c.take_turn.new.steps c.turns.invariant.come c.in_ok-take_turn.field-0 t c.in-Pushed.is
 
 pub turns-preserved-in-Pushed : goal.turns-preserved-in-Pushed
 turns-preserved-in-Pushed g c =
@@ -82,7 +84,7 @@ turns-preserved-in-Pushed g c =
       ticked = c.in_ok-take_turn.ensures.ticked;
       most = c.take_turn.ensures.most;
     } in
-    come_pushed dom plan ts c.args.store.now c.args.limit each c.args.steps.now c.turns.store c.take_turn.new.store c.turns.walk c.take_turn.new.walk c.eq-spent.result c.turns.steps c.take_turn.new.steps c.turns.invariant c.in_ok-take_turn.field-0 t c.in-Pushed.is
+    record { come = come_pushed dom plan ts c.args.store.now c.args.limit each c.args.steps.now c.turns.store c.take_turn.new.store c.turns.walk c.take_turn.new.walk c.eq-spent.result c.turns.steps c.take_turn.new.steps c.turns.invariant.come c.in_ok-take_turn.field-0 t c.in-Pushed.is; rows = c.in_ok-take_turn.ensures.rows }
 
 pub turns-smaller : goal.turns-smaller
 turns-smaller g c =
@@ -101,7 +103,7 @@ turns-smaller g c =
       ticked = c.in_ok-take_turn.ensures.ticked;
       most = c.take_turn.ensures.most;
     } in
-    filled_smaller dom plan ts c.args.store.now c.args.limit each c.args.steps.now c.turns.store c.take_turn.new.store c.turns.walk c.take_turn.new.walk c.eq-spent.result c.turns.steps c.take_turn.new.steps c.turns.invariant c.in_ok-take_turn.field-0 t c.in-Filled.is
+    filled_smaller dom plan ts c.args.store.now c.args.limit each c.args.steps.now c.turns.store c.take_turn.new.store c.turns.walk c.take_turn.new.walk c.eq-spent.result c.turns.steps c.take_turn.new.steps c.turns.invariant.come c.in_ok-take_turn.field-0 t c.in-Filled.is
 
 pub turns-preserved : goal.turns-preserved
 turns-preserved g c =
@@ -122,7 +124,7 @@ turns-preserved g c =
     } in
     let count = c.kept_count.result - c.kept_count-before.result in
     let counted : count ≡ cells_added c.args.store.now c.turns.store = omega (arith, c.kept_count.ensures.count, c.kept_count-before.ensures.count) in
-    come_filled dom plan ts c.args.store.now c.args.limit each c.args.steps.now c.turns.store c.take_turn.new.store c.turns.walk c.take_turn.new.walk c.eq-spent.result c.turns.steps c.take_turn.new.steps c.turns.invariant c.in_ok-take_turn.field-0 t c.in-Filled.is (λ o. limit_open c.args.limit count (cells_added c.args.store.now c.turns.store) counted (sym c.eq-spent.ensures ∙ o))
+    record { come = come_filled dom plan ts c.args.store.now c.args.limit each c.args.steps.now c.turns.store c.take_turn.new.store c.turns.walk c.take_turn.new.walk c.eq-spent.result c.turns.steps c.take_turn.new.steps c.turns.invariant.come c.in_ok-take_turn.field-0 t c.in-Filled.is (λ o. limit_open c.args.limit count (cells_added c.args.store.now c.turns.store) counted (sym c.eq-spent.ensures ∙ o)); rows = c.in_ok-take_turn.ensures.rows }
 
 pub returns-in-Spent : goal.returns-in-Spent
 returns-in-Spent g c =
@@ -143,7 +145,7 @@ returns-in-Spent g c =
     } in
     let count = c.kept_count.result - c.kept_count-before.result in
     let counted : count ≡ cells_added c.args.store.now c.turns.store = omega (arith, c.kept_count.ensures.count, c.kept_count-before.ensures.count) in
-    let d = demand_spent dom plan ts c.args.store.now c.args.limit each c.args.steps.now c.turns.store c.take_turn.new.store c.turns.walk c.take_turn.new.walk c.eq-spent.result c.turns.steps c.take_turn.new.steps c.turns.invariant c.in_ok-take_turn.field-0 t count counted c.in-Spent.is (λ o. limit_met c.args.limit count (sym c.eq-spent.ensures ∙ o)) {F = Memory} in
+    let d = demand_spent dom plan ts c.args.store.now c.args.limit each c.args.steps.now c.turns.store c.take_turn.new.store c.turns.walk c.take_turn.new.walk c.eq-spent.result c.turns.steps c.take_turn.new.steps c.turns.invariant.come c.in_ok-take_turn.field-0 t count counted c.in-Spent.is (λ o. limit_met c.args.limit count (sym c.eq-spent.ensures ∙ o)) {F = Memory} in
     record { fills = d.fills; walk = d.walk; within = d.within; counted = d.counted; all = d.all; done = d.done; more = d.more; limited = d.limited; least = d.least; ticked = d.ticked; most = d.most }
 
 pub returns-in-Done : goal.returns-in-Done
@@ -165,5 +167,5 @@ returns-in-Done g c =
     } in
     let count = c.kept_count.result - c.kept_count-before.result in
     let counted : count ≡ cells_added c.args.store.now c.turns.store = omega (arith, c.kept_count.ensures.count, c.kept_count-before.ensures.count) in
-    let d = demand_done dom plan ts c.args.store.now c.args.limit each c.args.steps.now c.turns.store c.take_turn.new.store c.turns.walk c.take_turn.new.walk c.eq-spent.result c.turns.steps c.take_turn.new.steps c.turns.invariant c.in_ok-take_turn.field-0 t count counted c.in-Done.is {F = Memory} in
+    let d = demand_done dom plan ts c.args.store.now c.args.limit each c.args.steps.now c.turns.store c.take_turn.new.store c.turns.walk c.take_turn.new.walk c.eq-spent.result c.turns.steps c.take_turn.new.steps c.turns.invariant.come c.in_ok-take_turn.field-0 t count counted c.in-Done.is {F = Memory} in
     record { fills = d.fills; walk = d.walk; within = d.within; counted = d.counted; all = d.all; done = d.done; more = d.more; limited = d.limited; least = d.least; ticked = d.ticked; most = d.most }

@@ -1,18 +1,9 @@
-use Rattle.std.proofs.Common.{◌≡◌, ℕ, zero, suc, ◌-◌, List, [], ◌∷◌, ◌++◌, length, get_or, set, refl, sym, ap, ◌∙◌, inl, inr, arith}
+use Rattle.std.proofs.Common.{◌≡◌, ℕ, suc, ◌-◌, List, [], ◌∷◌, ◌++◌, length, get_or, set, refl, sym, ap, ◌∙◌, inl, inr, arith}
 use Rattle.std.specs.Prelude.{Result, Ok, Err, OnOk, OnErr, vec_len}
 use Rattle.daig_query.specs.declared.opening.Open.{Open}
 use Rattle.daig_query.specs.Turned.{HandsDown}
+use Rattle.daig_query.proofs.Lists.{last_set}
 use Rattle.daig_query.proofs.advance.hand_down.Goals as goal
-
--- a list is those before its last item and that one, also where that one is set
-last_set : {A : Type 0} (xs : List A) (d v : A) (n : ℕ) → length xs ≡ suc n → (rest : List A) × (xs ≡ rest ++ get_or xs n d ∷ []) × (set xs n v ≡ rest ++ v ∷ [])
-last_set [] d v n e = absurd (omega (arith, e))
-last_set (x ∷ []) d v zero e = ([], refl, refl)
-last_set (x ∷ []) d v (suc n) e = absurd (omega (arith, e))
-last_set (x ∷ y ∷ ys) d v zero e = absurd (omega (arith, e))
-last_set (x ∷ y ∷ ys) d v (suc n) e =
-    let p = last_set (y ∷ ys) d v n (omega (arith, e)) in
-    (x ∷ p.0, ap (λ zs. x ∷ zs) p.1, ap (λ zs. x ∷ zs) p.2)
 
 handed : {T E : Type 0} (r : Result T E) (cell n : ℕ) (os : List Open) (o : Open) (inputs : List ℕ) → length os ≡ suc n → o ≡ get_or os n o → OnOk r (inputs ≡ o.inputs ++ cell ∷ []) → OnErr r (inputs ≡ o.inputs) →
     HandsDown cell os (set os n (record { cell = o.cell; name = o.name; inputs = inputs }))

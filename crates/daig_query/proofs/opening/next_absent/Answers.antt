@@ -1,4 +1,4 @@
-use Rattle.std.proofs.Common.{◌≡◌, refl, sym, ap, subst, ◌∙◌}
+use Rattle.std.proofs.Common.{◌≡◌, Some, refl, sym, ap, subst, ◌∙◌}
 use Rattle.std.specs.FinMap.{get}
 use Rattle.imp_flow_rows.specs.Near.{input_name}
 use Rattle.cell_names.specs.Known.{Known, KeepsNumbers, IsOnce}
@@ -6,10 +6,10 @@ use Rattle.domain_laws.specs.Operations.{Operations}
 use Rattle.imp_flow.specs.Plans.{Plan}
 use Rattle.daig_query.specs.declared.store.Store.{Store}
 use Rattle.daig_query.specs.Kept.{Names}
-use Rattle.daig_query.specs.Opened.{name_of}
+use Rattle.daig_query.specs.Opened.{name_of, unfound, IsNext}
 use Rattle.daig_query.specs.Right.{IsRight}
 use Rattle.daig_query.proofs.Growing.{keeps_same, keeps_trans, names_trans, right_named}
-use Rattle.daig_query.proofs.Looking.{named_by, later, looks, more, fewer}
+use Rattle.daig_query.proofs.Looking.{named_by, later, further, finds, more, fewer}
 use Rattle.daig_query.proofs.opening.next_absent.Goals as goal
 use Rattle.base_values.proofs.Cases.{none_of}
 
@@ -66,14 +66,53 @@ returns-then-not-there-clause-right g c =
     named_by store _ c.name.new.names c.in_ok-name.name c.in_ok-cell.cell _ c.inputs.invariant.at.right.once c.name.ensures.kept c.name.ensures.names c.in_ok-name.ensures.is c.in_ok-name.ensures.within c.in_ok-cell.ensures.name c.add.ensures.paths refl refl refl refl
     )
 
-pub returns-then-not-there-clause-looks : goal.returns-then-not-there-clause-looks
-returns-then-not-there-clause-looks g c =
+pub returns-then-not-there-clause-further : goal.returns-then-not-there-clause-further
+returns-then-not-there-clause-further g c =
     let dom = g.D.Domain.operations c.args.dom.now in
+    let plan = c.args.flow.now in
     let store = c.inputs.store in
     let y = input_name (name_of store c.inputs.entry).path c.in-Some.input in
-    looks dom c.args.flow.now store _ c.inputs.invariant.at.right y c.in_ok-name.name c.in_ok-cell.cell (
-    named_by store _ c.name.new.names c.in_ok-name.name c.in_ok-cell.cell y c.inputs.invariant.at.right.once c.name.ensures.kept c.name.ensures.names c.in_ok-name.ensures.is c.in_ok-name.ensures.within c.in_ok-cell.ensures.name c.add.ensures.paths refl refl refl refl
-    ) c.args.row.now c.inputs.entry c.inputs.invariant.at (sym c.in-Some.ensures.next) c.args.entry.now c.inputs.invariant.cell c.inputs.invariant.name c.opened.result c.opened.ensures.is (none_of (get store.graph.cells c.in_ok-cell.cell) (sym c.has_cell-there.ensures.is ∙ c.if-not-there.true))
+    let named = named_by store (record store { names = c.add.new.self }) c.name.new.names c.in_ok-name.name c.in_ok-cell.cell y c.inputs.invariant.at.right.once c.name.ensures.kept c.name.ensures.names c.in_ok-name.ensures.is c.in_ok-name.ensures.within c.in_ok-cell.ensures.name c.add.ensures.paths refl refl refl refl in
+    further dom plan store (record store { names = c.add.new.self }) (later dom plan store _ c.inputs.invariant.at.right y c.in_ok-name.name c.in_ok-cell.cell named) named.names c.args.row.now c.args.entry.now c.inputs.entry c.inputs.invariant.cell c.inputs.invariant.name c.inputs.invariant.at c.inputs.entry.inputs refl
+
+pub returns-then-not-there-clause-next : goal.returns-then-not-there-clause-next
+returns-then-not-there-clause-next g c =
+    let dom = g.D.Domain.operations c.args.dom.now in
+    let plan = c.args.flow.now in
+    let store = c.inputs.store in
+    let y = input_name (name_of store c.inputs.entry).path c.in-Some.input in
+    let named = named_by store (record store { names = c.add.new.self }) c.name.new.names c.in_ok-name.name c.in_ok-cell.cell y c.inputs.invariant.at.right.once c.name.ensures.kept c.name.ensures.names c.in_ok-name.ensures.is c.in_ok-name.ensures.within c.in_ok-cell.ensures.name c.add.ensures.paths refl refl refl refl in
+    subst (λ u. IsNext dom plan (record store { names = c.add.new.self }) c.inputs.entry (Some (unfound u))) (sym c.without_cell.ensures.is) (
+    finds dom plan store (record store { names = c.add.new.self }) c.inputs.invariant.at.right y c.in_ok-name.name c.in_ok-cell.cell named c.args.row.now c.inputs.entry c.inputs.invariant.at (sym c.in-Some.ensures.next) (none_of (get store.graph.cells c.in_ok-cell.cell) (sym c.has_cell-there.ensures.is ∙ c.if-not-there.true))
+    )
+
+pub returns-in_err-name-clause-further : goal.returns-in_err-name-clause-further
+returns-in_err-name-clause-further g c =
+    let dom = g.D.Domain.operations c.args.dom.now in
+    let plan = c.args.flow.now in
+    let store = c.inputs.store in
+    let later_store = record store { names = c.name.new.names } in
+    further dom plan store later_store (paths_right dom plan store c.name.new.names c.name.new.names c.inputs.invariant.at.right c.name.ensures.kept c.name.ensures.names refl) (paths_more store c.name.new.names c.name.new.names c.name.ensures.kept c.name.ensures.names refl) c.args.row.now c.args.entry.now c.inputs.entry c.inputs.invariant.cell c.inputs.invariant.name c.inputs.invariant.at c.inputs.entry.inputs refl
+
+pub returns-in_err-cell-clause-further : goal.returns-in_err-cell-clause-further
+returns-in_err-cell-clause-further g c =
+    let dom = g.D.Domain.operations c.args.dom.now in
+    let plan = c.args.flow.now in
+    let store = c.inputs.store in
+    let later_store = record store { names = c.add.new.self } in
+    further dom plan store later_store (paths_right dom plan store c.name.new.names c.add.new.self c.inputs.invariant.at.right c.name.ensures.kept c.name.ensures.names c.in_err-cell.ensures.err) (paths_more store c.name.new.names c.add.new.self c.name.ensures.kept c.name.ensures.names c.in_err-cell.ensures.err) c.args.row.now c.args.entry.now c.inputs.entry c.inputs.invariant.cell c.inputs.invariant.name c.inputs.invariant.at c.inputs.entry.inputs refl
+
+pub returns-in_err-push-clause-further : goal.returns-in_err-push-clause-further
+returns-in_err-push-clause-further g c =
+    let dom = g.D.Domain.operations c.args.dom.now in
+    let plan = c.args.flow.now in
+    let store = c.inputs.store in
+    let y = input_name (name_of store c.inputs.entry).path c.in-Some.input in
+    let named = named_by store (record store { names = c.add.new.self }) c.name.new.names c.in_ok-name.name c.in_ok-cell.cell y c.inputs.invariant.at.right.once c.name.ensures.kept c.name.ensures.names c.in_ok-name.ensures.is c.in_ok-name.ensures.within c.in_ok-cell.ensures.name c.add.ensures.paths refl refl refl refl in
+    further dom plan store (record store { names = c.add.new.self }) (later dom plan store _ c.inputs.invariant.at.right y c.in_ok-name.name c.in_ok-cell.cell named) named.names c.args.row.now c.args.entry.now c.inputs.entry c.inputs.invariant.cell c.inputs.invariant.name c.inputs.invariant.at c.push.new.self c.in_err-push.ensures.err
+
+pub returns-clause-further : goal.returns-clause-further
+returns-clause-further g c = record { at = c.inputs.invariant.at; cell = c.inputs.invariant.cell; name = c.inputs.invariant.name }
 
 pub inputs-smaller : goal.inputs-smaller
 inputs-smaller g c =
