@@ -83,7 +83,7 @@ procedure_answer-returns-in-Some g t c =
     let plan = c.args.interpreter.now.plan.now in
     let place = c.args.interpreter.now.frame.now.place in
     let z = c.args.interpreter.now.frame.now.sites in
-    let h = rw c.in-Some.is at c.in_ok-recalled.ensures.gives in
+    let h = rw c.in-Some.is at c.in_ok-end.ensures.gives in
     record {
       is = sym (ap (λ b. (passed dom plan place z b (plain.State c.args.entered)).value) c.requires.body ∙ h z);
       right = c.requires.right;
@@ -96,7 +96,7 @@ procedure_answer-noted-requires g t c =
     let place = c.args.interpreter.now.frame.now.place in
     let z = c.args.interpreter.now.frame.now.sites in
     record {
-      right = c.in_ok-answer.ensures.right;
+      right = c.in_ok-answer-in-None.ensures.right;
       gave = gave_before dom plan place z c.args.body.now c.args.entered c.in_ok-before-in-None.before (value_of c.in_ok-answer-in-None.answer) c.requires.body c.in_ok-before-in-None.ensures.same (ends_value c.new-leaving.result c.block_answer.new.leaving (passed dom plan place z c.args.body.now (plain.State c.args.entered)) c.in_ok-answer-in-None.answer c.in_ok-answer-in-None.ensures.is);
     }
 
@@ -107,7 +107,7 @@ procedure_answer-returns-in_ok-answer-in-None g t c =
     let place = c.args.interpreter.now.frame.now.place in
     let z = c.args.interpreter.now.frame.now.sites in
     record {
-      is = if_ok_along c.noted.result value_of _ _ c.noted.ensures.same (ends_value c.new-leaving.result c.block_answer.new.leaving (passed dom plan place z c.args.body.now (plain.State c.args.entered)) c.in_ok-answer.answer c.in_ok-answer.ensures.is);
+      is = if_ok_along c.noted.result value_of _ _ c.noted.ensures.same (ends_value c.new-leaving.result c.block_answer.new.leaving (passed dom plan place z c.args.body.now (plain.State c.args.entered)) c.in_ok-answer-in-None.answer c.in_ok-answer-in-None.ensures.is);
       right = c.noted.ensures.right;
     }
 
