@@ -8,7 +8,7 @@ use Rattle.imp_slots.specs.Plain.{Guard, Does, DoBreak, Code, Stop, Simple, If, 
 use Rattle.imp_chains.specs.Thresholds.{thresholds}
 use Rattle.domain_laws.specs.Operations.{Operations}
 use Rattle.batch_meaning.specs.Values.{Value, State, Over, lift, lift2}
-use Rattle.batch_meaning.specs.Batch.{LoopOptions, Passed, Fixed, next_of, settle, iterate, fix, joined, head_of, behind, batch, procedure, calls_of}
+use Rattle.batch_meaning.specs.Batch.{LoopOptions, Passed, Fixed, next_of, settle, iterate, fix, joined, head_of, behind, batch, procedure}
 use Rattle.batch_interp.specs.Frames.{Plan, earlier, thresholds_at, calls_in, passed}
 
 -- the state that a value is, if it is one

@@ -1,5 +1,4 @@
-use Rattle.std.proofs.Common.{OnOk}
-use Rattle.batch_interp.specs.Remembering.{IsRight, AreRight}
+use Rattle.batch_interp.specs.Remembering.{AreRight}
 use Rattle.batch_interp.proofs.Lists.{on_ok_as}
 use Rattle.batch_interp.proofs.Remembering.{gives_always}
 use Rattle.batch_interp.proofs.remembered.remember.Goals as goal
