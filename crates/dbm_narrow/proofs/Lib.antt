@@ -1,4 +1,5 @@
 pub mod ConvertLemmas
+pub mod DoubledThresholds
 pub mod EntryLemmas
 pub mod ForgetLemmas
 pub mod JoinLemmas

@@ -40,5 +40,4 @@ pub use joins::join;
 pub use met::meets;
 pub use narrow::Narrow;
 pub use ranges::slot_range;
-pub use stands::stood;
 pub use widening::widen;

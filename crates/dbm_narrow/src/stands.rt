@@ -11,7 +11,7 @@ use std::alloc::Global;
 
 /// A closed matrix in which slot q stands for node y plus c, its own or another's: None where c or a
 /// bound leaves the limits.
-pub fn stood(
+pub(crate) fn stood(
     alloc: Global,
     closed: &Narrow,
     q: usize,
