@@ -14,3 +14,7 @@ pub mod CellFilled
 pub mod CellGone
 pub mod Owning
 pub mod Replacing
+pub mod Moving
+pub mod Changing
+pub mod Relabelling
+pub mod OtherNumbers

@@ -5,3 +5,5 @@ pub mod Walks
 pub mod Cells
 pub mod Agrees
 pub mod Uses
+pub mod Numbers
+pub mod Renumbered

@@ -13,7 +13,8 @@
 //! that the cell needs for them.
 //!
 //! The memory of the indexes is in proportion to the greatest number of a cell and of a statement, so numbers are to be
-//! given from 0 on.
+//! given from 0 on. [`Graph::renumber`] gives the cells other numbers, in the same order, so that those of cells that are
+//! gone need not be kept.
 //!
 //! The crate knows neither names nor programs nor domains.
 #![tactic(auto)]
@@ -25,6 +26,7 @@ mod inputs;
 mod lists;
 mod pool;
 mod reading;
+mod renumbering;
 mod value;
 mod walk;
 
