@@ -13,6 +13,7 @@ mod engine;
 mod held;
 mod inputs;
 mod laws;
+mod names_sweep;
 mod opening;
 mod operation_table;
 mod operations;
