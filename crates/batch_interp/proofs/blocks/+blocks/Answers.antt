@@ -1,4 +1,5 @@
 use Rattle.std.proofs.Common.{◌≡◌, ◌+◌, ◌-◌, suc, sym, ap, ◌∙◌, arith, reverse, true, false}
+use Rattle.imp_slots.specs.Sizes.{code_size}
 use Rattle.batch_meaning.specs.Values as plain
 use Rattle.batch_meaning.specs.Values.{lift}
 use Rattle.batch_meaning.specs.Batch as meaning
@@ -10,6 +11,7 @@ use Rattle.batch_interp.proofs.Lists.{if_ok_along}
 use Rattle.batch_interp.specs.Passing.{states}
 use Rattle.batch_interp.proofs.BlockLemmas.{ends_along, block_on, block_left, block_end, while_at, while_over, of_callee, of_callee_body, gave_before, ends_value, stopped, round_over, round_stops, round_goes_on}
 use Rattle.batch_interp.proofs.Procedures.{call_gone}
+use Rattle.batch_interp.proofs.Weights.{weight, weight_falls}
 use Rattle.batch_interp.proofs.blocks.+blocks.Goals as goal
 
 pub block_answer-loop-node-init : goal.block_answer-loop-node-init
@@ -65,10 +67,15 @@ callee_answer-returns-in-None g t c =
 
 pub callee_answer-procedure_answer-requires : goal.callee_answer-procedure_answer-requires
 callee_answer-procedure_answer-requires g t c =
-    record {
-      right = c.requires.right;
-      body = of_callee_body c.args.interpreter.now.plan.now.program c.args.interpreter.now.frame.now.place c.args.callee c.in_ok-inner-in-Some.inner.place c.in-Some.routine.now c.body.result.now c.in-Some.ensures.is (ap (λ (f : CallFrame). f.place) c.in_ok-inner-in-Some.ensures.is) c.body.ensures.same;
-    }
+    let program = c.args.interpreter.now.plan.now.program in
+    let k = c.args.interpreter.now.frame.now.place in
+    let routine = c.in-Some.routine.now in
+    let there : c.in_ok-inner-in-Some.inner.place ≡ c.args.callee = ap (λ (f : CallFrame). f.place) c.in_ok-inner-in-Some.ensures.is in
+    let before : weight program c.in_ok-inner-in-Some.inner.place ≡ weight program c.args.callee = ap (weight program) there in
+    let size : code_size c.body.result.now ≡ code_size routine.code = ap code_size c.body.ensures.same in
+    let falls = weight_falls program k c.args.callee routine (sym c.in-Some.ensures.is) in
+    let body = of_callee_body program k c.args.callee c.in_ok-inner-in-Some.inner.place routine c.body.result.now c.in-Some.ensures.is there c.body.ensures.same in
+    search (arith, before, size, falls, body, c.decreases, c.requires.right)
 
 pub callee_answer-returns-in_ok-inner-in-Some : goal.callee_answer-returns-in_ok-inner-in-Some
 callee_answer-returns-in_ok-inner-in-Some g t c =
