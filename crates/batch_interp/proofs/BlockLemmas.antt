@@ -10,13 +10,13 @@ use Rattle.batch_meaning.specs.Values.{Value, lift, lift2}
 use Rattle.batch_meaning.specs.Batch as meaning
 use Rattle.batch_meaning.specs.Batch.{LoopOptions, Passed, with_leaving, next_of, settle, iterate, joined, behind, batch}
 use Rattle.batch_interp.specs.Answered.{value_of}
-use Rattle.batch_interp.specs.Frames.{Plan, calls_in, passed}
+use Rattle.batch_interp.specs.Frames.{Plan, body_of, body_at, calls_in, passed}
 use Rattle.batch_interp.specs.Passing.{states, Ends}
 use Rattle.batch_interp.specs.declared.frames.CallFrame.{CallFrame}
 use Rattle.batch_interp.specs.declared.value.Answer.{Answer}
 use Rattle.batch_interp.specs.declared.value.Answer.TheVariants.{State, Over}
 use Rattle.batch_interp.proofs.Procedures.{call_there}
-use Rattle.base_values.proofs.Lists.{drop_item}
+use Rattle.base_values.proofs.Lists.{drop_item, get_take}
 use Rattle.std.proofs.lemmas.List.{drop_all, append-nil}
 
 module _ {S : Type 0} (dom : Operations S) (engine : LoopOptions) where
@@ -53,11 +53,21 @@ ends_along (Ok x) before behind p a b h k = subst (λ c. Ends before behind (p c
 
 module _ {S : Type 0} (dom : Operations S) (plan : Plan) where
   -- the body of a procedure that is called
-  pub of_callee : {E : Type 0} (r : Result (Answer S) E) (before behind : List S) (place : ℕ) (z : List ℕ) (n q : ℕ) (routine : Routine) (code : Code) (inner : CallFrame) (a : Value S) → Some routine ≡ slice_get (take place plan.program) q → inner ≡ record { place = q; sites = n ∷ z } → code ≡ routine.code → IfOk r (Ends before behind (passed dom plan inner.place inner.sites code a)) → IfOk r (λ x. value_of x ≡ calls_in dom plan place z n q a)
-  of_callee (Err e) before behind place z n q routine code inner a there same body h = h
-  of_callee (Ok x) before behind place z n q routine code inner a there same body h =
+  pub of_callee : {E : Type 0} (r : Result (Answer S) E) (place : ℕ) (z : List ℕ) (n q : ℕ) (routine : Routine) (code : Code) (inner : CallFrame) (a : Value S) → Some routine ≡ slice_get (take place plan.program) q → inner ≡ record { place = q; sites = n ∷ z } → code ≡ routine.code → IfOk r (λ x. value_of x ≡ (passed dom plan inner.place inner.sites code a).value) → IfOk r (λ x. value_of x ≡ calls_in dom plan place z n q a)
+  of_callee (Err e) place z n q routine code inner a there same body h = h
+  of_callee (Ok x) place z n q routine code inner a there same body h =
       let here : (passed dom plan inner.place inner.sites code a).value ≡ (passed dom plan q (n ∷ z) routine.code a).value = λ i. (passed dom plan (same i).place (same i).sites (body i) a).value in
-      ends_value before behind (passed dom plan inner.place inner.sites code a) x h ∙ here ∙ sym (call_there dom plan place z n q routine a (sym there))
+      h ∙ here ∙ sym (call_there dom plan place z n q routine a (sym there))
+
+  -- what a body gives, from a copy of the state
+  pub gave_before : (place : ℕ) (z : List ℕ) (code : Code) (entered before : S) (v : Value S) → code ≡ body_at plan.program place → before ≡ entered → v ≡ (passed dom plan place z code (plain.State entered)).value → (passed dom plan place z (body_at plan.program place) (plain.State before)).value ≡ v
+  gave_before place z code entered before v body same h =
+      let here : (passed dom plan place z code (plain.State entered)).value ≡ (passed dom plan place z (body_at plan.program place) (plain.State entered)).value = ap (λ b. (passed dom plan place z b (plain.State entered)).value) body in
+      ap (λ s. (passed dom plan place z (body_at plan.program place) (plain.State s)).value) same ∙ sym (h ∙ here)
+
+pub of_callee_body : (program : List Routine) (place q k : ℕ) (routine : Routine) (code : Code) → Some routine ≡ slice_get (take place program) q → k ≡ q → code ≡ routine.code → code ≡ body_at program k
+of_callee_body program place q k routine code there same body =
+    body ∙ ap body_of (sym (get_take program place q routine (sym there))) ∙ ap (body_at program) (sym same)
 
 module _ {S : Type 0} (dom : Operations S) (engine : LoopOptions) (thresholds : List ℤ) (z : List ℕ) (calls : (n q : ℕ) → Value S → Value S) where
   abbrev B : Code → Value S → Passed S

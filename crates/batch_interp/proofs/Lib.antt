@@ -14,3 +14,5 @@ pub mod Handings
 pub mod Fronts
 pub mod ThresholdTables
 pub mod HeadLemmas
+pub mod Alike
+pub mod Remembering

@@ -11,3 +11,4 @@ pub mod Totalling
 pub mod Heads
 pub mod Pairs
 pub mod Handing
+pub mod Remembering

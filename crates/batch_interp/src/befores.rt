@@ -10,10 +10,12 @@ ghost use Rattle.batch_interp.specs.Answered.{value_of};
 ghost use Rattle.batch_interp.specs.Checking.{is_checked};
 ghost use Rattle.batch_interp.specs.Handing.{told_of, calls_from, calls_inside};
 ghost use Rattle.batch_interp.specs.Reporting.{befores, before_one, in_front, claims, claim_of};
+ghost use Rattle.batch_interp.specs.Remembering.{AreRight};
 
 use crate::Answer;
 use crate::claim::Claim;
 use crate::frames::Interpreter;
+use crate::remembered::Remembered;
 use crate::spots::{assumed, behind_node, copy_of, head_from};
 use crate::walks::{Entered, enter};
 use base_values::{Items, Memory};
@@ -89,8 +91,11 @@ pub(crate) fn add_befores<D: Domain, L: Ledger>(
     before: Answer<D::State>,
     found: &mut Items<Answer<D::State>>,
     calls: &mut Items<Entered<D::State>>,
+    remembered: &mut Remembered<D::State>,
     steps: &mut Steps<L>,
 ) -> Result<(), Memory>
+    requires right { AreRight (D.operations interpreter.now.dom.now) interpreter.now.plan.now
+        remembered.old }
     ensures added { OnOk result (map value_of found.new ≡ map value_of found.old
         ++ befores (D.operations interpreter.now.dom.now) interpreter.now.plan.now
         interpreter.now.frame.now.place interpreter.now.frame.now.sites block.now
@@ -99,11 +104,13 @@ pub(crate) fn add_befores<D: Domain, L: Ledger>(
         ++ calls_from (D.operations interpreter.now.dom.now) interpreter.now.plan.now
         interpreter.now.frame.now.place interpreter.now.frame.now.sites block.now
         (value_of before)) }
+    ensures right { OnOk result (AreRight (D.operations interpreter.now.dom.now)
+        interpreter.now.plan.now remembered.new) }
 {
     let mut now = before;
     for node in block.statements() {
-        add_in_front(interpreter, node, &now, found, calls, steps)?;
-        now = behind_node(interpreter, node, now, steps)?;
+        add_in_front(interpreter, node, &now, found, calls, remembered, steps)?;
+        now = behind_node(interpreter, node, now, remembered, steps)?;
     }
     Ok(())
 }
@@ -117,8 +124,11 @@ fn add_in_front<D: Domain, L: Ledger>(
     before: &Answer<D::State>,
     found: &mut Items<Answer<D::State>>,
     calls: &mut Items<Entered<D::State>>,
+    remembered: &mut Remembered<D::State>,
     steps: &mut Steps<L>,
 ) -> Result<(), Memory>
+    requires right { AreRight (D.operations interpreter.now.dom.now) interpreter.now.plan.now
+        remembered.old }
     ensures added { OnOk result (map value_of found.new ≡ map value_of found.old
         ++ in_front (D.operations interpreter.now.dom.now) interpreter.now.plan.now
         interpreter.now.frame.now.place interpreter.now.frame.now.sites node.now
@@ -127,6 +137,8 @@ fn add_in_front<D: Domain, L: Ledger>(
         ++ calls_inside (D.operations interpreter.now.dom.now) interpreter.now.plan.now
         interpreter.now.frame.now.place interpreter.now.frame.now.sites node.now
         (value_of before.now)) }
+    ensures right { OnOk result (AreRight (D.operations interpreter.now.dom.now)
+        interpreter.now.plan.now remembered.new) }
 {
     match node {
         SlotNode::Simple(_, action) => add_one(
@@ -138,9 +150,9 @@ fn add_in_front<D: Domain, L: Ledger>(
         ),
         SlotNode::If(_, cond, then, els) => {
             let holds = assumed(interpreter, cond, true, before, steps)?;
-            add_befores(interpreter, then, holds, found, calls, steps)?;
+            add_befores(interpreter, then, holds, found, calls, remembered, steps)?;
             let fails = assumed(interpreter, cond, false, before, steps)?;
-            add_befores(interpreter, els, fails, found, calls, steps)
+            add_befores(interpreter, els, fails, found, calls, remembered, steps)
         }
         SlotNode::While(n, cond, body) => add_inside(
             interpreter,
@@ -150,6 +162,7 @@ fn add_in_front<D: Domain, L: Ledger>(
             before,
             found,
             calls,
+            remembered,
             steps,
         ),
         SlotNode::Call(n, call, callee) => {
@@ -170,8 +183,11 @@ fn add_inside<D: Domain, L: Ledger>(
     before: &Answer<D::State>,
     found: &mut Items<Answer<D::State>>,
     calls: &mut Items<Entered<D::State>>,
+    remembered: &mut Remembered<D::State>,
     steps: &mut Steps<L>,
 ) -> Result<(), Memory>
+    requires right { AreRight (D.operations interpreter.now.dom.now) interpreter.now.plan.now
+        remembered.old }
     ensures added { OnOk result (map value_of found.new ≡ map value_of found.old
         ++ in_front (D.operations interpreter.now.dom.now) interpreter.now.plan.now
         interpreter.now.frame.now.place interpreter.now.frame.now.sites
@@ -180,10 +196,12 @@ fn add_inside<D: Domain, L: Ledger>(
         ++ calls_inside (D.operations interpreter.now.dom.now) interpreter.now.plan.now
         interpreter.now.frame.now.place interpreter.now.frame.now.sites
         (node.While n cond.now body.now) (value_of before.now)) }
+    ensures right { OnOk result (AreRight (D.operations interpreter.now.dom.now)
+        interpreter.now.plan.now remembered.new) }
 {
-    let head = head_from(interpreter, n, cond, body, before, steps)?;
+    let head = head_from(interpreter, n, cond, body, before, remembered, steps)?;
     let inside = assumed(interpreter, cond, true, &head, steps)?;
-    add_befores(interpreter, body, inside, found, calls, steps)
+    add_befores(interpreter, body, inside, found, calls, remembered, steps)
 }
 
 /// Adds what is known before a simple statement, if it has a check.

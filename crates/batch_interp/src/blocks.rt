@@ -6,11 +6,13 @@ ghost use Rattle.imp_slots.specs.BlockViews.{before_code};
 ghost use Rattle.batch_meaning.specs.Values as plain;
 ghost use Rattle.batch_meaning.specs.Batch.{LoopOptions, next_of, head_of, joined};
 ghost use Rattle.batch_interp.specs.Answered.{value_of};
-ghost use Rattle.batch_interp.specs.Frames.{thresholds_at, calls_in, passed};
+ghost use Rattle.batch_interp.specs.Frames.{thresholds_at, body_at, calls_in, passed};
 ghost use Rattle.batch_interp.specs.Passing.{states, Ends, IsFixed};
+ghost use Rattle.batch_interp.specs.Remembering.{AreRight};
 
 use crate::Answer;
 use crate::frames::Interpreter;
+use crate::remembered::{Remembered, noted, recalled};
 use base_values::{Items, Memory};
 use domain_laws::{Domain, Steps};
 use imp_slots::{SlotAction, SlotBlock, SlotCall, SlotCond, SlotNode, SlotStmt};
@@ -110,16 +112,21 @@ pub(crate) fn block_answer<D: Domain, L: Ledger>(
     block: &SlotBlock,
     state: D::State,
     leaving: &mut Items<D::State>,
+    remembered: &mut Remembered<D::State>,
     steps: &mut Steps<L>,
 ) -> Result<Answer<D::State>, Memory>
+    requires right { AreRight (D.operations interpreter.now.dom.now) interpreter.now.plan.now
+        remembered.old }
     ensures is { IfOk result (Ends leaving.old leaving.new
         (passed (D.operations interpreter.now.dom.now) interpreter.now.plan.now
         interpreter.now.frame.now.place interpreter.now.frame.now.sites block.now
         (plain.State state))) }
+    ensures right { OnOk result (AreRight (D.operations interpreter.now.dom.now)
+        interpreter.now.plan.now remembered.new) }
 {
     let mut now = state;
     for node in block.statements() {
-        match node_answer(interpreter, node, &now, leaving, steps)? {
+        match node_answer(interpreter, node, &now, leaving, remembered, steps)? {
             Answer::State(next) => now = next,
             Answer::Over { head, chain } => return Ok(Answer::Over { head, chain }),
         }
@@ -134,12 +141,17 @@ pub(crate) fn node_answer<D: Domain, L: Ledger>(
     node: &SlotNode,
     state: &D::State,
     leaving: &mut Items<D::State>,
+    remembered: &mut Remembered<D::State>,
     steps: &mut Steps<L>,
 ) -> Result<Answer<D::State>, Memory>
+    requires right { AreRight (D.operations interpreter.now.dom.now) interpreter.now.plan.now
+        remembered.old }
     ensures is { IfOk result (Ends leaving.old leaving.new
         (passed (D.operations interpreter.now.dom.now) interpreter.now.plan.now
         interpreter.now.frame.now.place interpreter.now.frame.now.sites
         (before_code node.now Stop) (plain.State state.now))) }
+    ensures right { OnOk result (AreRight (D.operations interpreter.now.dom.now)
+        interpreter.now.plan.now remembered.new) }
 {
     match node {
         SlotNode::Simple(_, action) => {
@@ -147,13 +159,22 @@ pub(crate) fn node_answer<D: Domain, L: Ledger>(
             Ok(Answer::State(next))
         }
         SlotNode::If(_, cond, then, els) => {
-            if_answer(interpreter, cond, then, els, state, leaving, steps)
+            if_answer(
+                interpreter,
+                cond,
+                then,
+                els,
+                state,
+                leaving,
+                remembered,
+                steps,
+            )
         }
         SlotNode::While(n, cond, body) => {
-            while_answer(interpreter, *n, cond, body, state, steps)
+            while_answer(interpreter, *n, cond, body, state, remembered, steps)
         }
         SlotNode::Call(n, call, callee) => {
-            call_answer(interpreter, *n, call, *callee, state, steps)
+            call_answer(interpreter, *n, call, *callee, state, remembered, steps)
         }
         SlotNode::Break(_) => {
             let next = behind_break(interpreter.alloc, interpreter.dom, state, leaving, steps)?;
@@ -171,18 +192,23 @@ fn block_under<D: Domain, L: Ledger>(
     block: &SlotBlock,
     state: &D::State,
     leaving: &mut Items<D::State>,
+    remembered: &mut Remembered<D::State>,
     steps: &mut Steps<L>,
 ) -> Result<Answer<D::State>, Memory>
+    requires right { AreRight (D.operations interpreter.now.dom.now) interpreter.now.plan.now
+        remembered.old }
     ensures is { IfOk result (Ends leaving.old leaving.new
         (passed (D.operations interpreter.now.dom.now) interpreter.now.plan.now
         interpreter.now.frame.now.place interpreter.now.frame.now.sites block.now
         (plain.State ((D.operations interpreter.now.dom.now).assume cond.now sense
         state.now)))) }
+    ensures right { OnOk result (AreRight (D.operations interpreter.now.dom.now)
+        interpreter.now.plan.now remembered.new) }
 {
     let inside = interpreter
         .dom
         .assume(interpreter.alloc, cond, sense, state, steps)?;
-    block_answer(interpreter, block, inside, leaving, steps)
+    block_answer(interpreter, block, inside, leaving, remembered, steps)
 }
 
 /// Both blocks of an if, joined. The states that leave the first one stand first.
@@ -194,18 +220,41 @@ fn if_answer<D: Domain, L: Ledger>(
     els: &SlotBlock,
     state: &D::State,
     leaving: &mut Items<D::State>,
+    remembered: &mut Remembered<D::State>,
     steps: &mut Steps<L>,
 ) -> Result<Answer<D::State>, Memory>
+    requires right { AreRight (D.operations interpreter.now.dom.now) interpreter.now.plan.now
+        remembered.old }
     ensures is { IfOk result (Ends leaving.old leaving.new
         (passed (D.operations interpreter.now.dom.now) interpreter.now.plan.now
         interpreter.now.frame.now.place interpreter.now.frame.now.sites
         (If 0 cond.now then.now els.now Stop) (plain.State state.now))) }
+    ensures right { OnOk result (AreRight (D.operations interpreter.now.dom.now)
+        interpreter.now.plan.now remembered.new) }
 {
-    let left = match block_under(interpreter, cond, true, then, state, leaving, steps)? {
+    let left = match block_under(
+        interpreter,
+        cond,
+        true,
+        then,
+        state,
+        leaving,
+        remembered,
+        steps,
+    )? {
         Answer::State(left) => left,
         Answer::Over { head, chain } => return Ok(Answer::Over { head, chain }),
     };
-    let right = match block_under(interpreter, cond, false, els, state, leaving, steps)? {
+    let right = match block_under(
+        interpreter,
+        cond,
+        false,
+        els,
+        state,
+        leaving,
+        remembered,
+        steps,
+    )? {
         Answer::State(right) => right,
         Answer::Over { head, chain } => return Ok(Answer::Over { head, chain }),
     };
@@ -224,13 +273,18 @@ fn while_answer<D: Domain, L: Ledger>(
     cond: &SlotCond,
     body: &SlotBlock,
     state: &D::State,
+    remembered: &mut Remembered<D::State>,
     steps: &mut Steps<L>,
 ) -> Result<Answer<D::State>, Memory>
+    requires right { AreRight (D.operations interpreter.now.dom.now) interpreter.now.plan.now
+        remembered.old }
     ensures is { IfOk result (λ a. value_of a ≡ (passed (D.operations interpreter.now.dom.now)
         interpreter.now.plan.now interpreter.now.frame.now.place interpreter.now.frame.now.sites
         (While n cond.now body.now Stop) (plain.State state.now)).value) }
+    ensures right { OnOk result (AreRight (D.operations interpreter.now.dom.now)
+        interpreter.now.plan.now remembered.new) }
 {
-    match loop_head(interpreter, n, cond, body, state, steps)? {
+    match loop_head(interpreter, n, cond, body, state, remembered, steps)? {
         Fixed::At { head, leaving } => {
             let out = interpreter
                 .dom
@@ -256,8 +310,11 @@ pub(crate) fn loop_head<D: Domain, L: Ledger>(
     cond: &SlotCond,
     body: &SlotBlock,
     state: &D::State,
+    remembered: &mut Remembered<D::State>,
     steps: &mut Steps<L>,
 ) -> Result<Fixed<D::State>, Memory>
+    requires right { AreRight (D.operations interpreter.now.dom.now) interpreter.now.plan.now
+        remembered.old }
     ensures is { IfOk result (IsFixed (D.operations interpreter.now.dom.now)
         (head_of (D.operations interpreter.now.dom.now) interpreter.now.plan.now.engine
         (thresholds_at interpreter.now.plan.now interpreter.now.frame.now.place)
@@ -267,11 +324,22 @@ pub(crate) fn loop_head<D: Domain, L: Ledger>(
         (plain.State state.now)) cond.now (passed (D.operations interpreter.now.dom.now)
         interpreter.now.plan.now interpreter.now.frame.now.place interpreter.now.frame.now.sites
         body.now)) }
+    ensures right { OnOk result (AreRight (D.operations interpreter.now.dom.now)
+        interpreter.now.plan.now remembered.new) }
 {
     let mut now = interpreter.dom.copy(interpreter.alloc, state)?;
     for k in 0..interpreter.plan.budget() {
         let mut leaving = Items::new(interpreter.alloc);
-        let end = match block_under(interpreter, cond, true, body, &now, &mut leaving, steps)? {
+        let end = match block_under(
+            interpreter,
+            cond,
+            true,
+            body,
+            &now,
+            &mut leaving,
+            remembered,
+            steps,
+        )? {
             Answer::State(end) => end,
             Answer::Over { head, chain } => return Ok(Fixed::Over { head, chain }),
         };
@@ -295,16 +363,21 @@ fn call_answer<D: Domain, L: Ledger>(
     call: &SlotCall,
     callee: u32,
     state: &D::State,
+    remembered: &mut Remembered<D::State>,
     steps: &mut Steps<L>,
 ) -> Result<Answer<D::State>, Memory>
+    requires right { AreRight (D.operations interpreter.now.dom.now) interpreter.now.plan.now
+        remembered.old }
     ensures is { IfOk result (λ a. value_of a ≡ (passed (D.operations interpreter.now.dom.now)
         interpreter.now.plan.now interpreter.now.frame.now.place interpreter.now.frame.now.sites
         (Call n call.now callee Stop) (plain.State state.now)).value) }
+    ensures right { OnOk result (AreRight (D.operations interpreter.now.dom.now)
+        interpreter.now.plan.now remembered.new) }
 {
     let entered = interpreter
         .dom
         .enter(interpreter.alloc, call, state, steps)?;
-    match callee_answer(interpreter, n, callee as usize, entered, steps)? {
+    match callee_answer(interpreter, n, callee as usize, entered, remembered, steps)? {
         Answer::State(done) => Ok(Answer::State(
             interpreter
                 .dom
@@ -322,24 +395,59 @@ fn callee_answer<D: Domain, L: Ledger>(
     n: u32,
     callee: usize,
     entered: D::State,
+    remembered: &mut Remembered<D::State>,
     steps: &mut Steps<L>,
 ) -> Result<Answer<D::State>, Memory>
+    requires right { AreRight (D.operations interpreter.now.dom.now) interpreter.now.plan.now
+        remembered.old }
     ensures is { IfOk result (λ a. value_of a ≡ calls_in (D.operations interpreter.now.dom.now)
         interpreter.now.plan.now interpreter.now.frame.now.place interpreter.now.frame.now.sites
         n callee (plain.State entered)) }
+    ensures right { OnOk result (AreRight (D.operations interpreter.now.dom.now)
+        interpreter.now.plan.now remembered.new) }
 {
     match interpreter.plan.callee(interpreter.frame.place, callee) {
         None => Ok(Answer::State(entered)),
         Some(routine) => {
             let inner = interpreter.frame.callee(interpreter.alloc, n, callee)?;
-            let mut leaving = Items::new(interpreter.alloc);
             let there = Interpreter {
                 alloc: interpreter.alloc,
                 dom: interpreter.dom,
                 plan: interpreter.plan,
                 frame: &inner,
             };
-            block_answer(&there, routine.body(), entered, &mut leaving, steps)
+            procedure_answer(&there, routine.body(), entered, remembered, steps)
+        }
+    }
+}
+
+/// The body of a procedure, from the state before it: what is remembered of it, or else what it gives, which
+/// is remembered.
+#[cycle(blocks)]
+fn procedure_answer<D: Domain, L: Ledger>(
+    interpreter: &Interpreter<D>,
+    body: &SlotBlock,
+    entered: D::State,
+    remembered: &mut Remembered<D::State>,
+    steps: &mut Steps<L>,
+) -> Result<Answer<D::State>, Memory>
+    requires body { body.now ≡ body_at interpreter.now.plan.now.program
+        interpreter.now.frame.now.place }
+    requires right { AreRight (D.operations interpreter.now.dom.now) interpreter.now.plan.now
+        remembered.old }
+    ensures is { IfOk result (λ a. value_of a ≡ (passed (D.operations interpreter.now.dom.now)
+        interpreter.now.plan.now interpreter.now.frame.now.place interpreter.now.frame.now.sites
+        body.now (plain.State entered)).value) }
+    ensures right { OnOk result (AreRight (D.operations interpreter.now.dom.now)
+        interpreter.now.plan.now remembered.new) }
+{
+    match recalled(interpreter, remembered, &entered)? {
+        Some(end) => Ok(Answer::State(end)),
+        None => {
+            let before = interpreter.dom.copy(interpreter.alloc, &entered)?;
+            let mut leaving = Items::new(interpreter.alloc);
+            let answer = block_answer(interpreter, body, entered, &mut leaving, remembered, steps)?;
+            noted(interpreter, before, answer, remembered)
         }
     }
 }

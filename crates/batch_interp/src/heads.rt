@@ -10,11 +10,13 @@ ghost use Rattle.cert_meaning.specs.Written.{loops};
 ghost use Rattle.batch_interp.specs.Frames.{body_at};
 ghost use Rattle.batch_interp.specs.Handing.{told_of, calls_from, calls_inside, AreEntered, AreHanded, AreHandedBy};
 ghost use Rattle.batch_interp.specs.Heads.{loop_value, loop_values, values_inside, under_told, told_under, all_loops_told};
+ghost use Rattle.batch_interp.specs.Remembering.{AreRight};
 
 use crate::Answer;
 use crate::calls::{Handed, Handover, all_handed, main_handed, taken};
 use crate::frames::{Interpreter, Plan};
 use crate::pieces::{append, in_one};
+use crate::remembered::Remembered;
 use crate::spots::{assumed, behind_node, copy_of, head_from};
 use crate::walks::{Entered, enter};
 use base_values::{Items, Memory};
@@ -55,8 +57,11 @@ fn add_heads<D: Domain, L: Ledger>(
     before: Answer<D::State>,
     found: &mut Items<LoopHead<D::State>>,
     calls: &mut Items<Entered<D::State>>,
+    remembered: &mut Remembered<D::State>,
     steps: &mut Steps<L>,
 ) -> Result<(), Memory>
+    requires right { AreRight (D.operations interpreter.now.dom.now) interpreter.now.plan.now
+        remembered.old }
     ensures added { OnOk result (map loop_value found.new ≡ map loop_value found.old
         ++ loop_values (D.operations interpreter.now.dom.now) interpreter.now.plan.now
         interpreter.now.frame.now.place interpreter.now.frame.now.sites block.now
@@ -65,11 +70,13 @@ fn add_heads<D: Domain, L: Ledger>(
         ++ calls_from (D.operations interpreter.now.dom.now) interpreter.now.plan.now
         interpreter.now.frame.now.place interpreter.now.frame.now.sites block.now
         (value_of before)) }
+    ensures right { OnOk result (AreRight (D.operations interpreter.now.dom.now)
+        interpreter.now.plan.now remembered.new) }
 {
     let mut now = before;
     for node in block.statements() {
-        add_heads_in(interpreter, node, &now, found, calls, steps)?;
-        now = behind_node(interpreter, node, now, steps)?;
+        add_heads_in(interpreter, node, &now, found, calls, remembered, steps)?;
+        now = behind_node(interpreter, node, now, remembered, steps)?;
     }
     Ok(())
 }
@@ -82,8 +89,11 @@ fn add_heads_in<D: Domain, L: Ledger>(
     before: &Answer<D::State>,
     found: &mut Items<LoopHead<D::State>>,
     calls: &mut Items<Entered<D::State>>,
+    remembered: &mut Remembered<D::State>,
     steps: &mut Steps<L>,
 ) -> Result<(), Memory>
+    requires right { AreRight (D.operations interpreter.now.dom.now) interpreter.now.plan.now
+        remembered.old }
     ensures added { OnOk result (map loop_value found.new ≡ map loop_value found.old
         ++ values_inside (D.operations interpreter.now.dom.now) interpreter.now.plan.now
         interpreter.now.frame.now.place interpreter.now.frame.now.sites node.now
@@ -92,16 +102,28 @@ fn add_heads_in<D: Domain, L: Ledger>(
         ++ calls_inside (D.operations interpreter.now.dom.now) interpreter.now.plan.now
         interpreter.now.frame.now.place interpreter.now.frame.now.sites node.now
         (value_of before.now)) }
+    ensures right { OnOk result (AreRight (D.operations interpreter.now.dom.now)
+        interpreter.now.plan.now remembered.new) }
 {
     match node {
         SlotNode::If(_, cond, then, els) => {
             let holds = assumed(interpreter, cond, true, before, steps)?;
-            add_heads(interpreter, then, holds, found, calls, steps)?;
+            add_heads(interpreter, then, holds, found, calls, remembered, steps)?;
             let fails = assumed(interpreter, cond, false, before, steps)?;
-            add_heads(interpreter, els, fails, found, calls, steps)
+            add_heads(interpreter, els, fails, found, calls, remembered, steps)
         }
         SlotNode::While(n, cond, body) => {
-            add_loop(interpreter, *n, cond, body, before, found, calls, steps)
+            add_loop(
+                interpreter,
+                *n,
+                cond,
+                body,
+                before,
+                found,
+                calls,
+                remembered,
+                steps,
+            )
         }
         SlotNode::Simple(_, _) => Ok(()),
         SlotNode::Call(n, call, callee) => {
@@ -121,8 +143,11 @@ fn add_loop<D: Domain, L: Ledger>(
     before: &Answer<D::State>,
     found: &mut Items<LoopHead<D::State>>,
     calls: &mut Items<Entered<D::State>>,
+    remembered: &mut Remembered<D::State>,
     steps: &mut Steps<L>,
 ) -> Result<(), Memory>
+    requires right { AreRight (D.operations interpreter.now.dom.now) interpreter.now.plan.now
+        remembered.old }
     ensures added { OnOk result (map loop_value found.new ≡ map loop_value found.old
         ++ values_inside (D.operations interpreter.now.dom.now) interpreter.now.plan.now
         interpreter.now.frame.now.place interpreter.now.frame.now.sites
@@ -131,12 +156,14 @@ fn add_loop<D: Domain, L: Ledger>(
         ++ calls_inside (D.operations interpreter.now.dom.now) interpreter.now.plan.now
         interpreter.now.frame.now.place interpreter.now.frame.now.sites
         (node.While n cond.now body.now) (value_of before.now)) }
+    ensures right { OnOk result (AreRight (D.operations interpreter.now.dom.now)
+        interpreter.now.plan.now remembered.new) }
 {
-    let value = head_from(interpreter, n, cond, body, before, steps)?;
+    let value = head_from(interpreter, n, cond, body, before, remembered, steps)?;
     let inside = assumed(interpreter, cond, true, &value, steps)?;
     let stmt = StmtId::new(n);
     found.push(LoopHead { stmt, value })?;
-    add_heads(interpreter, body, inside, found, calls, steps)
+    add_heads(interpreter, body, inside, found, calls, remembered, steps)
 }
 
 /// The loops of a procedure that is entered. The procedures that its calls enter are added.
@@ -147,8 +174,10 @@ fn heads_of<D: Domain, L: Ledger>(
     body: &SlotBlock,
     entered: &Entered<D::State>,
     calls: &mut Items<Entered<D::State>>,
+    remembered: &mut Remembered<D::State>,
     steps: &mut Steps<L>,
 ) -> Result<LoopsUnder<D::State>, Memory>
+    requires right { AreRight (D.operations dom.now) plan.now remembered.old }
     ensures chain { IfOk result (λ u. reverse u.chain ≡ entered.now.frame.sites) }
     ensures is { IfOk result (λ u. map loop_value u.heads ≡
         loop_values (D.operations dom.now) plan.now entered.now.frame.place
@@ -156,6 +185,7 @@ fn heads_of<D: Domain, L: Ledger>(
     ensures calls { OnOk result (map told_of calls.new ≡ map told_of calls.old
         ++ calls_from (D.operations dom.now) plan.now entered.now.frame.place
         entered.now.frame.sites body.now (value_of entered.now.before)) }
+    ensures right { OnOk result (AreRight (D.operations dom.now) plan.now remembered.new) }
 {
     let before = copy_of(alloc, dom, &entered.before)?;
     let chain = entered.frame.chain(alloc)?;
@@ -166,7 +196,15 @@ fn heads_of<D: Domain, L: Ledger>(
         plan,
         frame: &entered.frame,
     };
-    add_heads(&interpreter, body, before, &mut heads, calls, steps)?;
+    add_heads(
+        &interpreter,
+        body,
+        before,
+        &mut heads,
+        calls,
+        remembered,
+        steps,
+    )?;
     Ok(LoopsUnder { chain, heads })
 }
 
@@ -185,23 +223,26 @@ fn loops_under<D: Domain, L: Ledger>(
     plan: &Plan,
     place: usize,
     entered: &[Entered<D::State>],
+    remembered: &mut Remembered<D::State>,
     steps: &mut Steps<L>,
 ) -> Result<Walked<D::State>, Memory>
     requires checked { IsChecked plan.now.program }
     requires within { place < length plan.now.program }
     requires entered { AreEntered (D.operations dom.now) plan.now place
         (chains plan.now.program place) entered.now }
+    requires right { AreRight (D.operations dom.now) plan.now remembered.old }
     ensures loops { IfOk result (λ w. map under_told w.loops ≡
         told_under (D.operations dom.now) plan.now.engine plan.now.program
         (loops (body_at plan.now.program place)) (chains plan.now.program place)) }
     ensures calls { IfOk result (λ w. AreHandedBy (D.operations dom.now) plan.now place w.calls) }
+    ensures right { OnOk result (AreRight (D.operations dom.now) plan.now remembered.new) }
 {
     let body = plan.body(place);
     let mut loops = Items::new(alloc);
     let mut handed = Items::new(alloc);
     for next in entered {
         let mut calls = Items::new(alloc);
-        let under = heads_of(alloc, dom, plan, body, next, &mut calls, steps)?;
+        let under = heads_of(alloc, dom, plan, body, next, &mut calls, remembered, steps)?;
         loops.push(under)?;
         handed = all_handed(alloc, handed, calls)?;
     }
@@ -218,15 +259,18 @@ fn loops_at<D: Domain, L: Ledger>(
     plan: &Plan,
     place: usize,
     calls: Items<Handed<D::State>>,
+    remembered: &mut Remembered<D::State>,
     steps: &mut Steps<L>,
 ) -> Result<Walked<D::State>, Memory>
     requires checked { IsChecked plan.now.program }
     requires within { place < length plan.now.program }
     requires handed { AreHanded (D.operations dom.now) plan.now (suc place) calls }
+    requires right { AreRight (D.operations dom.now) plan.now remembered.old }
     ensures loops { IfOk result (λ w. map under_told w.loops ≡
         told_under (D.operations dom.now) plan.now.engine plan.now.program
         (loops (body_at plan.now.program place)) (chains plan.now.program place)) }
     ensures calls { IfOk result (λ w. AreHanded (D.operations dom.now) plan.now place w.calls) }
+    ensures right { OnOk result (AreRight (D.operations dom.now) plan.now remembered.new) }
 {
     chains_go_through_callers();
     let Handover { entered, others } = taken(alloc, calls, place)?;
@@ -236,6 +280,7 @@ fn loops_at<D: Domain, L: Ledger>(
         plan,
         place,
         entered.as_slice(),
+        remembered,
         steps,
     )?;
     append(&mut calls, others)?;
@@ -264,8 +309,9 @@ pub fn loop_heads<D: Domain, L: Ledger>(
     let plan = Plan::new(prog, setting);
     let mut calls = main_handed(alloc, dom, &plan, steps)?;
     let mut parts = Items::new(alloc);
+    let mut remembered = Remembered::new(alloc);
     for place in (0..count).rev() {
-        let walked = loops_at(alloc, dom, &plan, place, calls, steps)?;
+        let walked = loops_at(alloc, dom, &plan, place, calls, &mut remembered, steps)?;
         calls = walked.calls;
         parts.push(walked.loops)?;
     }

@@ -9,14 +9,16 @@
 //!
 //! An answer follows each selected chain from `main`: the statements before a call are
 //! interpreted, the callee is entered, and so on to the statement that is asked for. Nothing is kept
-//! from one call to the next.
+//! from one answer to the next.
 //!
 //! Reports and heads come from one walk over the calls. The procedures are taken from main down, and each
 //! body is walked once under each chain to it, in the order of the chains. A walk hands down what is known
 //! before the bodies that its calls enter; that is held until their procedures have been walked, so at
 //! most one state for each chain of the program is held at a time. On the way through a body the procedures
-//! that it calls are interpreted too: a body is interpreted once for each procedure on its chain, which has
-//! at most eight calls.
+//! that it calls are interpreted too. What a procedure gives from a state before its body does not depend on
+//! the chain, as long as it is a state: an Over names its chain. So it is remembered, for at most 1,024
+//! procedures and states, and where the same procedure is entered with the same state again, under whatever
+//! chain, its body is not interpreted anew.
 #![tactic(auto)]
 
 mod answering;
@@ -29,6 +31,7 @@ mod findings;
 mod frames;
 mod heads;
 mod pieces;
+mod remembered;
 mod reporting;
 mod spots;
 mod sums;

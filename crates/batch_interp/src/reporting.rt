@@ -1,5 +1,5 @@
 //! Reports of a whole program, for `exact` and `sound` of `batch_report`.
-ghost use Rattle.std.specs.Prelude.{◌≡◌, ◌<◌, suc, length, map, Contains, IfOk};
+ghost use Rattle.std.specs.Prelude.{◌≡◌, ◌<◌, suc, length, map, Contains, IfOk, OnOk};
 ghost use Rattle.imp_slots.specs.Fits.{IsChecked};
 ghost use Rattle.imp_check.specs.Slots.{routines_of};
 ghost use Rattle.imp_words.specs.declared.findings.Finding.{Finding};
@@ -8,11 +8,13 @@ ghost use Rattle.batch_sound.specs.Theorem.{IsFindingSound};
 ghost use Rattle.call_contexts.specs.Settings.{setting_of};
 ghost use Rattle.batch_interp.specs.Frames.{body_at};
 ghost use Rattle.batch_interp.specs.Handing.{AreHanded};
+ghost use Rattle.batch_interp.specs.Remembering.{AreRight};
 
 use crate::calls::{Handed, Handover, main_handed, taken};
 use crate::findings::findings_of;
 use crate::frames::Plan;
 use crate::pieces::{append, in_one};
+use crate::remembered::Remembered;
 use crate::totals::{Summed, totals};
 use base_values::{Items, Memory};
 use batch_sound::reports_are_sound;
@@ -37,20 +39,31 @@ fn findings_at<D: Domain, L: Ledger>(
     plan: &Plan,
     place: usize,
     calls: Items<Handed<D::State>>,
+    remembered: &mut Remembered<D::State>,
     steps: &mut Steps<L>,
 ) -> Result<Walked<D::State>, Memory>
     requires checked { IsChecked plan.now.program }
     requires within { place < length plan.now.program }
     requires handed { AreHanded (D.operations dom.now) plan.now (suc place) calls }
+    requires right { AreRight (D.operations dom.now) plan.now remembered.old }
     ensures findings { IfOk result (λ w. w.findings ≡ map
         (finding (D.operations dom.now) plan.now.engine plan.now.program)
         (checked_in (body_at plan.now.program place))) }
     ensures calls { IfOk result (λ w. AreHanded (D.operations dom.now) plan.now place w.calls) }
+    ensures right { OnOk result (AreRight (D.operations dom.now) plan.now remembered.new) }
 {
     chains_go_through_callers();
     places_are_found();
     let Handover { entered, others } = taken(alloc, calls, place)?;
-    let Summed { known, mut calls } = totals(alloc, dom, plan, place, entered.as_slice(), steps)?;
+    let Summed { known, mut calls } = totals(
+        alloc,
+        dom,
+        plan,
+        place,
+        entered.as_slice(),
+        remembered,
+        steps,
+    )?;
     append(&mut calls, others)?;
     let findings = findings_of(alloc, dom, plan.body(place), &known)?;
     Ok(Walked { findings, calls })
@@ -100,8 +113,9 @@ fn all_findings<D: Domain, L: Ledger>(
     let plan = Plan::new(prog, setting);
     let mut calls = main_handed(alloc, dom, &plan, steps)?;
     let mut parts = Items::new(alloc);
+    let mut remembered = Remembered::new(alloc);
     for place in (0..count).rev() {
-        let walked = findings_at(alloc, dom, &plan, place, calls, steps)?;
+        let walked = findings_at(alloc, dom, &plan, place, calls, &mut remembered, steps)?;
         calls = walked.calls;
         parts.push(walked.findings)?;
     }

@@ -1,5 +1,5 @@
 //! Statements by their numbers, with what is known before them.
-ghost use Rattle.std.specs.Prelude.{◌≡◌, IfOk, true, false, option_map};
+ghost use Rattle.std.specs.Prelude.{◌≡◌, IfOk, OnOk, true, false, option_map};
 ghost use Rattle.imp_slots.specs.Plain.{Stop, While};
 ghost use Rattle.imp_slots.specs.BlockViews.{before_code};
 ghost use Rattle.batch_meaning.specs.Values.{State, lift};
@@ -8,10 +8,12 @@ ghost use Rattle.batch_meaning.specs.Places.{find};
 ghost use Rattle.batch_interp.specs.Answered.{value_of};
 ghost use Rattle.batch_interp.specs.Frames.{thresholds_at, passed};
 ghost use Rattle.batch_interp.specs.Seeking.{places, spot_of, inner_of, holds_inside};
+ghost use Rattle.batch_interp.specs.Remembering.{AreRight};
 
 use crate::Answer;
 use crate::blocks::{Fixed, block_answer, loop_head, node_answer};
 use crate::frames::Interpreter;
+use crate::remembered::Remembered;
 use base_values::{Items, Memory};
 use call_contexts::holds;
 use domain_laws::{Domain, Steps};
@@ -81,16 +83,21 @@ pub(crate) fn behind_block<D: Domain, L: Ledger>(
     interpreter: &Interpreter<D>,
     block: &SlotBlock,
     before: Answer<D::State>,
+    remembered: &mut Remembered<D::State>,
     steps: &mut Steps<L>,
 ) -> Result<Answer<D::State>, Memory>
+    requires right { AreRight (D.operations interpreter.now.dom.now) interpreter.now.plan.now
+        remembered.old }
     ensures is { IfOk result (λ a. value_of a ≡ (passed (D.operations interpreter.now.dom.now)
         interpreter.now.plan.now interpreter.now.frame.now.place interpreter.now.frame.now.sites
         block.now (value_of before)).value) }
+    ensures right { OnOk result (AreRight (D.operations interpreter.now.dom.now)
+        interpreter.now.plan.now remembered.new) }
 {
     match before {
         Answer::State(state) => {
             let mut leaving = Items::new(interpreter.alloc);
-            block_answer(interpreter, block, state, &mut leaving, steps)
+            block_answer(interpreter, block, state, &mut leaving, remembered, steps)
         }
         Answer::Over { head, chain } => Ok(Answer::Over { head, chain }),
     }
@@ -101,16 +108,21 @@ pub(crate) fn behind_node<D: Domain, L: Ledger>(
     interpreter: &Interpreter<D>,
     node: &SlotNode,
     before: Answer<D::State>,
+    remembered: &mut Remembered<D::State>,
     steps: &mut Steps<L>,
 ) -> Result<Answer<D::State>, Memory>
+    requires right { AreRight (D.operations interpreter.now.dom.now) interpreter.now.plan.now
+        remembered.old }
     ensures is { IfOk result (λ a. value_of a ≡ (passed (D.operations interpreter.now.dom.now)
         interpreter.now.plan.now interpreter.now.frame.now.place interpreter.now.frame.now.sites
         (before_code node.now Stop) (value_of before)).value) }
+    ensures right { OnOk result (AreRight (D.operations interpreter.now.dom.now)
+        interpreter.now.plan.now remembered.new) }
 {
     match before {
         Answer::State(state) => {
             let mut leaving = Items::new(interpreter.alloc);
-            node_answer(interpreter, node, &state, &mut leaving, steps)
+            node_answer(interpreter, node, &state, &mut leaving, remembered, steps)
         }
         Answer::Over { head, chain } => Ok(Answer::Over { head, chain }),
     }
@@ -123,16 +135,21 @@ fn head_of_state<D: Domain, L: Ledger>(
     cond: &SlotCond,
     body: &SlotBlock,
     state: &D::State,
+    remembered: &mut Remembered<D::State>,
     steps: &mut Steps<L>,
 ) -> Result<Answer<D::State>, Memory>
+    requires right { AreRight (D.operations interpreter.now.dom.now) interpreter.now.plan.now
+        remembered.old }
     ensures is { IfOk result (λ a. value_of a ≡ (head_of (D.operations interpreter.now.dom.now)
         interpreter.now.plan.now.engine (thresholds_at interpreter.now.plan.now
         interpreter.now.frame.now.place) interpreter.now.frame.now.sites n cond.now
         (passed (D.operations interpreter.now.dom.now) interpreter.now.plan.now
         interpreter.now.frame.now.place interpreter.now.frame.now.sites body.now)
         (State state.now)).value) }
+    ensures right { OnOk result (AreRight (D.operations interpreter.now.dom.now)
+        interpreter.now.plan.now remembered.new) }
 {
-    match loop_head(interpreter, n, cond, body, state, steps)? {
+    match loop_head(interpreter, n, cond, body, state, remembered, steps)? {
         Fixed::At { head, leaving: _ } => Ok(Answer::State(head)),
         Fixed::Over { head, chain } => Ok(Answer::Over { head, chain }),
     }
@@ -145,17 +162,30 @@ pub(crate) fn head_answer<D: Domain, L: Ledger>(
     cond: &SlotCond,
     body: &SlotBlock,
     before: Answer<D::State>,
+    remembered: &mut Remembered<D::State>,
     steps: &mut Steps<L>,
 ) -> Result<Answer<D::State>, Memory>
+    requires right { AreRight (D.operations interpreter.now.dom.now) interpreter.now.plan.now
+        remembered.old }
     ensures is { IfOk result (λ a. value_of a ≡ (head_of (D.operations interpreter.now.dom.now)
         interpreter.now.plan.now.engine (thresholds_at interpreter.now.plan.now
         interpreter.now.frame.now.place) interpreter.now.frame.now.sites n cond.now
         (passed (D.operations interpreter.now.dom.now) interpreter.now.plan.now
         interpreter.now.frame.now.place interpreter.now.frame.now.sites body.now)
         (value_of before)).value) }
+    ensures right { OnOk result (AreRight (D.operations interpreter.now.dom.now)
+        interpreter.now.plan.now remembered.new) }
 {
     match before {
-        Answer::State(state) => head_of_state(interpreter, n, cond, body, &state, steps),
+        Answer::State(state) => head_of_state(
+            interpreter,
+            n,
+            cond,
+            body,
+            &state,
+            remembered,
+            steps,
+        ),
         Answer::Over { head, chain } => Ok(Answer::Over { head, chain }),
     }
 }
@@ -167,17 +197,22 @@ pub(crate) fn head_from<D: Domain, L: Ledger>(
     cond: &SlotCond,
     body: &SlotBlock,
     before: &Answer<D::State>,
+    remembered: &mut Remembered<D::State>,
     steps: &mut Steps<L>,
 ) -> Result<Answer<D::State>, Memory>
+    requires right { AreRight (D.operations interpreter.now.dom.now) interpreter.now.plan.now
+        remembered.old }
     ensures is { IfOk result (λ a. value_of a ≡ (head_of (D.operations interpreter.now.dom.now)
         interpreter.now.plan.now.engine (thresholds_at interpreter.now.plan.now
         interpreter.now.frame.now.place) interpreter.now.frame.now.sites n cond.now
         (passed (D.operations interpreter.now.dom.now) interpreter.now.plan.now
         interpreter.now.frame.now.place interpreter.now.frame.now.sites body.now)
         (value_of before.now)).value) }
+    ensures right { OnOk result (AreRight (D.operations interpreter.now.dom.now)
+        interpreter.now.plan.now remembered.new) }
 {
     match before {
-        Answer::State(state) => head_of_state(interpreter, n, cond, body, state, steps),
+        Answer::State(state) => head_of_state(interpreter, n, cond, body, state, remembered, steps),
         Answer::Over { head, chain } => Ok(Answer::Over {
             head: *head,
             chain: copy_of_chain(interpreter.alloc, chain)?,
@@ -205,14 +240,19 @@ pub(crate) fn seek<'a, D: Domain, L: Ledger>(
     block: &'a SlotBlock,
     before: Answer<D::State>,
     number: u32,
+    remembered: &mut Remembered<D::State>,
     steps: &mut Steps<L>,
 ) -> Result<Option<Seen<'a, D::State>>, Memory>
+    requires right { AreRight (D.operations interpreter.now.dom.now) interpreter.now.plan.now
+        remembered.old }
     ensures is { IfOk result (λ s. option_map (spot_of (D.operations interpreter.now.dom.now)
         interpreter.now.plan.now interpreter.now.frame.now.place
         interpreter.now.frame.now.sites) s ≡ find number
         (places (D.operations interpreter.now.dom.now) interpreter.now.plan.now
         interpreter.now.frame.now.place interpreter.now.frame.now.sites block.now
         (value_of before))) }
+    ensures right { OnOk result (AreRight (D.operations interpreter.now.dom.now)
+        interpreter.now.plan.now remembered.new) }
 {
     let mut now = before;
     for node in block.statements() {
@@ -220,9 +260,9 @@ pub(crate) fn seek<'a, D: Domain, L: Ledger>(
             return Ok(Some(Seen { node, before: now }));
         }
         if holds_inside(node, number) {
-            return seek_inside(interpreter, node, now, number, steps);
+            return seek_inside(interpreter, node, now, number, remembered, steps);
         }
-        now = behind_node(interpreter, node, now, steps)?;
+        now = behind_node(interpreter, node, now, remembered, steps)?;
     }
     Ok(None)
 }
@@ -234,26 +274,58 @@ fn seek_inside<'a, D: Domain, L: Ledger>(
     node: &'a SlotNode,
     before: Answer<D::State>,
     number: u32,
+    remembered: &mut Remembered<D::State>,
     steps: &mut Steps<L>,
 ) -> Result<Option<Seen<'a, D::State>>, Memory>
+    requires right { AreRight (D.operations interpreter.now.dom.now) interpreter.now.plan.now
+        remembered.old }
     ensures is { IfOk result (λ s. option_map (spot_of (D.operations interpreter.now.dom.now)
         interpreter.now.plan.now interpreter.now.frame.now.place
         interpreter.now.frame.now.sites) s ≡ find number
         (inner_of (D.operations interpreter.now.dom.now) interpreter.now.plan.now
         interpreter.now.frame.now.place interpreter.now.frame.now.sites node.now
         (value_of before))) }
+    ensures right { OnOk result (AreRight (D.operations interpreter.now.dom.now)
+        interpreter.now.plan.now remembered.new) }
 {
     match node {
         SlotNode::If(_, cond, then, els) => {
             if holds(then, number) {
-                seek_under(interpreter, cond, true, then, before, number, steps)
+                seek_under(
+                    interpreter,
+                    cond,
+                    true,
+                    then,
+                    before,
+                    number,
+                    remembered,
+                    steps,
+                )
             } else {
-                seek_under(interpreter, cond, false, els, before, number, steps)
+                seek_under(
+                    interpreter,
+                    cond,
+                    false,
+                    els,
+                    before,
+                    number,
+                    remembered,
+                    steps,
+                )
             }
         }
         SlotNode::While(n, cond, body) => {
-            let head = head_answer(interpreter, *n, cond, body, before, steps)?;
-            seek_under(interpreter, cond, true, body, head, number, steps)
+            let head = head_answer(interpreter, *n, cond, body, before, remembered, steps)?;
+            seek_under(
+                interpreter,
+                cond,
+                true,
+                body,
+                head,
+                number,
+                remembered,
+                steps,
+            )
         }
         SlotNode::Simple(_, _) => Ok(None),
         SlotNode::Call(_, _, _) => Ok(None),
@@ -270,8 +342,11 @@ fn seek_under<'a, D: Domain, L: Ledger>(
     block: &'a SlotBlock,
     before: Answer<D::State>,
     number: u32,
+    remembered: &mut Remembered<D::State>,
     steps: &mut Steps<L>,
 ) -> Result<Option<Seen<'a, D::State>>, Memory>
+    requires right { AreRight (D.operations interpreter.now.dom.now) interpreter.now.plan.now
+        remembered.old }
     ensures is { IfOk result (λ s. option_map (spot_of (D.operations interpreter.now.dom.now)
         interpreter.now.plan.now interpreter.now.frame.now.place
         interpreter.now.frame.now.sites) s ≡ find number
@@ -279,7 +354,9 @@ fn seek_under<'a, D: Domain, L: Ledger>(
         interpreter.now.frame.now.place interpreter.now.frame.now.sites block.now
         (lift ((D.operations interpreter.now.dom.now).assume cond.now sense)
         (value_of before)))) }
+    ensures right { OnOk result (AreRight (D.operations interpreter.now.dom.now)
+        interpreter.now.plan.now remembered.new) }
 {
     let inside = assumed(interpreter, cond, sense, &before, steps)?;
-    seek(interpreter, block, inside, number, steps)
+    seek(interpreter, block, inside, number, remembered, steps)
 }

@@ -9,12 +9,14 @@ ghost use Rattle.batch_interp.specs.Handing.{told_of, calls_from, AreEntered, Ar
 ghost use Rattle.batch_interp.specs.Reporting.{befores, claims};
 ghost use Rattle.batch_interp.specs.Summing.{sum_with};
 ghost use Rattle.batch_interp.specs.Totalling.{first_of, behind_first, all_added, AreTotals};
+ghost use Rattle.batch_interp.specs.Remembering.{AreRight};
 
 use crate::Answer;
 use crate::befores::add_befores;
 use crate::calls::{Handed, all_handed};
 use crate::frames::{Interpreter, Plan};
 use crate::pieces::last_first;
+use crate::remembered::Remembered;
 use crate::spots::copy_of;
 use crate::sums::added;
 use crate::walks::Entered;
@@ -41,14 +43,17 @@ fn befores_of<D: Domain, L: Ledger>(
     body: &SlotBlock,
     entered: &Entered<D::State>,
     calls: &mut Items<Entered<D::State>>,
+    remembered: &mut Remembered<D::State>,
     steps: &mut Steps<L>,
 ) -> Result<Items<Answer<D::State>>, Memory>
+    requires right { AreRight (D.operations dom.now) plan.now remembered.old }
     ensures is { IfOk result (λ vs. map value_of vs ≡ befores
         (D.operations dom.now) plan.now entered.now.frame.place entered.now.frame.sites body.now
         (value_of entered.now.before)) }
     ensures calls { OnOk result (map told_of calls.new ≡ map told_of calls.old
         ++ calls_from (D.operations dom.now) plan.now entered.now.frame.place
         entered.now.frame.sites body.now (value_of entered.now.before)) }
+    ensures right { OnOk result (AreRight (D.operations dom.now) plan.now remembered.new) }
 {
     let before = copy_of(alloc, dom, &entered.before)?;
     let mut found = Items::new(alloc);
@@ -58,7 +63,15 @@ fn befores_of<D: Domain, L: Ledger>(
         plan,
         frame: &entered.frame,
     };
-    add_befores(&interpreter, body, before, &mut found, calls, steps)?;
+    add_befores(
+        &interpreter,
+        body,
+        before,
+        &mut found,
+        calls,
+        remembered,
+        steps,
+    )?;
     Ok(found)
 }
 
@@ -112,23 +125,26 @@ pub(crate) fn totals<D: Domain, L: Ledger>(
     plan: &Plan,
     place: usize,
     entered: &[Entered<D::State>],
+    remembered: &mut Remembered<D::State>,
     steps: &mut Steps<L>,
 ) -> Result<Summed<D::State>, Memory>
     requires checked { IsChecked plan.now.program }
     requires within { place < length plan.now.program }
     requires entered { AreEntered (D.operations dom.now) plan.now place
         (chains plan.now.program place) entered.now }
+    requires right { AreRight (D.operations dom.now) plan.now remembered.old }
     ensures known { IfOk result (λ t. AreTotals (D.operations dom.now) plan.now
         (chains plan.now.program place) (claims (checked_in (body_at plan.now.program place)))
         (map value_of t.known)) }
     ensures calls { IfOk result (λ t. AreHandedBy (D.operations dom.now) plan.now place t.calls) }
+    ensures right { OnOk result (AreRight (D.operations dom.now) plan.now remembered.new) }
 {
     let body = plan.body(place);
     let mut known = Items::new(alloc);
     let mut handed = Items::new(alloc);
     for next in entered {
         let mut calls = Items::new(alloc);
-        let more = befores_of(alloc, dom, plan, body, next, &mut calls, steps)?;
+        let more = befores_of(alloc, dom, plan, body, next, &mut calls, remembered, steps)?;
         known = all_added(alloc, dom, last_first(known), last_first(more), steps)?;
         handed = all_handed(alloc, handed, calls)?;
     }

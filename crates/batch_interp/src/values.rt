@@ -8,6 +8,7 @@ ghost use Rattle.batch_interp.specs.Seeking.{places, head_at};
 
 use crate::Answer;
 use crate::frames::{Interpreter, Plan};
+use crate::remembered::Remembered;
 use crate::spots::{Seen, behind_block, behind_node, head_answer, seek};
 use crate::walks::{Entered, enter_chain};
 use base_values::{Memory, Text};
@@ -30,7 +31,8 @@ fn before_number<D: Domain, L: Ledger>(
         interpreter.now.plan.now interpreter.now.frame.now.place interpreter.now.frame.now.sites
         body.now (value_of before))) (λ s. Some s.before)) }
 {
-    match seek(interpreter, body, before, number, steps)? {
+    let mut remembered = Remembered::new(interpreter.alloc);
+    match seek(interpreter, body, before, number, &mut remembered, steps)? {
         None => Ok(None),
         Some(seen) => Ok(Some(seen.before)),
     }
@@ -49,10 +51,11 @@ fn after_number<D: Domain, L: Ledger>(
         interpreter.now.plan.now interpreter.now.frame.now.place interpreter.now.frame.now.sites
         body.now (value_of before))) (λ s. Some s.after)) }
 {
-    match seek(interpreter, body, before, number, steps)? {
+    let mut remembered = Remembered::new(interpreter.alloc);
+    match seek(interpreter, body, before, number, &mut remembered, steps)? {
         None => Ok(None),
         Some(seen) => {
-            let after = behind_node(interpreter, seen.node, seen.before, steps)?;
+            let after = behind_node(interpreter, seen.node, seen.before, &mut remembered, steps)?;
             Ok(Some(after))
         }
     }
@@ -71,7 +74,16 @@ fn head_of_seen<D: Domain, L: Ledger>(
 {
     match seen.node {
         SlotNode::While(n, cond, body) => {
-            let head = head_answer(interpreter, *n, cond, body, seen.before, steps)?;
+            let mut remembered = Remembered::new(interpreter.alloc);
+            let head = head_answer(
+                interpreter,
+                *n,
+                cond,
+                body,
+                seen.before,
+                &mut remembered,
+                steps,
+            )?;
             Ok(Some(head))
         }
         _ => Ok(None),
@@ -91,7 +103,8 @@ fn head_of_number<D: Domain, L: Ledger>(
         interpreter.now.plan.now interpreter.now.frame.now.place interpreter.now.frame.now.sites
         body.now (value_of before))) head_value) }
 {
-    match seek(interpreter, body, before, number, steps)? {
+    let mut remembered = Remembered::new(interpreter.alloc);
+    match seek(interpreter, body, before, number, &mut remembered, steps)? {
         None => Ok(None),
         Some(seen) => head_of_seen(interpreter, seen, steps),
     }
@@ -113,7 +126,8 @@ fn end_of<D: Domain, L: Ledger>(
         interpreter.now.frame.now.sites (value_of before) (End name.now)) }
 {
     if name == routine.name() {
-        let end = behind_block(interpreter, routine.body(), before, steps)?;
+        let mut remembered = Remembered::new(interpreter.alloc);
+        let end = behind_block(interpreter, routine.body(), before, &mut remembered, steps)?;
         Ok(Some(end))
     } else {
         Ok(None)

@@ -9,6 +9,7 @@ ghost use Rattle.batch_interp.specs.Walking.{entered_of, IsEntered, called_from}
 
 use crate::Answer;
 use crate::frames::{CallFrame, Interpreter, Plan};
+use crate::remembered::Remembered;
 use crate::spots::{Seen, copy_of_chain, seek};
 use base_values::Memory;
 use domain_laws::{Domain, Steps};
@@ -165,7 +166,8 @@ fn enter_call<D: Domain, L: Ledger>(
         plan,
         frame: &frame,
     };
-    match seek(&interpreter, body, before, site, steps)? {
+    let mut remembered = Remembered::new(alloc);
+    match seek(&interpreter, body, before, site, &mut remembered, steps)? {
         None => Ok(None),
         Some(seen) => enter_seen(&interpreter, site, seen, steps),
     }

@@ -7,13 +7,15 @@
 //!
 //! Contracts see the paths and the names as lists, a path as the list of its frames, the last one first.
 //! Finding or adding a path or a name hashes three numbers and takes constant time on average; finding
-//! takes no memory. A path tells its call sites, and a name the statement that it belongs to.
+//! takes no memory. Where a name is asked for as the input of another one ([`Names::add_input`]), the number that it had
+//! the last time is tried first. A path tells its call sites, and a name the statement that it belongs to.
 #![tactic(auto)]
 
 ghost use Rattle.base_values.specs.Claims.{IsDecided};
 
 mod frame;
 mod names;
+mod near;
 mod path;
 
 pub use frame::{NameFrame, Point};

@@ -6,6 +6,7 @@ ghost use Rattle.cell_names.specs.declared.frame.Point.TheVariants.{Entry, Body}
 ghost use Rattle.cell_names.specs.Owners.{owner};
 
 use crate::frame::{NameFrame, Point};
+use crate::near::Near;
 use crate::path::{Name, PathId, PathStep};
 use base_values::{Items, Memory};
 use imp_syntax::StmtId;
@@ -18,6 +19,8 @@ use std::marker::Model;
 pub struct Names {
     steps: StateTable<PathStep>,
     names: StateTable<Name>,
+    // by the number of a name, the numbers that its inputs had last
+    near: Vec<Near>,
 }
 
 impl Model for Names {
@@ -39,6 +42,7 @@ impl Names {
         Names {
             steps: StateTable::new(alloc),
             names: StateTable::new(alloc),
+            near: Vec::new(alloc),
         }
     }
 
@@ -93,6 +97,50 @@ impl Names {
         let Name { path, point } = name;
         let number = self.names.intern(Name { path, point })?;
         Ok(number)
+    }
+
+    /// The same for the input at a place of the name that has a number. It is fast where that was asked for before.
+    #[inline]
+    pub fn add_input(&mut self, name: Name, of: usize, place: usize) -> Result<usize, Memory>
+        requires there { name.path < length self.old.paths }
+        ensures name { IfOk result (Adds self.old.names self.new.names
+            (name_in self.old.paths name)) }
+        ensures paths { self.new.paths ≡ self.old.paths }
+        ensures err { OnErr result (self.new ≡ self.old) }
+    {
+        if let Some(number) = self.noted_number(&name, of, place) {
+            return Ok(number);
+        }
+        let number = self.add(name)?;
+        self.note(of, place, number);
+        Ok(number)
+    }
+
+    // the number that is noted, where it is this name's
+    #[inline]
+    fn noted_number(&self, name: &Name, of: usize, place: usize) -> Option<usize>
+        ensures is { IfSome result (λ n. slice_get self.now.names n ≡
+            Some (name_in self.now.paths name.now)) }
+    {
+        let number = self.near.get(of)?.at(place);
+        if number >= self.len() {
+            return None;
+        }
+        let found = self.get(number);
+        if found == *name { Some(number) } else { None }
+    }
+
+    // notes a number, where there is memory
+    #[inline]
+    fn note(&mut self, of: usize, place: usize, number: usize)
+        ensures same { self.new ≡ self.old }
+    {
+        if of >= self.near.len() {
+            let _ = self.near.resize(self.names.len(), Near::new());
+        }
+        if let Some(near) = self.near.get_mut(of) {
+            *near = near.with(place, number);
+        }
     }
 
     /// The name that has a number.

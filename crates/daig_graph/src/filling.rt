@@ -55,6 +55,7 @@ impl<V> Graph<V> {
             (record { owner = owner; value = value; inputs = inputs })) }
         ensures err { OnErr result (self.new.cells ≡ self.old.cells) }
     {
+        let mut uses = inputs.blank_keys()?;
         make_room(
             &mut self.cells,
             &mut self.keys,
@@ -64,10 +65,7 @@ impl<V> Graph<V> {
             owner as usize,
             inputs.len(),
         )?;
-        let Inputs {
-            cells: inputs,
-            mut uses,
-        } = inputs;
+        let Inputs { cells: inputs } = inputs;
         link_inputs(&mut self.uses, cell, inputs.as_slice(), &mut uses);
         let own = self.owned.push(owner as usize, cell);
         let key = self.cells.insert_reserved(Cell {

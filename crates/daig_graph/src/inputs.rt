@@ -1,28 +1,23 @@
 //! The inputs of a cell that is to be filled.
-ghost use Rattle.std.specs.Prelude.{◌≡◌, [], ◌∷◌, ◌++◌, length, OnOk, OnErr};
+ghost use Rattle.std.specs.Prelude.{◌≡◌, [], ◌∷◌, ◌++◌, length, IfOk, OnOk, OnErr};
 
 use base_values::Memory;
 use smallvec::SmallVec;
 use std::alloc::Global;
 use std::marker::Model;
 
-/// The inputs of a cell that is to be filled, from left to right, with the memory that the cell will need for them.
-/// Two take none.
+/// The inputs of a cell that is to be filled, from left to right. Two take no memory.
 #[derive(Drop)]
 pub struct Inputs {
     pub(crate) cells: SmallVec<usize, 2>,
-    // room for the keys of the uses of these cells
-    pub(crate) uses: SmallVec<usize, 2>,
 }
 
 impl Model for Inputs {
-    ghost use Rattle.std.specs.Prelude.{List, ℕ, ◌≡◌, length};
+    ghost use Rattle.std.specs.Prelude.{List, ℕ};
 
     ghost Value = { List ℕ };
 
     ghost view = { λ a. a.cells.items };
-
-    ghost invariant = { λ a. length a.uses.items ≡ length a.cells.items };
 }
 
 impl Inputs {
@@ -33,7 +28,6 @@ impl Inputs {
     {
         Inputs {
             cells: SmallVec::new(alloc),
-            uses: SmallVec::new(alloc),
         }
     }
 
@@ -43,9 +37,7 @@ impl Inputs {
         ensures added { OnOk result (self.new ≡ self.old ++ cell ∷ []) }
         ensures err { OnErr result (self.new ≡ self.old) }
     {
-        self.uses.reserve(1)?;
         self.cells.push(cell)?;
-        self.uses.push_reserved(0);
         Ok(())
     }
 
@@ -63,5 +55,18 @@ impl Inputs {
         ensures count { result ≡ length self.now }
     {
         self.cells.len()
+    }
+
+    /// As many keys, which mean nothing yet.
+    #[inline]
+    pub(crate) fn blank_keys(&self) -> Result<SmallVec<usize, 2>, Memory>
+        ensures as_many { IfOk result (λ keys. length keys.items ≡ length self.now) }
+    {
+        let cells = &self.cells;
+        let mut keys = SmallVec::new(*cells.allocator());
+        for place in 0..cells.len() {
+            keys.push(place)?;
+        }
+        Ok(keys)
     }
 }

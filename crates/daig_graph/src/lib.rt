@@ -9,8 +9,7 @@
 //! (`specs/Linked.antt`), so that an item goes in and out in constant time, however long its list is; their first members
 //! are found by an index too. Filling and removing take as many steps as the cell has inputs, and filling as many more as
 //! the indexes get places; reading takes constant time, and a list of dependents or of the cells of a statement is
-//! walked, not copied. Removing and reading take no memory. A list of inputs comes as [`Inputs`], which keep the memory
-//! that the cell needs for them.
+//! walked, not copied. Removing and reading take no memory. A list of inputs comes as [`Inputs`].
 //!
 //! The memory of the indexes is in proportion to the greatest number of a cell and of a statement, so numbers are to be
 //! given from 0 on. [`Graph::renumber`] gives the cells other numbers, in the same order, so that those of cells that are

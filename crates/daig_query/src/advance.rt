@@ -151,10 +151,9 @@ fn turn_open<D: Domain, L: Ledger>(
     ensures most { steps.new ≤ steps.old + D.counted dom.now }
 {
     let top = &walk.stack[walk.stack.len() - 1];
-    let Some(row) = row_of(flow, &store.names, &top.name) else {
-        unreachable!()
-    };
-    if let Some(absent) = look_at_top(dom, flow, store, &row, &mut walk.stack)? {
+    let found = row_of(flow, &store.names, &top.name);
+    let Some(row) = &found else { unreachable!() };
+    if let Some(absent) = look_at_top(dom, flow, store, row, &mut walk.stack)? {
         walk.stack.push(opened(alloc, absent.cell, &absent.name))?;
         return Ok(AdvanceResult::Pushed);
     }
@@ -163,7 +162,7 @@ fn turn_open<D: Domain, L: Ledger>(
     }
     let entry = take_top(&mut walk.stack);
     let cell = entry.cell;
-    fill(alloc, dom, flow, store, &row, entry, steps)?;
+    fill(alloc, dom, flow, store, row, entry, steps)?;
     hand_down(&mut walk.stack, cell);
     Ok(AdvanceResult::Filled)
 }

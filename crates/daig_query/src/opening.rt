@@ -102,7 +102,7 @@ pub(crate) fn next_absent<D: Domain>(
 {
     'inputs: while let Some(input) = next_input(dom, flow, store, row, entry) {
         let name = input.name(&mut store.names, entry.name.path)?;
-        let cell = store.names.add(name)?;
+        let cell = store.names.add_input(name, entry.cell, entry.inputs.len())?;
         let there = has_cell(&store.graph, cell);
         if !there {
             return Ok(Some(without_cell(cell, &name)));

@@ -5,8 +5,8 @@
 //! "The Octagon Abstract Domain", 2006.
 //!
 //! The states are those of `dom_octagon_states`, which closes each once. What an operation makes of a
-//! closed matrix is closed in quadratic time. Closed whole are a matrix with bounds of 2^63 or more, and
-//! what making an array by its own old length leaves.
+//! closed matrix is closed in quadratic time. Closed whole are what it makes of one from which closing has
+//! cut a bound that a walk still needs, and what making an array by its own old length leaves.
 #![tactic(auto)]
 
 mod added;

@@ -1,3 +1,4 @@
 pub mod Forms
 pub mod SameKinds
 pub mod Tight
+pub mod TransitiveLemmas

@@ -2,3 +2,4 @@ pub mod Feeding
 pub mod Held
 pub mod Kept
 pub mod Limits
+pub mod Transitive

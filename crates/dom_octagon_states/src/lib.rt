@@ -4,8 +4,8 @@
 //! closes the states that it is given, and its result, which takes time cubic in the slots. Here a state is closed once:
 //! [`closure`] gives the closed matrix of a state, and [`close_kept`], [`close_after_bounds`], [`close_equation`] and
 //! [`close_stood`] close in quadratic time what an operation makes of a closed matrix. Bounds that hold anyway change nothing.
-//! Only what widening gives is closed whole, and what an operation makes of a matrix with bounds of 2^63 or more. Widening keeps
-//! its left matrix as it is: else loops need not come to an end.
+//! Only what widening gives is closed whole, and what an operation makes of a matrix from which closing has cut a bound that a walk
+//! still needs ([`is_whole`]). Widening keeps its left matrix as it is: else loops need not come to an end.
 //!
 //! A matrix takes four bytes an entry where its bounds fit these (`dbm_narrow`), and copies share their entries.
 #![tactic(auto)]
@@ -17,6 +17,7 @@ mod joins;
 mod kept;
 mod operations;
 mod state;
+mod transitive;
 
 pub use bounds::{Bounds, bounds_of, matrix_of_bounds};
 pub use close::{bounded, closed, closed_copy, closure, copy_of, empty, is_empty, widened_to};

@@ -10,7 +10,9 @@ ghost use Rattle.dom_octagon_states.specs.Held.{IsSmallIf};
 ghost use Rattle.dom_octagon_states.specs.Limits.{IsInLimits};
 
 use crate::bounds::{Bounds, Held, bounds_of, matrix_of_bounds, small};
+use crate::transitive::is_transitive;
 use base_values::Memory;
+use dbm_core::Matrix;
 use dbm_narrow::Narrow;
 use std::alloc::Global;
 
@@ -112,13 +114,14 @@ fn widen_large(alloc: Global, thresholds: &[i64], a: &Bounds, b: &Bounds) -> Res
     bounds_of(alloc, left.widen(alloc, thresholds, &right)?)
 }
 
-/// Whether a matrix obeys the triangle law, if it is closed: no bound is 2^63 or more.
+/// Whether a matrix obeys the triangle law, if it is closed: no bound is 2^63 or more, or its bounds are
+/// transitive.
 pub fn is_whole(m: &Bounds) -> bool
     ensures whole { result ≡ true → IsClosed m.now → IsWhole m.now }
 {
     match &m.held {
         Held::Small(narrow) => is_small(narrow.as_ref()),
-        Held::Large(matrix) => dbm_incremental::is_whole(matrix.as_ref()),
+        Held::Large(matrix) => is_large_whole(matrix.as_ref()),
     }
 }
 
@@ -128,4 +131,11 @@ fn is_small(narrow: &Narrow) -> bool
 {
     let _kinds = narrow.kinds();
     true
+}
+
+// The same of one that does not fit the narrow form.
+fn is_large_whole(m: &Matrix) -> bool
+    ensures whole { result ≡ true → IsClosed m.now → IsWhole m.now }
+{
+    dbm_incremental::is_whole(m) || is_transitive(m)
 }

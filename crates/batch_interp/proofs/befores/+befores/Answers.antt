@@ -13,6 +13,7 @@ add_in_front-returns-in-While g t c =
     record {
       added = on_ok_along _ _ _ _ _ c.add_inside.ensures.added (ap (λ s. in_front (g.D.Domain.operations c.args.interpreter.now.dom.now) c.args.interpreter.now.plan.now c.args.interpreter.now.frame.now.place c.args.interpreter.now.frame.now.sites s (value_of c.args.before.now)) (sym c.in-While.is));
       calls = on_ok_along _ _ _ _ _ c.add_inside.ensures.calls (ap (λ s. calls_inside (g.D.Domain.operations c.args.interpreter.now.dom.now) c.args.interpreter.now.plan.now c.args.interpreter.now.frame.now.place c.args.interpreter.now.frame.now.sites s (value_of c.args.before.now)) (sym c.in-While.is));
+      right = c.add_inside.ensures.right;
     }
 
 pub add_inside-returns : goal.add_inside-returns
@@ -22,6 +23,7 @@ add_inside-returns g t c =
           (while_front (g.D.Domain.operations c.args.interpreter.now.dom.now) c.args.interpreter.now.plan.now c.args.interpreter.now.frame.now.place c.args.interpreter.now.frame.now.sites c.args.n c.args.cond.now c.args.body.now (value_of c.args.before.now) (value_of c.in_ok-head.head) (value_of c.in_ok-inside.inside) c.in_ok-head.ensures.is c.in_ok-inside.ensures.is);
       calls = on_ok_along _ _ _ _ _ c.add_befores.ensures.calls
           (while_calls (g.D.Domain.operations c.args.interpreter.now.dom.now) c.args.interpreter.now.plan.now c.args.interpreter.now.frame.now.place c.args.interpreter.now.frame.now.sites c.args.n c.args.cond.now c.args.body.now (value_of c.args.before.now) (value_of c.in_ok-head.head) (value_of c.in_ok-inside.inside) c.in_ok-head.ensures.is c.in_ok-inside.ensures.is);
+      right = c.add_befores.ensures.right;
     }
 
 pub add_befores-loop-node-init : goal.add_befores-loop-node-init
@@ -31,6 +33,7 @@ add_befores-loop-node-init g t c =
       is = c.statements-node-items.ensures.same;
       told = ap (λ b. map value_of c.args.found.now ++ befores (g.D.Domain.operations c.args.interpreter.now.dom.now) interpreter.plan.now interpreter.frame.now.place interpreter.frame.now.sites b (value_of c.args.before)) c.statements-node-items.ensures.same;
       calls = ap (λ b. map told_of c.args.calls.now ++ calls_from (g.D.Domain.operations c.args.interpreter.now.dom.now) interpreter.plan.now interpreter.frame.now.place interpreter.frame.now.sites b (value_of c.args.before)) c.statements-node-items.ensures.same;
+      right = c.requires.right;
     }
 
 pub add_befores-loop-node-preserved : goal.add_befores-loop-node-preserved
@@ -53,6 +56,7 @@ add_befores-loop-node-preserved g t c =
           part_added (map told_of c.loop-node.calls) (map told_of c.add_in_front.new.calls) (calls_inside dom plan place z c.node-item.result v) (calls_from dom plan place z (code_of (drop (i + 1) ss)) w) (calls_from dom plan place z (code_of (drop i ss)) v) c.in_ok-add_in_front.ensures.calls
           (calls_step dom plan place z ss i c.node-item.result v w c.loop-node-test.true c.node-item.is c.in_ok-now.ensures.is)
           ∙ c.loop-node.invariant.calls;
+      right = c.in_ok-now.ensures.right;
     }
 
 pub add_befores-returns : goal.add_befores-returns
@@ -67,4 +71,5 @@ add_befores-returns g t c =
     record {
       added = sym (nothing_left (map value_of c.loop-node.found) (befores dom plan place z (code_of (drop i ss)) v) (befores_end dom plan place z ss i v c.loop-node-test.false)) ∙ c.loop-node.invariant.told;
       calls = sym (nothing_left (map told_of c.loop-node.calls) (calls_from dom plan place z (code_of (drop i ss)) v) (calls_end dom plan place z ss i v c.loop-node-test.false)) ∙ c.loop-node.invariant.calls;
+      right = c.loop-node.invariant.right;
     }

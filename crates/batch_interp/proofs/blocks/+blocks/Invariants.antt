@@ -7,6 +7,7 @@ use Rattle.batch_meaning.specs.Values.{lift}
 use Rattle.std.proofs.Common.{true}
 use Rattle.batch_interp.specs.Frames.{passed, thresholds_at}
 use Rattle.batch_interp.specs.Passing.{states}
+use Rattle.batch_interp.specs.Remembering.{AreRight}
 use Rattle.batch_interp.proofs.Weights.{weight}
 use Rattle.batch_interp.proofs.blocks.+blocks.Given as goal
 
@@ -41,6 +42,7 @@ invariant-block_answer-loop-node g l =
     record {
       is : code_of l.node-items ≡ l.block;
       told : with_leaving (states l.leaving) (rest (code_of (drop l.node-index l.node-items)) (plain.State l.now)) ≡ with_leaving (states l.initial.leaving) (rest l.block (plain.State l.fn.state));
+      right : AreRight (g.D.Domain.operations l.interpreter.dom.now) l.interpreter.plan.now l.remembered;
     }
 
 -- the iterates that are left, from the state so far, come to what all do
@@ -51,4 +53,8 @@ invariant-loop_head-loop-k g l =
     let from = iterate dom l.interpreter.plan.now.engine (thresholds_at l.interpreter.plan.now l.interpreter.frame.now.place) (λ x. (body (lift (dom.assume l.cond true) x)).value) (plain.Over l.n l.interpreter.frame.now.sites) in
     record {
       told : from (l.interpreter.plan.now.engine.budget - l.k) l.k l.now ≡ from l.interpreter.plan.now.engine.budget 0 l.state;
+      right : AreRight dom l.interpreter.plan.now l.remembered;
     }
+
+abbrev pub decreases-procedure_answer : goal.decreases-procedure_answer
+decreases-procedure_answer g l = 4 * (weight l.interpreter.now.plan.now.program l.interpreter.now.frame.now.place + code_size l.body.now) + 4

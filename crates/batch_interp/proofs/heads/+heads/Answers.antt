@@ -13,6 +13,7 @@ add_heads_in-returns-in-While g t c =
     record {
       added = on_ok_along _ _ _ _ _ c.add_loop.ensures.added (ap (λ s. values_inside (g.D.Domain.operations c.args.interpreter.now.dom.now) c.args.interpreter.now.plan.now c.args.interpreter.now.frame.now.place c.args.interpreter.now.frame.now.sites s (value_of c.args.before.now)) (sym c.in-While.is));
       calls = on_ok_along _ _ _ _ _ c.add_loop.ensures.calls (ap (λ s. calls_inside (g.D.Domain.operations c.args.interpreter.now.dom.now) c.args.interpreter.now.plan.now c.args.interpreter.now.frame.now.place c.args.interpreter.now.frame.now.sites s (value_of c.args.before.now)) (sym c.in-While.is));
+      right = c.add_loop.ensures.right;
     }
 
 pub add_heads-loop-node-init : goal.add_heads-loop-node-init
@@ -22,6 +23,7 @@ add_heads-loop-node-init g t c =
       is = c.statements-node-items.ensures.same;
       told = ap (λ b. map loop_value c.args.found.now ++ loop_values (g.D.Domain.operations c.args.interpreter.now.dom.now) interpreter.plan.now interpreter.frame.now.place interpreter.frame.now.sites b (value_of c.args.before)) c.statements-node-items.ensures.same;
       calls = ap (λ b. map told_of c.args.calls.now ++ calls_from (g.D.Domain.operations c.args.interpreter.now.dom.now) interpreter.plan.now interpreter.frame.now.place interpreter.frame.now.sites b (value_of c.args.before)) c.statements-node-items.ensures.same;
+      right = c.requires.right;
     }
 
 pub add_heads-loop-node-preserved : goal.add_heads-loop-node-preserved
@@ -44,6 +46,7 @@ add_heads-loop-node-preserved g t c =
           part_added (map told_of c.loop-node.calls) (map told_of c.add_heads_in.new.calls) (calls_inside dom plan place z c.node-item.result v) (calls_from dom plan place z (code_of (drop (i + 1) ss)) w) (calls_from dom plan place z (code_of (drop i ss)) v) c.in_ok-add_heads_in.ensures.calls
           (calls_step dom plan place z ss i c.node-item.result v w c.loop-node-test.true c.node-item.is c.in_ok-now.ensures.is)
           ∙ c.loop-node.invariant.calls;
+      right = c.in_ok-now.ensures.right;
     }
 
 pub add_heads-returns : goal.add_heads-returns
@@ -58,4 +61,5 @@ add_heads-returns g t c =
     record {
       added = sym (nothing_left (map loop_value c.loop-node.found) (loop_values dom plan place z (code_of (drop i ss)) v) (values_end dom plan place z ss i v c.loop-node-test.false)) ∙ c.loop-node.invariant.told;
       calls = sym (nothing_left (map told_of c.loop-node.calls) (calls_from dom plan place z (code_of (drop i ss)) v) (calls_end dom plan place z ss i v c.loop-node-test.false)) ∙ c.loop-node.invariant.calls;
+      right = c.loop-node.invariant.right;
     }

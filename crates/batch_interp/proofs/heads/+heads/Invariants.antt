@@ -2,6 +2,7 @@ use Rattle.std.proofs.Common.{◌≡◌, ◌+◌, ◌*◌, ◌++◌, drop, map}
 use Rattle.imp_slots.specs.Sizes.{code_size}
 use Rattle.imp_slots.specs.BlockViews.{code_of, node_size}
 use Rattle.batch_interp.specs.Answered.{value_of}
+use Rattle.batch_interp.specs.Remembering.{AreRight}
 use Rattle.batch_interp.specs.Handing.{told_of, calls_from}
 use Rattle.batch_interp.specs.Heads.{loop_value, loop_values}
 use Rattle.batch_interp.proofs.heads.+heads.Given as goal
@@ -24,4 +25,5 @@ invariant-add_heads-loop-node g l =
       is : code_of l.node-items ≡ l.block;
       told : map loop_value l.found ++ rest (code_of (drop l.node-index l.node-items)) (value_of l.now) ≡ map loop_value l.initial.found ++ rest l.block (value_of l.fn.before);
       calls : map told_of l.calls ++ calls (code_of (drop l.node-index l.node-items)) (value_of l.now) ≡ map told_of l.initial.calls ++ calls l.block (value_of l.fn.before);
+      right : AreRight (g.D.Domain.operations l.interpreter.dom.now) l.interpreter.plan.now l.remembered;
     }

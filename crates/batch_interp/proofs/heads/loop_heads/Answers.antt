@@ -22,6 +22,7 @@ loop-place-init g c =
       within = omega (arith, e);
       told = all_loops_none dom plan (length c.few_routines-count.result.now) c.new-parts.result e c.new-parts.ensures.empty;
       calls = subst (λ n. AreHanded dom plan n c.in_ok-calls.calls) (sym e) c.in_ok-calls.ensures.handed;
+      right = c.new-remembered.ensures.right dom plan;
     }
 
 pub loops_at-requires-clause-checked : goal.loops_at-requires-clause-checked
@@ -48,6 +49,7 @@ loop-place-preserved g c =
       within = omega (arith, there);
       told = all_loops_next dom plan k c.loop-place.parts c.push.new.self c.in_ok-walked.walked.loops there c.in_ok-walked.ensures.loops c.in_ok-push.ensures.added (c.loop-place.invariant.told ∙ ap (λ n. all_loops_told dom plan.engine plan.program n (drop n plan.program)) next);
       calls = c.in_ok-walked.ensures.calls;
+      right = c.in_ok-walked.ensures.right;
     }
 
 pub returns : goal.returns

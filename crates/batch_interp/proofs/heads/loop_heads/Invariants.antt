@@ -1,4 +1,5 @@
 use Rattle.std.proofs.Common.{◌≡◌, ◌≤◌, drop, length, map, reverse}
+use Rattle.batch_interp.specs.Remembering.{AreRight}
 use Rattle.batch_interp.specs.Handing.{in_one, AreHanded}
 use Rattle.batch_interp.specs.Heads.{under_told, all_loops_told}
 use Rattle.batch_interp.proofs.heads.loop_heads.Given as goal
@@ -11,4 +12,5 @@ invariant-loop-place g l =
       within : l.place ≤ length l.plan.program;
       told : map under_told (in_one (reverse l.parts)) ≡ all_loops_told dom l.plan.engine l.plan.program l.place (drop l.place l.plan.program);
       calls : AreHanded dom l.plan l.place l.calls;
+      right : AreRight dom l.plan l.remembered;
     }

@@ -14,4 +14,5 @@ returns g c =
     record {
       loops = c.in_ok-loops.ensures.loops;
       calls = handed_down dom plan c.args.place c.args.calls c.in_ok-loops.field-0.calls c.in_ok-entered.field-0.others c.append.new.all c.requires.within c.requires.handed c.in_ok-loops.ensures.calls c.in_ok-entered.ensures.others c.in_ok-append.ensures.added;
+      right = c.in_ok-loops.ensures.right;
     }

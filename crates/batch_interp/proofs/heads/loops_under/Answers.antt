@@ -8,7 +8,7 @@ use Rattle.batch_interp.proofs.Members.{all2_at}
 use Rattle.batch_interp.proofs.heads.loops_under.Goals as goal
 
 pub loop-next-init : goal.loop-next-init
-loop-next-init g c = record { told = ap (map under_told) c.new-loops.ensures.empty; handed = c.new-handed.ensures.empty }
+loop-next-init g c = record { told = ap (map under_told) c.new-loops.ensures.empty; handed = c.new-handed.ensures.empty; right = c.requires.right }
 
 pub loop-next-preserved : goal.loop-next-preserved
 loop-next-preserved g c =
@@ -22,6 +22,7 @@ loop-next-preserved g c =
     record {
       told = loops_next dom plan place i body e at c.loop-next.loops c.push.new.self c.in_ok-under.under c.requires.checked c.requires.within c.body-body.ensures.is c.in_ok-under.ensures.chain c.in_ok-under.ensures.is c.in_ok-push.ensures.added c.loop-next.invariant.told;
       handed = columns_next dom plan place i body e at c.new-calls.result c.heads_of.new.calls c.loop-next.handed c.in_ok-handed.handed c.requires.checked c.requires.within c.body-body.ensures.is c.new-calls.ensures.empty c.in_ok-under.ensures.calls c.in_ok-handed.ensures.is c.loop-next.invariant.handed;
+      right = c.in_ok-under.ensures.right;
     }
 
 pub returns : goal.returns
@@ -33,4 +34,5 @@ returns g c =
     record {
       loops = loops_end dom plan place c.loop-next.next-index es c.loop-next.loops c.requires.entered c.loop-next-test.false c.loop-next.invariant.told;
       calls = columns_end dom plan place c.loop-next.next-index es c.loop-next.handed c.requires.entered c.loop-next-test.false c.loop-next.invariant.handed;
+      right = c.loop-next.invariant.right;
     }

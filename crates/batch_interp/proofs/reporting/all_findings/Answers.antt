@@ -22,6 +22,7 @@ loop-place-init g c =
       within = omega (arith, e);
       told = report_none dom plan (length c.few_routines-count.result.now) c.new-parts.result e c.new-parts.ensures.empty;
       calls = subst (λ n. AreHanded dom plan n c.in_ok-calls.calls) (sym e) c.in_ok-calls.ensures.handed;
+      right = c.new-remembered.ensures.right dom plan;
     }
 
 pub findings_at-requires-clause-checked : goal.findings_at-requires-clause-checked
@@ -48,6 +49,7 @@ loop-place-preserved g c =
       within = omega (arith, there);
       told = report_next dom plan k c.loop-place.parts c.push.new.self c.in_ok-walked.walked.findings there c.in_ok-walked.ensures.findings c.in_ok-push.ensures.added (c.loop-place.invariant.told ∙ ap (λ n. map (finding dom plan.engine plan.program) (checked_statements (drop n plan.program))) next);
       calls = c.in_ok-walked.ensures.calls;
+      right = c.in_ok-walked.ensures.right;
     }
 
 pub returns : goal.returns

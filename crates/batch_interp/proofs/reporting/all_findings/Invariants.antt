@@ -1,5 +1,6 @@
 use Rattle.std.proofs.Common.{◌≡◌, ◌≤◌, drop, length, map, reverse}
 use Rattle.batch_meaning.specs.Report.{finding, checked_statements}
+use Rattle.batch_interp.specs.Remembering.{AreRight}
 use Rattle.batch_interp.specs.Handing.{in_one, AreHanded}
 use Rattle.batch_interp.proofs.reporting.all_findings.Given as goal
 
@@ -11,4 +12,5 @@ invariant-loop-place g l =
       within : l.place ≤ length l.plan.program;
       told : in_one (reverse l.parts) ≡ map (finding dom l.plan.engine l.plan.program) (checked_statements (drop l.place l.plan.program));
       calls : AreHanded dom l.plan l.place l.calls;
+      right : AreRight dom l.plan l.remembered;
     }

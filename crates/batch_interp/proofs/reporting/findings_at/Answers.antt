@@ -16,4 +16,5 @@ returns g c =
     record {
       findings = findings_come dom plan c.args.place c.body.result.now (map value_of c.in_ok-known.field-0.known) c.in_ok-findings.findings c.requires.checked c.places_are_found.ensures.found c.requires.within c.body.ensures.is c.in_ok-known.ensures.known (c.in_ok-findings.ensures.are plan.engine);
       calls = handed_down dom plan c.args.place c.args.calls c.in_ok-known.field-0.calls c.in_ok-entered.field-0.others c.append.new.all c.requires.within c.requires.handed c.in_ok-known.ensures.calls c.in_ok-entered.ensures.others c.in_ok-append.ensures.added;
+      right = c.in_ok-known.ensures.right;
     }

@@ -3,6 +3,7 @@ use Rattle.imp_slots.specs.Sizes.{code_size}
 use Rattle.imp_slots.specs.BlockViews.{code_of, node_size}
 use Rattle.batch_meaning.specs.Places.{find}
 use Rattle.batch_interp.specs.Answered.{value_of}
+use Rattle.batch_interp.specs.Remembering.{AreRight}
 use Rattle.batch_interp.specs.Seeking.{places}
 use Rattle.batch_interp.proofs.spots.+seeking.Given as goal
 
@@ -22,4 +23,5 @@ invariant-seek-loop-node g l =
     record {
       is : code_of l.node-items ≡ l.block;
       told : find l.number (all (code_of (drop l.node-index l.node-items)) (value_of l.now)) ≡ find l.number (all l.block (value_of l.fn.before));
+      right : AreRight (g.D.Domain.operations l.interpreter.dom.now) l.interpreter.plan.now l.remembered;
     }

@@ -11,4 +11,4 @@ returns-in-Over g c =
     let plan = c.args.interpreter.now.plan.now in
     let place = c.args.interpreter.now.frame.now.place in
     let z = c.args.interpreter.now.frame.now.sites in
-    record { is = rw c.in-Over.is (sym (over_batch dom plan.engine (thresholds_at plan place) z (calls_in dom plan place z) (before_code c.args.node.now Stop) c.in-Over.head (reverse c.in-Over.chain))) }
+    record { is = rw c.in-Over.is (sym (over_batch dom plan.engine (thresholds_at plan place) z (calls_in dom plan place z) (before_code c.args.node.now Stop) c.in-Over.head (reverse c.in-Over.chain))); right = c.requires.right }

@@ -19,6 +19,7 @@ loop-next-init g c =
     record {
       known = subst (λ vs. SoFar dom plan zs zs cs (map value_of vs)) (sym c.new-known.ensures.empty) (none_so_far dom plan zs cs);
       handed = c.new-handed.ensures.empty;
+      right = c.requires.right;
     }
 
 pub loop-next-preserved : goal.loop-next-preserved
@@ -33,6 +34,7 @@ loop-next-preserved g c =
     record {
       known = totals_next dom plan place i body e at c.loop-next.known c.in_ok-more.more c.last_first.result c.last_first-in-loop-next.result c.in_ok-known.known c.requires.checked c.requires.within c.body-body.ensures.is c.in_ok-more.ensures.is c.last_first.ensures.is c.last_first-in-loop-next.ensures.is c.in_ok-known.ensures.is c.loop-next.invariant.known;
       handed = columns_next dom plan place i body e at c.new-calls.result c.befores_of.new.calls c.loop-next.handed c.in_ok-handed.handed c.requires.checked c.requires.within c.body-body.ensures.is c.new-calls.ensures.empty c.in_ok-more.ensures.calls c.in_ok-handed.ensures.is c.loop-next.invariant.handed;
+      right = c.in_ok-more.ensures.right;
     }
 
 pub returns : goal.returns
@@ -44,4 +46,5 @@ returns g c =
     record {
       known = totals_end dom plan place c.loop-next.next-index es (claims (checked_in (body_at plan.program place))) (map value_of c.loop-next.known) c.requires.entered c.loop-next-test.false c.loop-next.invariant.known;
       calls = columns_end dom plan place c.loop-next.next-index es c.loop-next.handed c.requires.entered c.loop-next-test.false c.loop-next.invariant.handed;
+      right = c.loop-next.invariant.right;
     }

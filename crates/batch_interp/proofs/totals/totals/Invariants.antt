@@ -2,6 +2,7 @@ use Rattle.std.proofs.Common.{map, drop, take}
 use Rattle.imp_chains.specs.Chains.{chains}
 use Rattle.batch_meaning.specs.Report.{checked_in}
 use Rattle.batch_interp.specs.Answered.{value_of}
+use Rattle.batch_interp.specs.Remembering.{AreRight}
 use Rattle.batch_interp.specs.Frames.{body_at}
 use Rattle.batch_interp.specs.Reporting.{claims}
 use Rattle.batch_interp.proofs.Fronts.{SoFar}
@@ -15,4 +16,5 @@ invariant-loop-next g l =
     record {
       known : SoFar dom l.plan zs (drop l.next-index zs) (claims (checked_in (body_at l.plan.program l.place))) (map value_of l.known);
       handed : AreColumns dom l.plan (take l.next-index zs) (calls_made (body_at l.plan.program l.place)) l.handed;
+      right : AreRight dom l.plan l.remembered;
     }

@@ -28,3 +28,6 @@ returns-else-eq g c =
     let v = value_of c.args.before in
     let other : bytes_eq c.args.name.now c.args.routine.now.name ≡ false = ap (bytes_eq c.args.name.now) (sym c.name.ensures.same) ∙ sym c.if-eq.ensures in
     record { is = if_false (bytes_eq c.args.name.now c.args.routine.now.name) _ _ _ other refl ∙ end_there dom plan k c.args.name.now z c.args.routine.now v c.requires.there }
+
+pub behind_block-requires : goal.behind_block-requires
+behind_block-requires g c = record { right = c.new-remembered.ensures.right (g.D.Domain.operations c.args.interpreter.now.dom.now) c.args.interpreter.now.plan.now }

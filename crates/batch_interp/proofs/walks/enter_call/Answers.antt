@@ -28,3 +28,6 @@ returns g c =
     let there = get_same c.routines.result.now plan.program k r c.routines.ensures.is c.requires.there c.index-routines-frame.is in
     let h = rw c.in-Some.is at c.in_ok-seek.ensures.is in
     record { is = seen_there dom plan k c.args.site z r v c.in-Some.seen c.enter_seen.result there (h ∙ ap (λ b. find c.args.site (places dom plan k z b v)) c.body-body.ensures.same) c.enter_seen.ensures.is }
+
+pub seek-requires : goal.seek-requires
+seek-requires g c = record { right = c.new-remembered.ensures.right (g.D.Domain.operations c.args.dom.now) c.args.plan.now }

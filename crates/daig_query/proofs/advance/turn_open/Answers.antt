@@ -1,10 +1,8 @@
-use Rattle.std.proofs.Common.{◌≡◌, ℕ, suc, ◌+◌, ◌-◌, false, List, [], ◌∷◌, ◌++◌, length, map, option_map, refl, sym, ap, subst, ◌∙◌, arith, length-append}
-use Rattle.std.specs.Prelude.{vec_len}
+use Rattle.std.proofs.Common.{◌≡◌, ◌+◌, ◌-◌, false, [], ◌∷◌, ◌++◌, length, map, option_map, refl, sym, ap, subst, ◌∙◌, arith, length-append}
 use Rattle.std.proofs.lemmas.Result.{err_from_is_err_and}
 use Rattle.base_values.specs.declared.error.Memory.{Memory}
 use Rattle.imp_flow_rows.specs.Near.{row_in}
 use Rattle.imp_flow.specs.Reached.{target_of}
-use Rattle.daig_query.specs.declared.advance.AdvanceResult.TheVariants.{Pushed, Filled, Spent}
 use Rattle.daig_query.specs.Kept.{kept}
 use Rattle.daig_query.specs.Opened.{name_of, unfound, IsReady, IsRowOf, Puts}
 use Rattle.daig_query.specs.Looked.{LooksAtTop}
@@ -15,8 +13,8 @@ use Rattle.daig_query.proofs.Tops.{open_at_end, lacks_row, good_rest, good_entry
 use Rattle.daig_query.proofs.Turning.{turn_failed, turn_pushed, turn_spent, turn_unfilled, turn_filled}
 use Rattle.daig_query.proofs.advance.turn_open.Goals as goal
 
-pub row_of-requires : goal.row_of-requires
-row_of-requires g c =
+pub row_of-found-requires : goal.row_of-found-requires
+row_of-found-requires g c =
     let dom = g.D.Domain.operations c.args.dom.now in
     let plan = c.args.flow.now in
     let ts = map target_of c.args.targets.now in
@@ -39,7 +37,7 @@ unreachable-requires g c =
     let top = c.index-top.result.now in
     let p = last_set stack.items top top (c.len.result - 1) (omega (arith, stack.ok, c.len.ensures, c.requires.some)) in
     let split : stack.items ≡ p.0 ++ top ∷ [] = p.1 ∙ ap (λ o. p.0 ++ o ∷ []) (sym c.index-top.ensures) in
-    lacks_row dom plan old top c.requires.right (open_at_end dom plan old (place_of ts old w) p.0 top (subst (AreStacked dom plan old (place_of ts old w)) split c.requires.walk.stacked)) (sym c.row_of.ensures.is ∙ ap (option_map (row_in (name_of old top).path)) c.in_default.is)
+    lacks_row dom plan old top c.requires.right (open_at_end dom plan old (place_of ts old w) p.0 top (subst (AreStacked dom plan old (place_of ts old w)) split c.requires.walk.stacked)) (sym c.row_of-found.ensures.is ∙ ap (option_map (row_in (name_of old top).path)) c.in_default.is)
 
 pub look_at_top-requires-clause-top : goal.look_at_top-requires-clause-top
 look_at_top-requires-clause-top g c =
@@ -52,7 +50,7 @@ look_at_top-requires-clause-top g c =
     let top = c.index-top.result.now in
     let p = last_set stack.items top top (c.len.result - 1) (omega (arith, stack.ok, c.len.ensures, c.requires.some)) in
     let split : stack.items ≡ p.0 ++ top ∷ [] = p.1 ∙ ap (λ o. p.0 ++ o ∷ []) (sym c.index-top.ensures) in
-    let is_row : IsRowOf plan (name_of old top) c.in-Some.row = sym c.row_of.ensures.is ∙ ap (option_map (row_in (name_of old top).path)) c.in-Some.is in
+    let is_row : IsRowOf plan (name_of old top) c.in-Some.row = sym c.row_of-found.ensures.is ∙ ap (option_map (row_in (name_of old top).path)) c.in-Some.is in
     λ rest u e.
     record {
       right = c.requires.right;

@@ -1,0 +1,5 @@
+use Rattle.batch_interp.proofs.Remembering.{put_right}
+use Rattle.batch_interp.proofs.remembered.Remembered.put.Goals as goal
+
+pub returns : goal.returns
+returns g c = record { right = λ dom plan h o. put_right dom plan c.reach.new.self.outcomes.items c.args.index c.args.outcome (c.in_ok-reach.ensures.right dom plan h) o }
