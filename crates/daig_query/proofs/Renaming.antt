@@ -17,6 +17,10 @@ use Rattle.daig_query.specs.Renamed.{AddsNameOf, AreNamedAnew}
 use Rattle.daig_query.proofs.Growing.{keeps_refl, keeps_trans}
 use Rattle.daig_query.proofs.Sweeping.{Leaves, leaves-all, leaves-cell, leaves-over}
 
+-- frames so far, and those that are left of a path, are those of a path where one is taken more
+pub frames-on : (frames : List NameFrame) (frame : NameFrame) (before rest more path : List NameFrame) → more ≡ frames ++ frame ∷ [] → rest ≡ frame ∷ before → frames ++ rest ≡ path → more ++ before ≡ path
+frames-on frames frame before rest more path more_is last split = ap (λ l. l ++ before) more_is ∙ append_assoc frames (frame ∷ []) before ∙ ap (λ l. frames ++ l) (sym last) ∙ split
+
 -- A path is copied from its first frame on: what is copied, and the frames that are left of it.
 pub record Copies (before : List (List NameFrame)) (path rest : List NameFrame) (later : List (List NameFrame)) (copied : ℕ) : Type 0 where
   pub done : List NameFrame
@@ -185,6 +189,10 @@ module _ (cells : Cells) (names : List CellName) where
         back = back;
       }
 
+  -- equal lists of new numbers tell the same
+  pub anew-same : (count : ℕ) (numbers same : List ℕ) (later : List CellName) → same ≡ numbers → AreNamedAnew cells names count numbers later → AreNamedAnew cells names count same later
+  anew-same count numbers same later is anew = subst (λ (ns : List ℕ). AreNamedAnew cells names count ns later) (sym is) anew
+
   -- one number after another
   pub anew-step : IsOnce names → (count : ℕ) (numbers more : List ℕ) (mid later : Known) → AreNamedAnew cells names count numbers mid.names → more ≡ numbers ++ length mid.names ∷ [] →
       AddsNameOf cells names count mid later → AreNamedAnew cells names (count + 1) more later.names
@@ -198,10 +206,10 @@ module _ (cells : Cells) (names : List CellName) where
   pub leaves-step : (count : ℕ) (mid later : Known) → Leaves cells count 0 (length mid.names) → AddsNameOf cells names count mid later → Leaves cells (count + 1) 0 (length later.names)
   leaves-step count mid later leaves adds = by (get cells count) refl
     where
-      by : (o : Option (Filled Held)) → get cells count ≡ o → Leaves cells (count + 1) 0 (length later.names)
-      by None e = subst (λ n. Leaves cells (count + 1) 0 n) (sym (ap length (adds.none (ap is_some e)))) (leaves-over cells count 0 (length mid.names) leaves)
-      by (Some f) e = let a = adds.some (ap is_some e) in leaves-cell cells count 0 (length mid.names) (length later.names) f leaves e (few a.0 a.1 a.3)
-
       few : (x : CellName) (q : ℕ) → Adds mid.names later.names x q → length later.names ≤ length mid.names + 1
       few x q (inl h) = let same : length later.names ≡ length mid.names = ap length h.1 in omega (arith, same)
       few x q (inr h) = let more : length later.names ≡ length mid.names + 1 = ap length h.2 ∙ length_push mid.names x in omega (arith, more)
+
+      by : (o : Option (Filled Held)) → get cells count ≡ o → Leaves cells (count + 1) 0 (length later.names)
+      by None e = subst (λ n. Leaves cells (count + 1) 0 n) (sym (ap length (adds.none (ap is_some e)))) (leaves-over cells count 0 (length mid.names) leaves)
+      by (Some f) e = let a = adds.some (ap is_some e) in leaves-cell cells count 0 (length mid.names) (length later.names) f leaves e (few a.0 a.1 a.3)

@@ -1,4 +1,4 @@
-use Rattle.std.proofs.Common.{◌≡◌, ◌∷◌, ◌++◌, [], length, slice_get, sym, ap, subst, ◌∙◌, arith}
+use Rattle.std.proofs.Common.{◌≡◌, ◌∷◌, ◌++◌, [], length, slice_get, ap, subst, ◌∙◌, arith}
 use Rattle.daig_query.specs.Renamed.{AreNamedAnew}
 use Rattle.daig_query.proofs.Renaming.{anew-none, anew-step, leaves-none, leaves-step}
 use Rattle.daig_query.proofs.Sweeping.{leaves-few}
