@@ -1,9 +1,8 @@
 -- A sweep changes nothing of what a session stands for.
-use Rattle.std.proofs.Common.{◌≡◌, ℕ, ◌-◌, sym, ap, subst, ◌∙◌}
+use Rattle.std.proofs.Common.{◌≡◌, ◌-◌, sym, ap, subst, ◌∙◌}
 use Rattle.std.specs.FinMap.{len}
 use Rattle.domain_laws.specs.Operations.{Operations}
 use Rattle.imp_flow.specs.Plans.{Plan}
-use Rattle.cell_names.specs.Paths.{CellName}
 use Rattle.daig_query.specs.declared.store.Store.{Store}
 use Rattle.daig_query.specs.Filled.{cells_added}
 use Rattle.daig_query.specs.Renamed.{Renames}
