@@ -16,6 +16,7 @@ from daig_editor.language.places import SourceText
 from daig_editor.server.document import Document
 from daig_editor.server.ending import cancelled, undisturbed, within
 from daig_editor.server.process import DaigProcess, Settings
+from daig_editor.server.stages import Stages
 from daig_editor.server.watching import Options
 from tests.client import Client
 from tests.program import program
@@ -73,6 +74,27 @@ async def turns(many: int) -> None:
 def document(watcher: Silent, settings: Settings) -> Document:
     """An open file whose first server is to be started."""
     return Document(URI, SourceText.of(RELATED.encode(), False), 1, Options(settings), watcher)
+
+
+def test_change_at_the_end_of_a_rest() -> None:
+    """A change between the end of the wait for a rest and the moment at which its waiter goes on is seen."""
+
+    async def rested() -> bool:
+        """Whether a text rests that changes just then."""
+        stages = Stages(lambda: False)
+
+        def change() -> None:
+            """The text is another one."""
+            stages.changes += 1
+            stages.wake()
+
+        waiting = asyncio.create_task(stages.rests(0, 0.05))
+        await asyncio.sleep(0)  # it waits
+        asyncio.get_running_loop().call_later(0.06, change)
+        time.sleep(0.1)  # both times pass: the loop ends the wait, makes the change, then goes on with the waiter
+        return await waiting
+
+    assert not asyncio.run(rested())
 
 
 def test_closed_at_any_time() -> None:

@@ -53,8 +53,17 @@ class Stages:
             raise Outdated
 
     async def rests(self, changes: int, seconds: float) -> bool:
-        """Waits a while; answers whether the text stayed and the server runs."""
-        return not await within(seconds, self._wait(lambda: self.changes != changes or self._lost()))
+        """Waits a while; answers whether the text stayed and the server runs, up to the moment of the answer.
+
+        A change may come between the end of the time and the moment at which the waiting task goes on.
+        """
+
+        def disturbed() -> bool:
+            """Whether the text is another one or the server is lost."""
+            return self.changes != changes or self._lost()
+
+        await within(seconds, self._wait(disturbed))
+        return not (self.closed or disturbed())
 
     async def work(self) -> None:
         """Waits until there is work: a newer text, or a lost server."""
