@@ -212,6 +212,29 @@ wide-strengthened u f x p q =
     ∙ wide-min x (u +ℤ f)
     ∙ ap (least (wide x)) (wide-sum (2 ^ 24) (2 ^ 24) u f (omega arith) p q)
 
+-- the lesser of what is not settled and a sum settles as if it were
+settle-again : (a s : ℤ) → settle (int_min a s) ≡ settle (int_min (settle a) s)
+settle-again a s = by_lt_z a (pos (2 ^ 28))
+    (λ h. ap (λ z. settle (int_min z s)) (sym (settle-bound a h)))
+    (λ h. by_lt_z s (pos (2 ^ 28)) (λ k. below h k) (λ k. settle-free (int_min a s) (above a s h k) ∙ sym (settle-free (int_min (settle a) s) (above (settle a) s (subst (λ z. pos (2 ^ 28) ≤ℤ z) (sym (settle-free a h)) (omega (arith, ints))) k))))
+  where
+    above : (x y : ℤ) → pos (2 ^ 28) ≤ℤ x → pos (2 ^ 28) ≤ℤ y → pos (2 ^ 28) ≤ℤ int_min x y
+    above x y h k = grind (arith, ints)
+
+    below : pos (2 ^ 28) ≤ℤ a → s <ℤ pos (2 ^ 28) → settle (int_min a s) ≡ settle (int_min (settle a) s)
+    below h k =
+        let e : settle a ≡ none = settle-free a h in
+        let l : s <ℤ a = omega (arith, ints) in
+        let m : s <ℤ none = omega (arith, ints) in
+        ap settle (min-right a s l ∙ sym (min-right none s m) ∙ ap (λ z. int_min z s) (sym e))
+
+-- an entry that goes over both ways
+pub through-entry : (u v f g x : ℤ) → IsEntry (3 * 2 ^ 25) u → IsEntry (3 * 2 ^ 25) v → IsEntry (2 ^ 27) f → IsEntry (2 ^ 27) g → IsEntry (2 ^ 25) x → IsEntry (7 * 2 ^ 25) (through_both u v f g x)
+through-entry u v f g x pu pv pf pg px =
+    let a : IsEntry (7 * 2 ^ 25) (settle (int_min x (u +ℤ f))) = settle-min (7 * 2 ^ 25) x (u +ℤ f) (omega arith) (entry-more (2 ^ 25) (7 * 2 ^ 25) x (omega arith) px) (settle-sum (3 * 2 ^ 25) (2 ^ 27) u f (omega arith) pu pf) in
+    subst (IsEntry (7 * 2 ^ 25)) (sym (settle-again (int_min x (u +ℤ f)) (v +ℤ g)))
+    (settle-min (7 * 2 ^ 25) (settle (int_min x (u +ℤ f))) (v +ℤ g) (omega arith) a (settle-sum (3 * 2 ^ 25) (2 ^ 27) v g (omega arith) pv pg))
+
 -- where neither way leads anywhere an entry stays
 pub through_both-free : (u v f g x : ℤ) → pos (2 ^ 28) ≤ℤ u → pos (2 ^ 28) ≤ℤ v → IsEntry (3 * 2 ^ 25) u → IsEntry (3 * 2 ^ 25) v → IsEntry (2 ^ 27) f → IsEntry (2 ^ 27) g → IsEntry (2 ^ 25) x →
     through_both u v f g x ≡ x
@@ -348,6 +371,16 @@ pub read-entry : (b : ℕ) (xs : List ℤ) (k : ℕ) → b ≤ 2 ^ 27 → AreEnt
 read-entry b xs k l h m =
     let e : get_or xs k (pos 0) ≡ at xs k = get_or_default xs k (pos 0) none m in
     same (get_or xs k (pos 0)) (entry-fits b (get_or xs k (pos 0)) l (subst (IsEntry b) (sym e) (h k))) ∙ e
+
+pub fits-any : (b : ℕ) (x : ℤ) → b < 2 ^ 28 → IsEntry b x → FitsSigned w32 x
+fits-any b x l (inl e) = omega (arith, ints)
+fits-any b x l (inr p) = let q : neg_ℤ (pos b) ≤ℤ x = p.0 in let r : x ≤ℤ pos b = p.1 in omega (arith, ints)
+
+-- the same where this one entry is known
+pub read-any : (b : ℕ) (xs : List ℤ) (k : ℕ) → b < 2 ^ 28 → IsEntry b (at xs k) → k < length xs → to_z w32 (of_z w32 (get_or xs k (pos 0))) ≡ at xs k
+read-any b xs k l h m =
+    let e : get_or xs k (pos 0) ≡ at xs k = get_or_default xs k (pos 0) none m in
+    same (get_or xs k (pos 0)) (fits-any b (get_or xs k (pos 0)) l (subst (IsEntry b) (sym e) h)) ∙ e
 
 pub passed-entry : (b c : ℕ) (xs : List ℤ) (k : ℕ) → b ≤ c → c ≤ 2 ^ 27 → AreEntries b xs → k < length xs → IsEntry c (to_z w32 (of_z w32 (get_or xs k (pos 0))))
 passed-entry b c xs k l n h m = subst (IsEntry c) (sym (read-entry b xs k (omega arith) h m)) (entry-more b c (at xs k) l (h k))

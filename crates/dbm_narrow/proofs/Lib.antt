@@ -1,10 +1,12 @@
 pub mod ConvertLemmas
+pub mod DoubledThresholds
 pub mod EntryLemmas
 pub mod ForgetLemmas
 pub mod JoinLemmas
 pub mod LowerLemmas
 pub mod MiddleLemmas
 pub mod PartLemmas
+pub mod PuttingLemmas
 pub mod RoundLemmas
 pub mod RowLemmas
 pub mod SameLemmas

@@ -1,4 +1,4 @@
--- The bounds to and from a slot's nodes, from two whole rows; and what becomes of an entry by them.
+-- The bounds to and from a slot's nodes; and what becomes of an entry by them.
 use Rattle.std.specs.Prelude.{◌≡◌, ℕ, ◌<◌, ◌≤◌, ◌+◌, ◌*◌, ◌^◌, ℤ, ◌+ℤ◌, None, Bool, List, length, map}
 use Rattle.std.specs.Int.{int_min}
 use Rattle.std.proofs.Common.{arith, ap, sym, subst, ◌∙◌, get_or}
@@ -10,7 +10,7 @@ use Rattle.dbm_core.proofs.WeightLemmas.{add_weight-comm}
 use Rattle.dbm_core.specs.Half.{IsMatrix, entry, row_start, row_width}
 use Rattle.dbm_core.specs.Nodes.{flip}
 use Rattle.dbm_core.specs.Weights.{add_weight, least}
-use Rattle.dbm_narrow.proofs.EntryLemmas.{entries-from, held-entry, held-kept, pair-is_entry, wide-at, wide-min, wide-settle, wide-sum, wide-through_both}
+use Rattle.dbm_narrow.proofs.EntryLemmas.{entries-from, held-entry, held-kept, pair-is_entry, pair-other, wide-at, wide-min, wide-settle, wide-sum, wide-through_both}
 use Rattle.dbm_narrow.specs.declared.middle.Middle.{Middle}
 use Rattle.dbm_narrow.specs.Entries.{AreEntries, IsEntry, at, held, none, pair_at, settle, wide}
 use Rattle.dbm_narrow.specs.Middles.{IsNarrowMiddle, through_middle, wide_middle}
@@ -22,61 +22,73 @@ flip-first q = flip-even (2 * q) (omega arith)
 pub flip-second : (q : ℕ) → flip (2 * q + 1) ≡ 2 * q
 flip-second q = flip-odd (2 * q + 1) (omega arith) ∙ omega arith
 
+-- the entries between the nodes of slot q and those of a later slot s, by their mirror images
+module _ (xs : List ℤ) (q s : ℕ) (l : q + 1 ≤ s) where
+  pub turned-even_first : pair_at xs (2 * q) (2 * s) ≡ at xs (row_start (2 * s + 1) + (2 * q + 1))
+  turned-even_first = pair-other xs (2 * q) (2 * s) (omega arith) ∙ ap (λ k. at xs (row_start k + flip (2 * q))) (flip-first s) ∙ ap (λ k. at xs (row_start (2 * s + 1) + k)) (flip-first q)
+
+  pub turned-odd_first : pair_at xs (2 * q) (2 * s + 1) ≡ at xs (row_start (2 * s) + (2 * q + 1))
+  turned-odd_first = pair-other xs (2 * q) (2 * s + 1) (omega arith) ∙ ap (λ k. at xs (row_start k + flip (2 * q))) (flip-second s) ∙ ap (λ k. at xs (row_start (2 * s) + k)) (flip-first q)
+
+  pub turned-even_second : pair_at xs (2 * q + 1) (2 * s) ≡ at xs (row_start (2 * s + 1) + 2 * q)
+  turned-even_second = pair-other xs (2 * q + 1) (2 * s) (omega arith) ∙ ap (λ k. at xs (row_start k + flip (2 * q + 1))) (flip-first s) ∙ ap (λ k. at xs (row_start (2 * s + 1) + k)) (flip-second q)
+
+  pub turned-odd_second : pair_at xs (2 * q + 1) (2 * s + 1) ≡ at xs (row_start (2 * s) + 2 * q)
+  turned-odd_second = pair-other xs (2 * q + 1) (2 * s + 1) (omega arith) ∙ ap (λ k. at xs (row_start k + flip (2 * q + 1))) (flip-second s) ∙ ap (λ k. at xs (row_start (2 * s) + k)) (flip-second q)
+
 -- the column of a node is the row of the node of the other sign, turned
 module _ (kinds : List Bool) (xs : List ℤ) (t : IsMatrix (held kinds xs)) where
   pub to_node : (i k : ℕ) → i < 2 * length kinds → k < 2 * length kinds → wide (pair_at xs (flip k) (flip i)) ≡ entry (held kinds xs) i k
   to_node i k hi hk = sym (held-entry kinds xs (flip k) (flip i)) ∙ sym (entry-coherent (held kinds xs) t i k hi hk)
 
--- what the arrays hold, of the rows f and s of a slot's two nodes
-pub record AreWays (n : ℕ) (xs : List ℤ) (q : ℕ) (m : Middle) (ds : List ℤ) : Type 0 where
+-- what the arrays hold before column n
+pub record AreWays (n : ℕ) (xs : List ℤ) (q : ℕ) (m : Middle) : Type 0 where
   pub first : (j : ℕ) → j < n → at m.from_first j ≡ pair_at xs (2 * q) j
   pub to_first : (i : ℕ) → i < n → at m.to_first i ≡ pair_at xs (2 * q + 1) (flip i)
-  pub direct : (i : ℕ) → i < n → at ds i ≡ pair_at xs (2 * q) (flip i)
-  pub to_second : (i : ℕ) → i < n → at m.to_second i ≡ int_min (at ds i) (settle (at m.from_first (2 * q + 1) +ℤ at m.to_first i))
-  pub from_second : (j : ℕ) → j < n → at m.from_second j ≡ int_min (pair_at xs (2 * q + 1) j) (settle (pair_at xs (2 * q + 1) (2 * q) +ℤ at m.from_first j))
+  pub to_second : (i : ℕ) → i < n → at m.to_second i ≡ int_min (pair_at xs (2 * q) (flip i)) (settle (pair_at xs (2 * q) (2 * q + 1) +ℤ pair_at xs (2 * q + 1) (flip i)))
+  pub from_second : (j : ℕ) → j < n → at m.from_second j ≡ int_min (pair_at xs (2 * q + 1) j) (settle (pair_at xs (2 * q + 1) (2 * q) +ℤ pair_at xs (2 * q) j))
 
-pub ways-middle : (kinds : List Bool) (xs : List ℤ) (q : ℕ) (m : Middle) (direct : List ℤ) → IsNarrow kinds xs → q < length kinds → AreWays (2 * length kinds) xs q m direct → HasMiddle (2 * length kinds) (entry (held kinds xs)) q (wide_middle m)
-ways-middle kinds xs q m direct t l p = record {
+pub ways-middle : (kinds : List Bool) (xs : List ℤ) (q : ℕ) (m : Middle) → IsNarrow kinds xs → q < length kinds → AreWays (2 * length kinds) xs q m → HasMiddle (2 * length kinds) (entry (held kinds xs)) q (wide_middle m)
+ways-middle kinds xs q m t l p = record {
   to_first = λ i hi. wide-at m.to_first i ∙ to_first i hi;
   from_first = λ j hj. wide-at m.from_first j ∙ from_first j hj;
-  to_second = λ i hi. wide-at m.to_second i ∙ ap wide (p.to_second i hi) ∙ wide-min (at direct i) (settle (at m.from_first (2 * q + 1) +ℤ at m.to_first i))
-      ∙ ap (λ a. least a (wide (settle (at m.from_first (2 * q + 1) +ℤ at m.to_first i)))) (to_direct i hi)
+  to_second = λ i hi. wide-at m.to_second i ∙ ap wide (p.to_second i hi) ∙ wide-min (pair_at xs (2 * q) (flip i)) (settle (pair_at xs (2 * q) (2 * q + 1) +ℤ pair_at xs (2 * q + 1) (flip i)))
+      ∙ ap (λ a. least a (wide (settle (pair_at xs (2 * q) (2 * q + 1) +ℤ pair_at xs (2 * q + 1) (flip i))))) (to_direct i hi)
       ∙ ap (least (entry (held kinds xs) i (2 * q + 1))) (step_to i hi);
-  from_second = λ j hj. wide-at m.from_second j ∙ ap wide (p.from_second j hj) ∙ wide-min (pair_at xs (2 * q + 1) j) (settle (pair_at xs (2 * q + 1) (2 * q) +ℤ at m.from_first j))
-      ∙ ap (λ a. least a (wide (settle (pair_at xs (2 * q + 1) (2 * q) +ℤ at m.from_first j)))) (sym (held-entry kinds xs (2 * q + 1) j))
-      ∙ ap (least (entry (held kinds xs) (2 * q + 1) j)) (step_from j hj);
+  from_second = λ j hj. wide-at m.from_second j ∙ ap wide (p.from_second j hj) ∙ wide-min (pair_at xs (2 * q + 1) j) (settle (pair_at xs (2 * q + 1) (2 * q) +ℤ pair_at xs (2 * q) j))
+      ∙ ap (λ a. least a (wide (settle (pair_at xs (2 * q + 1) (2 * q) +ℤ pair_at xs (2 * q) j)))) (sym (held-entry kinds xs (2 * q + 1) j))
+      ∙ ap (least (entry (held kinds xs) (2 * q + 1) j)) (step_from j);
 }
   where
     small : (i j : ℕ) → IsEntry (2 ^ 25) (pair_at xs i j)
     small i j = pair-is_entry (2 ^ 25) xs i j t.entries
 
-    of_entry : (x : ℤ) (i j : ℕ) → x ≡ pair_at xs i j → IsEntry (2 ^ 25) x
-    of_entry x i j e = subst (IsEntry (2 ^ 25)) (sym e) (small i j)
+    to_pair : (i : ℕ) → i < 2 * length kinds → wide (pair_at xs (2 * q + 1) (flip i)) ≡ entry (held kinds xs) i (2 * q)
+    to_pair i hi = ap (λ k. wide (pair_at xs k (flip i))) (sym (flip-first q)) ∙ to_node kinds xs t.matrix i (2 * q) hi (omega arith)
 
     to_first : (i : ℕ) → i < 2 * length kinds → wide (at m.to_first i) ≡ entry (held kinds xs) i (2 * q)
-    to_first i hi = ap wide (p.to_first i hi) ∙ ap (λ k. wide (pair_at xs k (flip i))) (sym (flip-first q)) ∙ to_node kinds xs t.matrix i (2 * q) hi (omega arith)
+    to_first i hi = ap wide (p.to_first i hi) ∙ to_pair i hi
 
     from_first : (j : ℕ) → j < 2 * length kinds → wide (at m.from_first j) ≡ entry (held kinds xs) (2 * q) j
     from_first j hj = ap wide (p.first j hj) ∙ sym (held-entry kinds xs (2 * q) j)
 
-    to_direct : (i : ℕ) → i < 2 * length kinds → wide (at direct i) ≡ entry (held kinds xs) i (2 * q + 1)
-    to_direct i hi = ap wide (p.direct i hi) ∙ ap (λ k. wide (pair_at xs k (flip i))) (sym (flip-second q)) ∙ to_node kinds xs t.matrix i (2 * q + 1) hi (omega arith)
+    to_direct : (i : ℕ) → i < 2 * length kinds → wide (pair_at xs (2 * q) (flip i)) ≡ entry (held kinds xs) i (2 * q + 1)
+    to_direct i hi = ap (λ k. wide (pair_at xs k (flip i))) (sym (flip-second q)) ∙ to_node kinds xs t.matrix i (2 * q + 1) hi (omega arith)
 
-    step_to : (i : ℕ) → i < 2 * length kinds → wide (settle (at m.from_first (2 * q + 1) +ℤ at m.to_first i)) ≡ add_weight (entry (held kinds xs) i (2 * q)) (entry (held kinds xs) (2 * q) (2 * q + 1))
+    step_to : (i : ℕ) → i < 2 * length kinds → wide (settle (pair_at xs (2 * q) (2 * q + 1) +ℤ pair_at xs (2 * q + 1) (flip i))) ≡ add_weight (entry (held kinds xs) i (2 * q)) (entry (held kinds xs) (2 * q) (2 * q + 1))
     step_to i hi =
-        let k : 2 * q + 1 < 2 * length kinds = omega arith in
-        wide-settle (at m.from_first (2 * q + 1) +ℤ at m.to_first i)
-        ∙ wide-sum (2 ^ 25) (2 ^ 25) (at m.from_first (2 * q + 1)) (at m.to_first i) (omega arith) (of_entry (at m.from_first (2 * q + 1)) (2 * q) (2 * q + 1) (p.first (2 * q + 1) k)) (of_entry (at m.to_first i) (2 * q + 1) (flip i) (p.to_first i hi))
-        ∙ ap (λ a. add_weight a (wide (at m.to_first i))) (from_first (2 * q + 1) k)
-        ∙ ap (add_weight (entry (held kinds xs) (2 * q) (2 * q + 1))) (to_first i hi)
+        wide-settle (pair_at xs (2 * q) (2 * q + 1) +ℤ pair_at xs (2 * q + 1) (flip i))
+        ∙ wide-sum (2 ^ 25) (2 ^ 25) (pair_at xs (2 * q) (2 * q + 1)) (pair_at xs (2 * q + 1) (flip i)) (omega arith) (small (2 * q) (2 * q + 1)) (small (2 * q + 1) (flip i))
+        ∙ ap (λ a. add_weight a (wide (pair_at xs (2 * q + 1) (flip i)))) (sym (held-entry kinds xs (2 * q) (2 * q + 1)))
+        ∙ ap (add_weight (entry (held kinds xs) (2 * q) (2 * q + 1))) (to_pair i hi)
         ∙ add_weight-comm (entry (held kinds xs) (2 * q) (2 * q + 1)) (entry (held kinds xs) i (2 * q))
 
-    step_from : (j : ℕ) → j < 2 * length kinds → wide (settle (pair_at xs (2 * q + 1) (2 * q) +ℤ at m.from_first j)) ≡ add_weight (entry (held kinds xs) (2 * q + 1) (2 * q)) (entry (held kinds xs) (2 * q) j)
-    step_from j hj =
-        wide-settle (pair_at xs (2 * q + 1) (2 * q) +ℤ at m.from_first j)
-        ∙ wide-sum (2 ^ 25) (2 ^ 25) (pair_at xs (2 * q + 1) (2 * q)) (at m.from_first j) (omega arith) (small (2 * q + 1) (2 * q)) (of_entry (at m.from_first j) (2 * q) j (p.first j hj))
-        ∙ ap (λ a. add_weight a (wide (at m.from_first j))) (sym (held-entry kinds xs (2 * q + 1) (2 * q)))
-        ∙ ap (add_weight (entry (held kinds xs) (2 * q + 1) (2 * q))) (from_first j hj)
+    step_from : (j : ℕ) → wide (settle (pair_at xs (2 * q + 1) (2 * q) +ℤ pair_at xs (2 * q) j)) ≡ add_weight (entry (held kinds xs) (2 * q + 1) (2 * q)) (entry (held kinds xs) (2 * q) j)
+    step_from j =
+        wide-settle (pair_at xs (2 * q + 1) (2 * q) +ℤ pair_at xs (2 * q) j)
+        ∙ wide-sum (2 ^ 25) (2 ^ 25) (pair_at xs (2 * q + 1) (2 * q)) (pair_at xs (2 * q) j) (omega arith) (small (2 * q + 1) (2 * q)) (small (2 * q) j)
+        ∙ ap (λ a. add_weight a (wide (pair_at xs (2 * q) j))) (sym (held-entry kinds xs (2 * q + 1) (2 * q)))
+        ∙ ap (add_weight (entry (held kinds xs) (2 * q + 1) (2 * q))) (sym (held-entry kinds xs (2 * q) j))
 
 -- an entry that goes through the middle stands for the bound when walks do
 pub middle-via : (kinds : List Bool) (xs ys : List ℤ) (m : Middle) → IsNarrowMiddle m → (i j : ℕ) → j < row_width i → at ys (row_start i + j) ≡ through_middle m i j (at xs (row_start i + j)) →

@@ -7,6 +7,7 @@ use borrow.Rule.Slice.PartMut.{put_mid, post_of}
 use Rattle.dbm_core.proofs.HalfLemmas.{place-within, row_start-double, row_start-mono}
 use Rattle.dbm_core.specs.Half.{row_start, row_width}
 use Rattle.dbm_narrow.specs.Entries.{AreEntries, IsEntry, at, none}
+use Rattle.dbm_narrow.specs.Rows.{IsRowWithin}
 
 less_self : (a j : ℕ) → (a + j) - a ≡ j
 less_self a j = omega arith
@@ -35,14 +36,14 @@ part-outside xs ys a k n l e (inr m) =
 pub part-at : (xs : List ℤ) (a k j : ℕ) → j < k → at (take k (drop a xs)) j ≡ at xs (a + j)
 part-at xs a k j l = get_or-take k (drop a xs) j none l ∙ get_or-drop a xs j none
 
-pub part-entries : (b : ℕ) (xs : List ℤ) (a k : ℕ) → AreEntries b xs → AreEntries b (take k (drop a xs))
-part-entries b xs a k h j = elim (cases_lt j k) [
-  | inl l ↦ subst (IsEntry b) (sym (part-at xs a k j l)) (h (a + j))
-  | inr l ↦ inl (past j l)
+pub part-entries-in : (b : ℕ) (xs : List ℤ) (a k : ℕ) → ((j : ℕ) → j < k → IsEntry b (at xs (a + j))) → AreEntries b (take k (drop a xs))
+part-entries-in b xs a k h j = elim (cases_lt j k) [
+  | inl l ↦ subst (IsEntry b) (sym (part-at xs a k j l)) (h j l)
+  | inr l ↦ inl (get_or_past (take k (drop a xs)) j none (omega (arith, length-take k (drop a xs))))
 ]
-  where
-    past : (j : ℕ) → k ≤ j → at (take k (drop a xs)) j ≡ none
-    past j l = get_or_past (take k (drop a xs)) j none (omega (arith, length-take k (drop a xs)))
+
+pub part-entries : (b : ℕ) (xs : List ℤ) (a k : ℕ) → AreEntries b xs → AreEntries b (take k (drop a xs))
+part-entries b xs a k h = part-entries-in b xs a k (λ j l. h (a + j))
 
 -- all entries, from those of the part and the others
 pub whole-entries : (b : ℕ) (xs ys : List ℤ) (a k : ℕ) → a + k ≤ length xs → length ys ≡ k → AreEntries b xs → AreEntries b ys → AreEntries b (put_mid a k xs ys)
@@ -79,9 +80,16 @@ row-read xs i a len e f j w = part-at xs a ((a + len) - a) j (omega (arith, less
 pub row-length : (xs : List ℤ) (i a len : ℕ) → a ≡ row_start i → len ≡ row_width i → row_start i + row_width i ≤ length xs → length (take ((a + len) - a) (drop a xs)) ≡ row_width i
 row-length xs i a len e f l = length-take-le ((a + len) - a) (drop a xs) (omega (arith, less_self a len, length-drop a xs)) ∙ less_self a len ∙ f
 
+pub row-entries-in : (b : ℕ) (xs ys : List ℤ) (i a len : ℕ) → a ≡ row_start i → len ≡ row_width i → row_start i + row_width i ≤ length xs → length ys ≡ row_width i →
+    AreEntries b xs → AreEntries b ys → AreEntries b (put_mid a ((a + len) - a) xs ys)
+row-entries-in b xs ys i a len e f l m h p = whole-entries b xs ys a ((a + len) - a) (row-room xs i a len e f l) (row-size ys i a len f m) h p
+
 pub row-entries : (xs ys : List ℤ) (i a len : ℕ) → a ≡ row_start i → len ≡ row_width i → row_start i + row_width i ≤ length xs → length ys ≡ row_width i →
     AreEntries (2 ^ 25) xs → AreEntries (2 ^ 25) ys → AreEntries (2 ^ 25) (put_mid a ((a + len) - a) xs ys)
-row-entries xs ys i a len e f l m h p = whole-entries (2 ^ 25) xs ys a ((a + len) - a) (row-room xs i a len e f l) (row-size ys i a len f m) h p
+row-entries = row-entries-in (2 ^ 25)
+
+pub row-part : (b : ℕ) (xs : List ℤ) (i a len : ℕ) → a ≡ row_start i → len ≡ row_width i → IsRowWithin b i xs → AreEntries b (take ((a + len) - a) (drop a xs))
+row-part b xs i a len e f h = part-entries-in b xs a ((a + len) - a) (λ j l. subst (λ s. IsEntry b (at xs (s + j))) (sym e) (h j (omega (arith, less_self a len))))
 
 -- ---- places
 
@@ -93,17 +101,20 @@ row-in xs n i e l = omega (arith, row_start-mono (2 * n) (suc i) (omega arith))
 
 -- ---- row after row
 
--- the rows before i are rewritten by f, the others stand
-pub record AreRows (f : ℕ → ℕ → ℤ → ℤ) (os xs : List ℤ) (i : ℕ) : Type 0 where
+-- the rows before i are rewritten by f, the others stand, and all lie within b
+pub record AreRowsIn (b : ℕ) (f : ℕ → ℕ → ℤ → ℤ) (os xs : List ℤ) (i : ℕ) : Type 0 where
   pub size : length xs ≡ length os
   pub done : (a j : ℕ) → a < i → j < row_width a → at xs (row_start a + j) ≡ f a j (at os (row_start a + j))
   pub rest : (k : ℕ) → row_start i ≤ k → at xs k ≡ at os k
-  pub entries : AreEntries (2 ^ 25) xs
+  pub entries : AreEntries b xs
 
-pub rows-next : (f : ℕ → ℕ → ℤ → ℤ) (os xs ys : List ℤ) (i : ℕ) → AreRows f os xs i → length ys ≡ length xs →
+abbrev pub AreRows : (ℕ → ℕ → ℤ → ℤ) → List ℤ → List ℤ → ℕ → Type 0
+AreRows f os xs i = AreRowsIn (2 ^ 25) f os xs i
+
+pub rows-next-in : (b : ℕ) (f : ℕ → ℕ → ℤ → ℤ) (os xs ys : List ℤ) (i : ℕ) → AreRowsIn b f os xs i → length ys ≡ length xs →
     ((j : ℕ) → j < row_width i → at ys (row_start i + j) ≡ f i j (at xs (row_start i + j))) →
-    ((k : ℕ) → (k < row_start i) ⊎ (row_start i + row_width i ≤ k) → at ys k ≡ at xs k) → AreEntries (2 ^ 25) ys → AreRows f os ys (i + 1)
-rows-next f os xs ys i p e here there all =
+    ((k : ℕ) → (k < row_start i) ⊎ (row_start i + row_width i ≤ k) → at ys k ≡ at xs k) → AreEntries b ys → AreRowsIn b f os ys (i + 1)
+rows-next-in b f os xs ys i p e here there all =
     let next : row_start (i + 1) ≡ row_start i + row_width i = ap row_start (add-one i) in
     record {
       size = e ∙ p.size;
@@ -115,3 +126,8 @@ rows-next f os xs ys i p e here there all =
       rest = λ k l. there k (inr (omega arith)) ∙ p.rest k (omega (arith, next));
       entries = all;
     }
+
+pub rows-next : (f : ℕ → ℕ → ℤ → ℤ) (os xs ys : List ℤ) (i : ℕ) → AreRows f os xs i → length ys ≡ length xs →
+    ((j : ℕ) → j < row_width i → at ys (row_start i + j) ≡ f i j (at xs (row_start i + j))) →
+    ((k : ℕ) → (k < row_start i) ⊎ (row_start i + row_width i ≤ k) → at ys k ≡ at xs k) → AreEntries (2 ^ 25) ys → AreRows f os ys (i + 1)
+rows-next = rows-next-in (2 ^ 25)

@@ -1,14 +1,15 @@
 -- Rows that are gone over one entry after another.
-use Rattle.std.specs.Prelude.{◌≡◌, ℕ, ◌<◌, ◌≤◌, ◌+◌, ◌*◌, ◌^◌, ℤ, pos, neg_ℤ, ◌≤ℤ◌, ◌<ℤ◌, ◌+ℤ◌, int_lt, true, List, length, slice_set, refl}
+use Rattle.std.specs.Prelude.{◌≡◌, ℕ, ◌<◌, ◌≤◌, ◌+◌, ◌*◌, ◌^◌, ℤ, pos, neg_ℤ, ◌≤ℤ◌, ◌<ℤ◌, ◌⊎◌, int_lt, true, List, length, slice_set, refl}
 use Rattle.std.specs.Int.{int_min, int_max}
-use Rattle.std.proofs.Common.{arith, sym, subst, ◌∙◌, inl, inr, length-set, get_or, get_or-set_other, get_or-set_same}
+use Rattle.std.proofs.Common.{arith, ap, sym, subst, ◌∙◌, inl, inr, length-set, get_or, get_or-set_other, get_or-set_same}
 use Rattle.std.proofs.lemmas.Int.{ints}
 use Rattle.std.proofs.lemmas.Bool.{cases_lt}
 use Rattle.std.proofs.lemmas.List.{get_or_default, get_or_past}
 use mir.Syntax.{w32}
 use mir.Val.{of_z, to_z}
-use Rattle.dbm_narrow.proofs.EntryLemmas.{entry-fits, same, settled-entry, strengthened-entry}
-use Rattle.dbm_narrow.specs.Entries.{AreEntries, IsEntry, at, none, or_zero, strengthened_by, through_both}
+use Rattle.dbm_narrow.proofs.EntryLemmas.{entry-fits, entry-more, same, strengthened-entry, through-entry}
+use Rattle.dbm_narrow.specs.Entries.{AreEntries, IsEntry, at, none, or_zero, strengthened_by}
+use Rattle.dbm_narrow.specs.Rows.{AreGone, through_at}
 
 -- what is set at a place leaves what is before it, and what is after
 pub done-set : (P : ℕ → ℤ → Type 0) (xs : List ℤ) (i : ℕ) (x : ℤ) → i < length xs → ((k : ℕ) → k < i → P k (at xs k)) → P i x → (k : ℕ) → k < i + 1 → P k (at (slice_set xs i x) k)
@@ -31,19 +32,6 @@ two-rest P xs s x y h k m = rest-set P (slice_set xs (2 * s) x) (2 * s + 1) y (r
 pub two-size : (n : ℕ) (xs : List ℤ) (s : ℕ) (x y : ℤ) → length xs ≡ n → length (slice_set (slice_set xs (2 * s) x) (2 * s + 1) y) ≡ n
 two-size n xs s x y e = length-set (slice_set xs (2 * s) x) (2 * s + 1) y ∙ length-set xs (2 * s) x ∙ e
 
--- the first j entries of a row are gone through, and low and high are their extremes
-pub record IsThrough (u v : ℤ) (f g o xs : List ℤ) (j : ℕ) (low high : ℤ) : Type 0 where
-  pub done : (k : ℕ) → k < j → at xs k ≡ through_both u v (at f k) (at g k) (at o k)
-  pub rest : (k : ℕ) → j ≤ k → at xs k ≡ at o k
-  pub span : (k : ℕ) → k < j → (low ≤ℤ at xs k) × (or_zero (at xs k) ≤ℤ high)
-
-pub IsThrough-first : (u v : ℤ) (f g o : List ℤ) → IsThrough u v f g o o 0 (pos 0) (pos 0)
-IsThrough-first u v f g o = record {
-  done = λ k l. absurd (omega arith);
-  rest = λ k l. refl;
-  span = λ k l. absurd (omega arith);
-}
-
 wider : (low high x l h : ℤ) → l ≤ℤ low → high ≤ℤ h → (low ≤ℤ x) × (or_zero x ≤ℤ high) → (l ≤ℤ x) × (or_zero x ≤ℤ h)
 wider low high x l h p q r = let a : low ≤ℤ x = r.0 in let b : or_zero x ≤ℤ high = r.1 in (omega (arith, ints), omega (arith, ints))
 
@@ -58,29 +46,6 @@ max-above_left a b = grind (arith, ints)
 
 max-above_right : (a b : ℤ) → b ≤ℤ int_max a b
 max-above_right a b = grind (arith, ints)
-
-pub IsThrough-next : (u v : ℤ) (f g o xs : List ℤ) (j : ℕ) (low high b l h : ℤ) → j < length xs → IsThrough u v f g o xs j low high →
-    b ≡ through_both u v (at f j) (at g j) (at o j) → l ≡ int_min low b → h ≡ int_max high (or_zero b) → IsThrough u v f g o (slice_set xs j b) (j + 1) l h
-IsThrough-next u v f g o xs j low high b l h m p e s t =
-    let ll : l ≤ℤ low = subst (λ z. z ≤ℤ low) (sym s) (min-below_left low b) in
-    let lb : l ≤ℤ b = subst (λ z. z ≤ℤ b) (sym s) (min-below_right low b) in
-    let hh : high ≤ℤ h = subst (λ z. high ≤ℤ z) (sym t) (max-above_left high (or_zero b)) in
-    let hb : or_zero b ≤ℤ h = subst (λ z. or_zero b ≤ℤ z) (sym t) (max-above_right high (or_zero b)) in
-    record {
-      done = done-set (λ k x. x ≡ through_both u v (at f k) (at g k) (at o k)) xs j b m p.done e;
-      rest = rest-set (λ k x. x ≡ at o k) xs j b p.rest;
-      span = done-set (λ k x. (l ≤ℤ x) × (or_zero x ≤ℤ h)) xs j b m (λ k q. wider low high (at xs k) l h ll hh (p.span k q)) (lb, hb);
-    }
-
-pub IsThrough-within : (u v : ℤ) (f g o xs : List ℤ) (j : ℕ) (low high : ℤ) → length o ≤ j → AreEntries (2 ^ 25) o → IsThrough u v f g o xs j low high →
-    neg_ℤ (pos (2 ^ 25)) ≤ℤ low → high ≤ℤ pos (2 ^ 25) → AreEntries (2 ^ 25) xs
-IsThrough-within u v f g o xs j low high m all p l h k = elim (cases_lt k j) [
-  | inl q ↦ let r : (neg_ℤ (pos (2 ^ 25)) ≤ℤ at xs k) × (or_zero (at xs k) ≤ℤ pos (2 ^ 25)) = wider low high (at xs k) (neg_ℤ (pos (2 ^ 25))) (pos (2 ^ 25)) l h (p.span k q) in
-      subst (IsEntry (2 ^ 25)) (sym (p.done k q))
-      (settled-entry (2 ^ 25) (int_min (int_min (at o k) (u +ℤ at f k)) (v +ℤ at g k))
-      (subst (λ x. neg_ℤ (pos (2 ^ 25)) ≤ℤ x) (p.done k q) r.0) (subst (λ x. or_zero x ≤ℤ pos (2 ^ 25)) (p.done k q) r.1))
-  | inr q ↦ subst (IsEntry (2 ^ 25)) (sym (p.rest k q)) (all k)
-]
 
 -- low and high are the extremes of the first j entries
 abbrev pub Spans : List ℤ → ℕ → ℤ → ℤ → Type 0
@@ -117,6 +82,53 @@ copied-row f o xs j l p h done rest k = elim (cases_lt k j) [
   | inl m ↦ subst (IsEntry (2 ^ 25)) (sym (done k m)) (p k)
   | inr m ↦ subst (IsEntry (2 ^ 25)) (sym (rest k m)) (h k)
 ]
+
+-- ---- entries gone through
+
+pub gone-value : (r u v u' v' : ℤ) (f g : List ℤ) (j : ℕ) (x : ℤ) → r ≡ through_at u v f g j x → u ≡ u' → v ≡ v' → r ≡ through_at u' v' f g j x
+gone-value r u v u' v' f g j x e p q = e ∙ ap (λ s. through_at s v f g j x) p ∙ ap (λ s. through_at u' s f g j x) q
+
+module _ (u v : ℤ) (f g o : List ℤ) where
+  pub gone-none : (a : ℕ) → AreGone a a u v f g o o
+  gone-none a = record { gone = λ j l m. absurd (omega arith); rest = λ j l. refl }
+
+  -- one more is set
+  pub gone-next : (xs : List ℤ) (a b c : ℕ) (x : ℤ) → a ≤ b → c ≡ b + 1 → b < length xs → AreGone a b u v f g o xs → x ≡ through_at u v f g b (at o b) → AreGone a c u v f g o (slice_set xs b x)
+  gone-next xs a b c x l e m p h = record {
+    gone = λ j q r. elim (cases_lt j b) [
+      | inl s ↦ let n : j ≡ b → ⊥ = λ t. absurd (omega arith) in rw get_or-set_other (p.gone j q s)
+      | inr s ↦ let t : j ≡ b = omega arith in rw t (rw get_or-set_same h)
+    ];
+    rest = λ j q. let n : j ≡ b → ⊥ = λ t. apart j q t in rw get_or-set_other (p.rest j (beyond j q));
+  }
+    where
+      apart : (j : ℕ) → (j < a) ⊎ (c ≤ j) → j ≡ b → ⊥
+      apart j (inl q) t = absurd (omega arith)
+      apart j (inr q) t = absurd (omega arith)
+
+      beyond : (j : ℕ) → (j < a) ⊎ (c ≤ j) → (j < a) ⊎ (b ≤ j)
+      beyond j (inl q) = inl q
+      beyond j (inr q) = inr (omega arith)
+
+  -- and the next ones
+  pub gone-more : (xs ys : List ℤ) (b a c d : ℕ) → a ≡ b → b ≤ c → d ≡ c → AreGone 0 b u v f g o xs → AreGone a c u v f g xs ys → AreGone 0 d u v f g o ys
+  gone-more xs ys b a c d n l e p q = record {
+    gone = λ j m r. elim (cases_lt j b) [
+      | inl s ↦ q.rest j (inl (omega arith)) ∙ p.gone j m s
+      | inr s ↦ q.gone j (omega arith) (omega arith) ∙ ap (through_at u v f g j) (p.rest j (inr s))
+    ];
+    rest = λ j m. let k : c ≤ j = past j m in q.rest j (inr k) ∙ p.rest j (inr (omega arith));
+  }
+    where
+      past : (j : ℕ) → (j < 0) ⊎ (d ≤ j) → c ≤ j
+      past j (inl m) = absurd (omega arith)
+      past j (inr m) = omega arith
+
+  pub gone-entries : (ys : List ℤ) (b : ℕ) → IsEntry (3 * 2 ^ 25) u → IsEntry (3 * 2 ^ 25) v → AreEntries (2 ^ 27) f → AreEntries (2 ^ 27) g → AreEntries (2 ^ 25) o → AreGone 0 b u v f g o ys → AreEntries (7 * 2 ^ 25) ys
+  gone-entries ys b pu pv pf pg po p k = elim (cases_lt k b) [
+    | inl m ↦ subst (IsEntry (7 * 2 ^ 25)) (sym (p.gone k (omega arith) m)) (through-entry u v (at f k) (at g k) (at o k) pu pv (pf k) (pg k) (po k))
+    | inr m ↦ subst (IsEntry (7 * 2 ^ 25)) (sym (p.rest k (inr m))) (entry-more (2 ^ 25) (7 * 2 ^ 25) (at o k) (omega arith) (po k))
+  ]
 
 -- what code reads of a row, of which only the entries before j are changed
 pub row-read : (xs os : List ℤ) (j : ℕ) → j < length xs → AreEntries (2 ^ 25) os → ((k : ℕ) → j ≤ k → at xs k ≡ at os k) → to_z w32 (of_z w32 (get_or xs j (pos 0))) ≡ at os j

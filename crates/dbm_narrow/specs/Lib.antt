@@ -1,4 +1,5 @@
 pub mod Addings
+pub mod Between
 pub mod Carried
 pub mod Closed
 pub mod Closings
@@ -7,6 +8,7 @@ pub mod Feeding
 pub mod Held
 pub mod Lowerings
 pub mod Middles
+pub mod Putting
 pub mod Rounds
 pub mod Rows
 pub mod Standing

@@ -16,6 +16,10 @@ RowIs f i xs ys = (j : ℕ) → j < row_width i → at ys (row_start i + j) ≡ 
 abbrev pub RestStays : ℕ → List ℤ → List ℤ → Type 0
 RestStays i xs ys = (k : ℕ) → (k < row_start i) ⊎ (row_start i + row_width i ≤ k) → at ys k ≡ at xs k
 
+-- the entries of row i lie within b
+abbrev pub IsRowWithin : ℕ → ℕ → List ℤ → Type 0
+IsRowWithin b i xs = (j : ℕ) → j < row_width i → IsEntry b (at xs (row_start i + j))
+
 -- the same of the n first rows
 abbrev pub RowsAre : (ℕ → ℕ → ℤ → ℤ) → ℕ → List ℤ → List ℤ → Type 0
 RowsAre f n xs ys = (i j : ℕ) → i < n → j < row_width i → at ys (row_start i + j) ≡ f i j (at xs (row_start i + j))
@@ -31,6 +35,15 @@ through_at u v f g j x = through_both u v (at f j) (at g j) x
 -- the same of each entry
 abbrev pub GoneThrough : ℤ → ℤ → List ℤ → List ℤ → List ℤ → List ℤ → Type 0
 GoneThrough u v f g xs ys = EachIs (through_at u v f g) xs ys
+
+-- the entries from column a before column b of the row ys are gone through, the others are those of xs
+pub record AreGone (a b : ℕ) (u v : ℤ) (f g xs ys : List ℤ) : Type 0 where
+  pub gone : (j : ℕ) → a ≤ j → j < b → at ys j ≡ through_at u v f g j (at xs j)
+  pub rest : (j : ℕ) → (j < a) ⊎ (b ≤ j) → at ys j ≡ at xs j
+
+-- the entries from column a lie within b
+abbrev pub AreEntriesFrom : ℕ → ℕ → List ℤ → Type 0
+AreEntriesFrom a b xs = (j : ℕ) → a ≤ j → IsEntry b (at xs j)
 
 -- an entry at column j of a row that is at most the sum of two halves
 abbrev pub strengthened_at : ℤ → List ℤ → ℕ → ℤ → ℤ

@@ -1,5 +1,6 @@
 -- What widening makes of narrow entries.
-use Rattle.std.specs.Prelude.{◌≡◌, ℕ, ◌<◌, ◌+◌, ◌^◌, ℤ, Option, Some, None, Bool, true, MatchOption, List, length}
+use Rattle.std.specs.Prelude.{◌≡◌, ℕ, ◌<◌, ◌+◌, ◌^◌, ℤ, pos, ◌+ℤ◌, Option, Some, None, Bool, true, MatchOption, cond, List, length}
+use Rattle.std.specs.Int.{int_div_euclid}
 use Rattle.dbm_core.specs.Half.{HalfMatrix, HasEntries, row_start, row_width}
 use Rattle.dbm_core.specs.Nodes.{is_single}
 use Rattle.dbm_core.specs.Operations.{widen_bound, widened}
@@ -17,6 +18,10 @@ IsWidenedIf thresholds doubled x y o = MatchOption o (Unit {0}) (IsWidened thres
 -- the entry of the threshold that a bound goes to, where it fits
 abbrev pub IsThresholdEntry : Option ℤ → Option ℤ → Type 0
 IsThresholdEntry bound o = MatchOption o (Unit {0}) (λ x. (wide x ≡ bound) × IsEntry (2 ^ 25) x)
+
+-- what a threshold is not less than exactly where it, or its double, is not less than x: half of x, rounded up
+abbrev pub start_at : Bool → ℤ → ℤ
+start_at doubled x = cond doubled (int_div_euclid (x +ℤ pos 1) (pos 2)) x
 
 -- each entry of row i, xs, is widened by ys to zs
 abbrev pub EachWidens : List ℤ → ℕ → List ℤ → List ℤ → List ℤ → Type 0

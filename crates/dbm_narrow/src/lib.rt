@@ -10,6 +10,7 @@
 #![tactic(auto)]
 
 mod adding;
+mod between;
 mod carried;
 mod closed;
 mod closing;

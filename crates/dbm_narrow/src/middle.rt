@@ -4,11 +4,12 @@ ghost use Rattle.dbm_core.specs.Nodes.{flip};
 ghost use Rattle.dbm_narrow.specs.Entries.{AreEntries, IsEntry, at, none};
 ghost use Rattle.dbm_narrow.specs.Held.{HoldsMiddle};
 ghost use Rattle.dbm_narrow.specs.Middles.{IsNarrowMiddle};
+ghost use Rattle.dbm_narrow.specs.Putting.{IsNarrowBetween, PutsFrom, PutsTo, PutsTwo};
 ghost use Rattle.dbm_narrow.specs.Rounds.{IsNarrow};
 ghost use Rattle.dbm_narrow.specs.Rows.{ColumnsAre, LesserFit, SumsFit, over_at, stepped_at};
 
+use crate::between::{Between, bounds_between};
 use crate::entries::{NONE, lesser, plus};
-use crate::rows::whole_row;
 
 /// The bounds to and from both nodes of one slot, those of the second node when walks may go
 /// through the first.
@@ -67,25 +68,83 @@ pub fn stepped(step: i32, row: &[i32; 32]) -> [i32; 32]
     sums
 }
 
-/// The bounds to and from both nodes of slot q.
+/// A middle to be filled.
 #[inline]
-pub fn middle_of(kinds: &[bool], entries: &[i32], q: usize) -> Middle
-    requires narrow { IsNarrow kinds.now entries.now }
-    requires middle { q < length kinds.now }
-    ensures bounds { HoldsMiddle kinds.now entries.now q result }
+pub fn no_middle() -> Middle
     ensures entries { IsNarrowMiddle result }
 {
-    let slots = kinds.len();
-    let first = whole_row(entries, slots, 2 * q, 2 * q + 1);
-    let second = whole_row(entries, slots, 2 * q + 1, 2 * q);
-    let to_first = flipped(&second, slots);
-    let direct = flipped(&first, slots);
-    let to_second = over(&direct, first[2 * q + 1], &to_first);
-    let from_second = over(&second, second[2 * q], &first);
     Middle {
-        to_first,
-        from_first: first,
-        to_second,
-        from_second,
+        to_first: [NONE; 32],
+        from_first: [NONE; 32],
+        to_second: [NONE; 32],
+        from_second: [NONE; 32],
     }
+}
+
+/// Fills it with the bounds to and from both nodes of slot q.
+#[inline]
+pub fn fill_middle(kinds: &[bool], entries: &[i32], q: usize, middle: &mut Middle)
+    requires narrow { IsNarrow kinds.now entries.now }
+    requires middle { q < length kinds.now }
+    requires entries { IsNarrowMiddle middle.old }
+    ensures bounds { HoldsMiddle kinds.now entries.now q middle.new }
+    ensures entries { IsNarrowMiddle middle.new }
+{
+    let slots = kinds.len();
+    let own = bounds_between(entries, slots, q, q);
+    for slot in 0..slots {
+        let here = bounds_between(entries, slots, q, slot);
+        put_from(middle, slot, here, own.second_even);
+        put_to(middle, slot, here, own.first_odd);
+    }
+}
+
+// Puts the bounds from both nodes to those of another slot: `back` leads from the second node to
+// the first.
+#[inline]
+fn put_from(middle: &mut Middle, slot: usize, here: Between, back: i32)
+    requires slot { slot < 16 }
+    requires narrow { IsNarrowBetween here }
+    requires back { IsEntry (2 ^ 25) back }
+    ensures put { PutsFrom slot here back middle.old middle.new }
+{
+    let even = lesser(here.second_even, plus(back, here.first_even));
+    let odd = lesser(here.second_odd, plus(back, here.first_odd));
+    put(
+        &mut middle.from_first,
+        slot,
+        here.first_even,
+        here.first_odd,
+    );
+    put(&mut middle.from_second, slot, even, odd);
+}
+
+// Puts the bounds to both nodes from those of another slot: `ahead` leads from the first node to
+// the second.
+#[inline]
+fn put_to(middle: &mut Middle, slot: usize, here: Between, ahead: i32)
+    requires slot { slot < 16 }
+    requires narrow { IsNarrowBetween here }
+    requires ahead { IsEntry (2 ^ 25) ahead }
+    ensures put { PutsTo slot here ahead middle.old middle.new }
+{
+    let even = lesser(here.first_odd, plus(ahead, here.second_odd));
+    let odd = lesser(here.first_even, plus(ahead, here.second_even));
+    put(
+        &mut middle.to_first,
+        slot,
+        here.second_odd,
+        here.second_even,
+    );
+    put(&mut middle.to_second, slot, even, odd);
+}
+
+// Puts the entries at both nodes of a slot.
+#[inline]
+fn put(row: &mut [i32; 32], slot: usize, even: i32, odd: i32)
+    requires slot { slot < 16 }
+    ensures put { PutsTwo slot even odd row.old row.new }
+{
+    row[2 * slot] = even;
+    row[2 * slot + 1] = odd;
 }

@@ -1,9 +1,9 @@
 //! Rows: where they start, whole ones, and what becomes of a kept one.
-ghost use Rattle.std.specs.Prelude.{◌≡◌, ◌<◌, ◌≤◌, ◌^◌, ◌*◌, ◌+◌, ℕ, true, length};
+ghost use Rattle.std.specs.Prelude.{◌≡◌, ◌<◌, ◌≤◌, ◌^◌, ◌*◌, ◌+◌, ◌%◌, ℕ, true, length};
 ghost use Rattle.dbm_core.specs.Half.{row_start, row_width};
 ghost use Rattle.dbm_core.specs.Nodes.{flip};
 ghost use Rattle.dbm_narrow.specs.Entries.{AreEntries, IsEntry, at, none, pair_at};
-ghost use Rattle.dbm_narrow.specs.Rows.{EachIs, GoneThrough, strengthened_at};
+ghost use Rattle.dbm_narrow.specs.Rows.{AreEntriesFrom, AreGone, EachIs, GoneThrough, strengthened_at, through_at};
 
 use crate::entries::{GREATEST, LEAST, NONE, bound_or_zero, greater, lesser, over_both, settled};
 use dbm_core::other_sign;
@@ -88,8 +88,7 @@ pub fn whole_row(entries: &[i32], slots: usize, i: usize, other: usize) -> [i32;
     row
 }
 
-/// Walks from a node may go over both nodes of a slot, in place: whether each bound stays within
-/// the limits.
+/// Walks from a node may go over both nodes of a slot, in place, four entries at a time.
 #[inline]
 pub fn go_through(
     row: &mut [i32],
@@ -97,21 +96,115 @@ pub fn go_through(
     to_second: i32,
     from_first: &[i32; 32],
     from_second: &[i32; 32],
-) -> bool
+)
     requires size { length row.old ≤ 32 }
+    requires even { length row.old % 2 ≡ 0 }
     requires row { AreEntries (2 ^ 25) row.old }
     requires to_first { IsEntry (3 * 2 ^ 25) to_first }
     requires to_second { IsEntry (3 * 2 ^ 25) to_second }
     requires from_first { AreEntries (2 ^ 27) from_first.now }
     requires from_second { AreEntries (2 ^ 27) from_second.now }
     ensures kept { GoneThrough to_first to_second from_first.now from_second.now row.old row.new }
-    ensures within { result ≡ true → AreEntries (2 ^ 25) row.new }
+    ensures within { AreEntries (7 * 2 ^ 25) row.new }
+{
+    let fours = row.len() / 4;
+    for four in 0..fours {
+        go_four(row, 4 * four, to_first, to_second, from_first, from_second);
+    }
+    if row.len() % 4 == 2 {
+        go_two(row, 4 * fours, to_first, to_second, from_first, from_second);
+    }
+}
+
+// The same of four entries. All are read before one is written, so that this is vector code.
+#[inline]
+fn go_four(
+    row: &mut [i32],
+    j: usize,
+    to_first: i32,
+    to_second: i32,
+    from_first: &[i32; 32],
+    from_second: &[i32; 32],
+)
+    requires size { length row.old ≤ 32 }
+    requires columns { j + 4 ≤ length row.old }
+    requires row { AreEntriesFrom j (2 ^ 25) row.old }
+    requires to_first { IsEntry (3 * 2 ^ 25) to_first }
+    requires to_second { IsEntry (3 * 2 ^ 25) to_second }
+    requires from_first { AreEntries (2 ^ 27) from_first.now }
+    requires from_second { AreEntries (2 ^ 27) from_second.now }
+    ensures gone { AreGone j (j + 4) to_first to_second from_first.now from_second.now
+        row.old row.new }
+{
+    let first = gone_at(row, j, to_first, to_second, from_first, from_second);
+    let second = gone_at(row, j + 1, to_first, to_second, from_first, from_second);
+    let third = gone_at(row, j + 2, to_first, to_second, from_first, from_second);
+    let fourth = gone_at(row, j + 3, to_first, to_second, from_first, from_second);
+    row[j] = first;
+    row[j + 1] = second;
+    row[j + 2] = third;
+    row[j + 3] = fourth;
+}
+
+// The same of two.
+#[inline]
+fn go_two(
+    row: &mut [i32],
+    j: usize,
+    to_first: i32,
+    to_second: i32,
+    from_first: &[i32; 32],
+    from_second: &[i32; 32],
+)
+    requires size { length row.old ≤ 32 }
+    requires columns { j + 2 ≤ length row.old }
+    requires row { AreEntriesFrom j (2 ^ 25) row.old }
+    requires to_first { IsEntry (3 * 2 ^ 25) to_first }
+    requires to_second { IsEntry (3 * 2 ^ 25) to_second }
+    requires from_first { AreEntries (2 ^ 27) from_first.now }
+    requires from_second { AreEntries (2 ^ 27) from_second.now }
+    ensures gone { AreGone j (j + 2) to_first to_second from_first.now from_second.now
+        row.old row.new }
+{
+    let first = gone_at(row, j, to_first, to_second, from_first, from_second);
+    let second = gone_at(row, j + 1, to_first, to_second, from_first, from_second);
+    row[j] = first;
+    row[j + 1] = second;
+}
+
+// The entry at column j when walks may go over both nodes.
+#[inline]
+fn gone_at(
+    row: &[i32],
+    j: usize,
+    to_first: i32,
+    to_second: i32,
+    from_first: &[i32; 32],
+    from_second: &[i32; 32],
+) -> i32
+    requires size { length row.now ≤ 32 }
+    requires column { j < length row.now }
+    requires entry { IsEntry (2 ^ 25) (at row.now j) }
+    requires to_first { IsEntry (3 * 2 ^ 25) to_first }
+    requires to_second { IsEntry (3 * 2 ^ 25) to_second }
+    requires from_first { AreEntries (2 ^ 27) from_first.now }
+    requires from_second { AreEntries (2 ^ 27) from_second.now }
+    ensures value { result ≡ through_at to_first to_second from_first.now from_second.now j
+        (at row.now j) }
+{
+    over_both(row[j], to_first, from_first[j], to_second, from_second[j])
+}
+
+/// Whether each bound lies within the limits.
+#[inline]
+pub fn are_within(entries: &[i32]) -> bool
+    requires entries { AreEntries (7 * 2 ^ 25) entries.now }
+    ensures within { result ≡ true → AreEntries (2 ^ 25) entries.now }
 {
     let mut low = 0;
     let mut high = 0;
-    for j in 0..row.len() {
-        let bound = over_both(row[j], to_first, from_first[j], to_second, from_second[j]);
-        row[j] = bound;
+    for j in 0..entries.len() {
+        let bound = entries[j];
         low = lesser(low, bound);
         high = greater(high, bound_or_zero(bound));
     }

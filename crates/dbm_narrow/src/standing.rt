@@ -9,9 +9,9 @@ ghost use Rattle.dbm_narrow.specs.Standing.{IsEquatedOutcome, StandsTo, replaced
 
 use crate::adding::small_bound;
 use crate::closing::ClosingResult;
-use crate::entries::{GREATEST, LEAST, bound_or_zero, greater, lesser, plus};
+use crate::entries::plus;
 use crate::middle::stepped;
-use crate::rows::{row_at, row_len, whole_row};
+use crate::rows::{are_within, row_at, row_len, whole_row};
 use crate::steps::finish_strong;
 use dbm_core::other_sign;
 
@@ -151,22 +151,6 @@ fn stood_row(row: &[i32; 32], q: usize, y: usize, first: i32, second: i32, other
     stood[2 * q] = here;
     stood[2 * q + 1] = there;
     stood
-}
-
-// Whether each bound lies within the limits.
-#[inline]
-fn are_within(row: &[i32; 32]) -> bool
-    requires row { AreEntries (3 * 2 ^ 25) row.now }
-    ensures within { result ≡ true → AreEntries (2 ^ 25) row.now }
-{
-    let mut low = 0;
-    let mut high = 0;
-    for j in 0..32 {
-        let bound = row[j];
-        low = lesser(low, bound);
-        high = greater(high, bound_or_zero(bound));
-    }
-    LEAST <= low && high <= GREATEST
 }
 
 // Puts the rows of slot q's nodes, in place.

@@ -5,11 +5,11 @@ ghost use Rattle.dbm_narrow.specs.Entries.{AreEntries};
 ghost use Rattle.dbm_narrow.specs.Held.{HasLowDiagonal, TellsDiagonal};
 ghost use Rattle.dbm_narrow.specs.Middles.{AllThrough, IsNarrowMiddle, through_middle};
 ghost use Rattle.dbm_narrow.specs.Rounds.{AreRounds, IsNarrow, IsRound};
-ghost use Rattle.dbm_narrow.specs.Rows.{RestStays, RowIs};
+ghost use Rattle.dbm_narrow.specs.Rows.{IsRowWithin, RestStays, RowIs};
 
 use crate::entries::FREE;
-use crate::middle::{Middle, middle_of};
-use crate::rows::{go_through, row_at, row_len};
+use crate::middle::{Middle, fill_middle, no_middle};
+use crate::rows::{are_within, go_through, row_at, row_len};
 
 /// How rounds end.
 #[derive(Clone, Copy, Debug, PartialEq, Eq)]
@@ -30,8 +30,9 @@ pub fn least_weights(kinds: &[bool], entries: &mut [i32]) -> Walks
     requires diagonal { HasLowDiagonal kinds.now entries.old }
     ensures weights { AreRounds kinds.now entries.old entries.new result }
 {
+    let mut middle = no_middle();
     for q in 0..kinds.len() {
-        match make_round(kinds, entries, q) {
+        match make_round(kinds, entries, q, &mut middle) {
             Walks::Done => {}
             Walks::Negative => return Walks::Negative,
             Walks::TooWide => return Walks::TooWide,
@@ -43,21 +44,23 @@ pub fn least_weights(kinds: &[bool], entries: &mut [i32]) -> Walks
     Walks::Done
 }
 
-// One round: walks may go through both nodes of slot q.
+// One round: walks may go through both nodes of slot q, whose bounds are put into `middle`.
 #[inline]
-fn make_round(kinds: &[bool], entries: &mut [i32], q: usize) -> Walks
+fn make_round(kinds: &[bool], entries: &mut [i32], q: usize, middle: &mut Middle) -> Walks
     requires narrow { IsNarrow kinds.now entries.old }
     requires middle { q < length kinds.now }
+    requires bounds { IsNarrowMiddle middle.old }
     ensures round { IsRound kinds.now q entries.old entries.new result }
+    ensures bounds { IsNarrowMiddle middle.new }
 {
-    let middle = middle_of(kinds, entries, q);
+    fill_middle(kinds, entries, q, middle);
     if middle.from_first[2 * q] < 0 {
         return Walks::Negative;
     }
     if middle.from_second[2 * q + 1] < 0 {
         return Walks::Negative;
     }
-    if go_through_rows(entries, kinds.len(), &middle) {
+    if go_through_rows(entries, kinds.len(), middle) {
         Walks::Done
     } else {
         Walks::TooWide
@@ -74,24 +77,32 @@ pub fn go_through_rows(entries: &mut [i32], slots: usize, middle: &Middle) -> bo
     ensures kept { result ≡ true → AllThrough middle.now (2 * slots) entries.old entries.new }
     ensures entries { result ≡ true → AreEntries (2 ^ 25) entries.new }
 {
+    // of many slots most rows are skipped, so that one check of all would cost more
+    let each = slots > 8;
     for i in 0..2 * slots {
-        if !go_through_row(entries, i, middle) {
+        if !go_through_row(entries, i, middle, each) {
             return false;
         }
     }
-    true
+    if each {
+        return true;
+    }
+    are_within(entries)
 }
 
-// The same in row i.
+// The same in row i: whether each of its bounds stays within the limits, where that is to be checked.
 #[inline]
-fn go_through_row(entries: &mut [i32], i: usize, middle: &Middle) -> bool
+fn go_through_row(entries: &mut [i32], i: usize, middle: &Middle, checks: bool) -> bool
     requires row { i < 32 }
     requires size { row_start i + row_width i ≤ length entries.old }
-    requires entries { AreEntries (2 ^ 25) entries.old }
+    requires entries { AreEntries (7 * 2 ^ 25) entries.old }
+    requires small { IsRowWithin (2 ^ 25) i entries.old }
     requires middle { IsNarrowMiddle middle.now }
     ensures kept { RowIs (through_middle middle.now i) i entries.old entries.new }
     ensures rest { RestStays i entries.old entries.new }
-    ensures entries { result ≡ true → AreEntries (2 ^ 25) entries.new }
+    ensures entries { AreEntries (7 * 2 ^ 25) entries.new }
+    ensures within { checks ≡ true → result ≡ true → AreEntries (2 ^ 25) entries.old →
+        AreEntries (2 ^ 25) entries.new }
 {
     let to_first = middle.to_first[i];
     let to_second = middle.to_second[i];
@@ -107,7 +118,17 @@ fn go_through_row(entries: &mut [i32], i: usize, middle: &Middle) -> bool
         to_second,
         &middle.from_first,
         &middle.from_second,
-    )
+    );
+    are_within_if(checks, row)
+}
+
+// Whether each bound lies within the limits, where that is to be checked.
+#[inline]
+fn are_within_if(checks: bool, entries: &[i32]) -> bool
+    requires entries { AreEntries (7 * 2 ^ 25) entries.now }
+    ensures within { checks ≡ true → result ≡ true → AreEntries (2 ^ 25) entries.now }
+{
+    !checks || are_within(entries)
 }
 
 // Whether an entry of the diagonal is below 0.

@@ -1,18 +1,19 @@
 //! Widenings of narrow matrices.
-ghost use Rattle.std.specs.Prelude.{◌≡◌, ◌<◌, ◌≤◌, ◌*◌, ◌+◌, ◌^◌, IfOk, Some, true, cond, int_lt, length};
+ghost use Rattle.std.specs.Prelude.{◌≡◌, ◌<◌, ◌≤◌, ◌*◌, ◌+◌, ◌^◌, IfOk, Some, true, false, cond, int_lt, length};
+ghost use Rattle.std.specs.Int.{int_min};
 ghost use Rattle.dbm_core.specs.Half.{row_start, row_width};
 ghost use Rattle.dbm_core.specs.Operations.{threshold_value as value_of, next_threshold};
 ghost use Rattle.dbm_core.specs.Weights.{least};
 ghost use Rattle.dbm_narrow.specs.Entries.{AreEntries, IsEntry, wide};
 ghost use Rattle.dbm_narrow.specs.Rows.{RestStays};
-ghost use Rattle.dbm_narrow.specs.Widenings.{EachWidens, IsThresholdEntry, IsWidenedIf, RowWidens, WidensIf, WidensOn};
+ghost use Rattle.dbm_narrow.specs.Widenings.{EachWidens, IsThresholdEntry, IsWidenedIf, RowWidens, WidensIf, WidensOn, start_at};
 
 use crate::Narrow;
 use crate::convert::narrow_entry;
 use crate::entries::{FREE, NONE};
 use crate::rows::{row_at, row_len};
 use base_values::Memory;
-use dbm_core::{other_sign, smaller};
+use dbm_core::other_sign;
 use std::alloc::Global;
 
 /// The widening of a matrix by another, as that of `dbm_core`: None where a bound goes to a threshold
@@ -112,37 +113,68 @@ fn widened_entry(thresholds: &[i64], doubled: bool, old: i32, new: i32) -> Optio
     if new >= FREE {
         return Some(NONE);
     }
-    threshold_entry(thresholds, doubled, i128::from(new))
+    threshold_entry(thresholds, doubled, new)
 }
 
 // The entry of the next threshold, if it fits.
-fn threshold_entry(thresholds: &[i64], doubled: bool, bound: i128) -> Option<i32>
+fn threshold_entry(thresholds: &[i64], doubled: bool, bound: i32) -> Option<i32>
     ensures threshold { IsThresholdEntry (next_threshold thresholds.now doubled bound) result }
 {
     narrow_entry(threshold_from(thresholds, doubled, bound))
 }
 
 // The least of the thresholds, or of the thresholds doubled, that is not less than the bound.
-fn threshold_from(thresholds: &[i64], doubled: bool, bound: i128) -> Option<i128>
+fn threshold_from(thresholds: &[i64], doubled: bool, bound: i32) -> Option<i128>
     ensures threshold { result ≡ next_threshold thresholds.now doubled bound }
+{
+    match least_from(thresholds, start_of(doubled, bound)) {
+        None => None,
+        Some(threshold) => Some(threshold_value(threshold, doubled)),
+    }
+}
+
+// What a threshold is not less than where it, or its double, is not less than the bound.
+#[inline]
+fn start_of(doubled: bool, bound: i32) -> i64
+    ensures start { result ≡ start_at doubled bound }
+{
+    let number = i64::from(bound);
+    if doubled {
+        (number + 1).div_euclid(2)
+    } else {
+        number
+    }
+}
+
+// The least of the thresholds that is not less than a number.
+fn least_from(thresholds: &[i64], from: i64) -> Option<i64>
+    ensures threshold { result ≡ next_threshold thresholds.now false from }
 {
     let mut next = None;
     for threshold in thresholds {
-        let value = threshold_value(*threshold, doubled);
-        next = nearer_threshold(next, value, bound);
+        next = nearer_threshold(next, *threshold, from);
     }
     next
 }
 
-// The value where it is not less than the bound and less than the next one that was found.
-fn nearer_threshold(next: Option<i128>, value: i128, bound: i128) -> Option<i128>
-    ensures nearer { result ≡ cond (int_lt value bound) next (least next (Some value)) }
+// The threshold where it is not less than a number and less than the next one that was found.
+fn nearer_threshold(next: Option<i64>, threshold: i64, from: i64) -> Option<i64>
+    ensures nearer { result ≡ cond (int_lt threshold from) next (least next (Some threshold)) }
 {
-    if value < bound {
-        next
-    } else {
-        smaller(next, Some(value))
+    if threshold < from {
+        return next;
     }
+    match next {
+        None => Some(threshold),
+        Some(found) => Some(lesser_threshold(found, threshold)),
+    }
+}
+
+// The lesser of two thresholds.
+fn lesser_threshold(a: i64, b: i64) -> i64
+    ensures value { result ≡ int_min a b }
+{
+    if b < a { b } else { a }
 }
 
 // A threshold, or its double.

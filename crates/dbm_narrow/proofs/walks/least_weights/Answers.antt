@@ -6,12 +6,13 @@ use Rattle.dbm_narrow.specs.Entries.{held}
 use Rattle.dbm_narrow.proofs.walks.least_weights.Goals as goal
 
 pub loop-q-init : goal.loop-q-init
-loop-q-init c = record { rounded = first-rounded c.args.kinds.now c.args.entries.now c.requires.narrow; entries = c.requires.narrow.entries }
+loop-q-init c = record { rounded = first-rounded c.args.kinds.now c.args.entries.now c.requires.narrow; entries = c.requires.narrow.entries; middle = c.no_middle-middle.ensures.entries }
 
 pub loop-q-preserved : goal.loop-q-preserved
 loop-q-preserved c = record {
   rounded = next-rounded c.args.kinds.now c.args.entries.now c.loop-q.entries c.make_round.new.entries c.loop-q.q (omega arith) c.requires.narrow.matrix c.loop-q.invariant.rounded c.in-Done.ensures.round c.make_round.auto.entries;
   entries = c.in-Done.ensures.round.entries;
+  middle = c.in-Done.ensures.bounds;
 }
 
 pub returns-in-Negative : goal.returns-in-Negative

@@ -9,20 +9,22 @@ use Rattle.dbm_narrow.proofs.walks.make_round.Goals as goal
 
 pub returns-then-middle-q-lt0 : goal.returns-then-middle-q-lt0
 returns-then-middle-q-lt0 c =
-    let n : at c.middle_of-middle.result.from_first (2 * c.args.q) <ℤ pos 0 =
-    subst (λ x. x <ℤ pos 0) (read-entry (2 ^ 27) c.middle_of-middle.result.from_first (2 * c.args.q) (omega arith) c.middle_of-middle.ensures.entries.from_first (omega arith)) (lt-true _ _ c.if-middle-q-lt0.true) in
+    let n : at c.fill_middle.new.middle.from_first (2 * c.args.q) <ℤ pos 0 =
+    subst (λ x. x <ℤ pos 0) (read-entry (2 ^ 27) c.fill_middle.new.middle.from_first (2 * c.args.q) (omega arith) c.fill_middle.ensures.entries.from_first (omega arith)) (lt-true _ _ c.if-middle-q-lt0.true) in
     record {
-      round = inl (subst (λ a. AtMost a (Some (negsuc 0))) (sym (wide-at c.middle_of-middle.result.from_first (2 * c.args.q)) ∙ c.middle_of-middle.ensures.bounds.from_first (2 * c.args.q) (omega arith))
-          (wide-negative (at c.middle_of-middle.result.from_first (2 * c.args.q)) n));
+      bounds = c.fill_middle.ensures.entries;
+      round = inl (subst (λ a. AtMost a (Some (negsuc 0))) (sym (wide-at c.fill_middle.new.middle.from_first (2 * c.args.q)) ∙ c.fill_middle.ensures.bounds.from_first (2 * c.args.q) (omega arith))
+          (wide-negative (at c.fill_middle.new.middle.from_first (2 * c.args.q)) n));
     }
 
 pub returns-then-middle-q-lt0-2 : goal.returns-then-middle-q-lt0-2
 returns-then-middle-q-lt0-2 c =
-    let n : at c.middle_of-middle.result.from_second (2 * c.args.q + 1) <ℤ pos 0 =
-    subst (λ x. x <ℤ pos 0) (read-entry (2 ^ 27) c.middle_of-middle.result.from_second (2 * c.args.q + 1) (omega arith) c.middle_of-middle.ensures.entries.from_second (omega arith)) (lt-true _ _ c.if-middle-q-lt0-2.true) in
+    let n : at c.fill_middle.new.middle.from_second (2 * c.args.q + 1) <ℤ pos 0 =
+    subst (λ x. x <ℤ pos 0) (read-entry (2 ^ 27) c.fill_middle.new.middle.from_second (2 * c.args.q + 1) (omega arith) c.fill_middle.ensures.entries.from_second (omega arith)) (lt-true _ _ c.if-middle-q-lt0-2.true) in
     record {
-      round = inr (subst (λ a. AtMost a (Some (negsuc 0))) (sym (wide-at c.middle_of-middle.result.from_second (2 * c.args.q + 1)) ∙ c.middle_of-middle.ensures.bounds.from_second (2 * c.args.q + 1) (omega arith))
-          (wide-negative (at c.middle_of-middle.result.from_second (2 * c.args.q + 1)) n));
+      bounds = c.fill_middle.ensures.entries;
+      round = inr (subst (λ a. AtMost a (Some (negsuc 0))) (sym (wide-at c.fill_middle.new.middle.from_second (2 * c.args.q + 1)) ∙ c.fill_middle.ensures.bounds.from_second (2 * c.args.q + 1) (omega arith))
+          (wide-negative (at c.fill_middle.new.middle.from_second (2 * c.args.q + 1)) n));
     }
 
 pub go_through_rows-requires-clause-size : goal.go_through_rows-requires-clause-size
@@ -30,19 +32,20 @@ go_through_rows-requires-clause-size c = narrow-size c.args.kinds.now c.args.ent
 
 pub returns-then-go_through_rows : goal.returns-then-go_through_rows
 returns-then-go_through_rows c =
-    let m : pos 0 ≤ℤ at c.middle_of-middle.result.from_first (2 * c.args.q) =
-    subst (λ x. pos 0 ≤ℤ x) (read-entry (2 ^ 27) c.middle_of-middle.result.from_first (2 * c.args.q) (omega arith) c.middle_of-middle.ensures.entries.from_first (omega arith)) (lt-false _ _ c.if-middle-q-lt0.false) in
-    let n : pos 0 ≤ℤ at c.middle_of-middle.result.from_second (2 * c.args.q + 1) =
-    subst (λ x. pos 0 ≤ℤ x) (read-entry (2 ^ 27) c.middle_of-middle.result.from_second (2 * c.args.q + 1) (omega arith) c.middle_of-middle.ensures.entries.from_second (omega arith)) (lt-false _ _ c.if-middle-q-lt0-2.false) in
+    let m : pos 0 ≤ℤ at c.fill_middle.new.middle.from_first (2 * c.args.q) =
+    subst (λ x. pos 0 ≤ℤ x) (read-entry (2 ^ 27) c.fill_middle.new.middle.from_first (2 * c.args.q) (omega arith) c.fill_middle.ensures.entries.from_first (omega arith)) (lt-false _ _ c.if-middle-q-lt0.false) in
+    let n : pos 0 ≤ℤ at c.fill_middle.new.middle.from_second (2 * c.args.q + 1) =
+    subst (λ x. pos 0 ≤ℤ x) (read-entry (2 ^ 27) c.fill_middle.new.middle.from_second (2 * c.args.q + 1) (omega arith) c.fill_middle.ensures.entries.from_second (omega arith)) (lt-false _ _ c.if-middle-q-lt0-2.false) in
     record {
+      bounds = c.fill_middle.ensures.entries;
       round = record {
         sound = (
-          subst (AtMost (Some (pos 0))) (sym (wide-at c.middle_of-middle.result.from_first (2 * c.args.q)) ∙ c.middle_of-middle.ensures.bounds.from_first (2 * c.args.q) (omega arith))
-              (wide-positive (at c.middle_of-middle.result.from_first (2 * c.args.q)) m),
-          subst (AtMost (Some (pos 0))) (sym (wide-at c.middle_of-middle.result.from_second (2 * c.args.q + 1)) ∙ c.middle_of-middle.ensures.bounds.from_second (2 * c.args.q + 1) (omega arith))
-              (wide-positive (at c.middle_of-middle.result.from_second (2 * c.args.q + 1)) n),
+          subst (AtMost (Some (pos 0))) (sym (wide-at c.fill_middle.new.middle.from_first (2 * c.args.q)) ∙ c.fill_middle.ensures.bounds.from_first (2 * c.args.q) (omega arith))
+              (wide-positive (at c.fill_middle.new.middle.from_first (2 * c.args.q)) m),
+          subst (AtMost (Some (pos 0))) (sym (wide-at c.fill_middle.new.middle.from_second (2 * c.args.q + 1)) ∙ c.fill_middle.ensures.bounds.from_second (2 * c.args.q + 1) (omega arith))
+              (wide-positive (at c.fill_middle.new.middle.from_second (2 * c.args.q + 1)) n),
         );
-        kept = λ i j hi w. middle-rounded c.args.kinds.now c.args.entries.now c.go_through_rows.new.entries c.args.q c.middle_of-middle.result c.middle_of-middle.ensures.bounds c.middle_of-middle.ensures.entries i j hi w
+        kept = λ i j hi w. middle-rounded c.args.kinds.now c.args.entries.now c.go_through_rows.new.entries c.args.q c.fill_middle.new.middle c.fill_middle.ensures.bounds c.fill_middle.ensures.entries i j hi w
             (c.go_through_rows.ensures.kept c.if-go_through_rows.true i j hi w);
         entries = c.go_through_rows.ensures.entries c.if-go_through_rows.true;
       };

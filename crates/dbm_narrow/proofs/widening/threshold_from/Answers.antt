@@ -1,20 +1,39 @@
-use Rattle.std.proofs.Common.{◌≡◌, get_or, rules}
-use Rattle.std.specs.Prelude.{pos, Some, cond, int_lt, FitsSigned}
+use Rattle.std.specs.Prelude.{◌≡◌, ℤ, Option, Some, None, false, FitsSigned, refl}
 use Rattle.std.specs.Int.{w64}
+use Rattle.std.proofs.Common.{rules, ap, sym, ◌∙◌}
 use Rattle.std.proofs.lemmas.Int.{to_z-of_z}
-use mir.Syntax.{w128}
-use Rattle.dbm_core.proofs.ThresholdLemmas.{next_threshold-push}
-use Rattle.dbm_core.specs.Operations.{threshold_value}
-use Rattle.dbm_core.specs.Weights.{least}
+use mir.Syntax.{w128, w32}
+use mir.Val.{of_z, to_z}
+use Rattle.dbm_core.specs.Operations.{next_threshold, threshold_value}
+use Rattle.dbm_narrow.proofs.DoubledThresholds.{next-valued, threshold-found, valued}
+use Rattle.dbm_narrow.proofs.EntryLemmas.{same}
+use Rattle.dbm_narrow.specs.Widenings.{start_at}
 use Rattle.dbm_narrow.proofs.widening.threshold_from.Goals as goal
 
-pub loop-threshold-preserved : goal.loop-threshold-preserved
-loop-threshold-preserved c =
-    let f : FitsSigned w64 (get_or c.args.thresholds.now c.loop-threshold.threshold-index (pos 0)) = search rules in
-    let v : c.threshold_value-value.result ≡ threshold_value c.args.doubled (get_or c.args.thresholds.now c.loop-threshold.threshold-index (pos 0)) = rw (to_z-of_z w64 (get_or c.args.thresholds.now c.loop-threshold.threshold-index (pos 0)) f) at c.threshold_value-value.ensures.value in
-    let g : FitsSigned w128 c.threshold_value-value.result = search rules in
-    let n : c.nearer_threshold-next.result ≡ cond (int_lt c.threshold_value-value.result c.args.bound) c.loop-threshold.next (least c.loop-threshold.next (Some c.threshold_value-value.result)) =
-    rw (to_z-of_z w128 c.args.bound c.ranges.bound) at (rw (to_z-of_z w128 c.threshold_value-value.result g) at c.nearer_threshold-next.ensures.nearer) in
-    rw (to_z-of_z w128 c.args.bound c.ranges.bound)
-    (next_threshold-push c.loop-threshold.next c.nearer_threshold-next.result c.args.thresholds.now c.loop-threshold.threshold-index c.args.doubled c.args.bound c.threshold_value-value.result _ c.loop-threshold-test.true v n
-    (rw (to_z-of_z w128 c.args.bound c.ranges.bound) at c.loop-threshold.invariant))
+pub returns-in-None : goal.returns-in-None
+returns-in-None c =
+    let f : FitsSigned w64 c.start_of.result = search rules in
+    let b : to_z w32 (of_z w32 c.args.bound) ≡ c.args.bound = same c.args.bound c.ranges.bound in
+    let s : to_z w64 (of_z w64 c.start_of.result) ≡ c.start_of.result = to_z-of_z w64 c.start_of.result f in
+    let e = c.start_of.ensures.start in
+    let l = c.least_from.ensures.threshold in
+    let i = c.in-None.is in
+    let n : valued c.args.doubled (next_threshold c.args.thresholds.now false (start_at c.args.doubled c.args.bound)) ≡ next_threshold c.args.thresholds.now c.args.doubled c.args.bound = next-valued c.args.thresholds.now c.args.doubled c.args.bound in
+    let v : valued c.args.doubled None ≡ None = refl in
+    record { threshold = cc }
+
+pub returns-in-Some : goal.returns-in-Some
+returns-in-Some c =
+    let f : FitsSigned w64 c.start_of.result = search rules in
+    let g : FitsSigned w64 c.in-Some.threshold = search rules in
+    let h : FitsSigned w128 c.threshold_value.result = search rules in
+    let b : to_z w32 (of_z w32 c.args.bound) ≡ c.args.bound = same c.args.bound c.ranges.bound in
+    let s : to_z w64 (of_z w64 c.start_of.result) ≡ c.start_of.result = to_z-of_z w64 c.start_of.result f in
+    let t : to_z w64 (of_z w64 c.in-Some.threshold) ≡ c.in-Some.threshold = to_z-of_z w64 c.in-Some.threshold g in
+    let e : c.start_of.result ≡ start_at c.args.doubled c.args.bound = c.start_of.ensures.start ∙ ap (start_at c.args.doubled) b in
+    let l : c.least_from.result ≡ next_threshold c.args.thresholds.now false c.start_of.result = c.least_from.ensures.threshold ∙ ap (next_threshold c.args.thresholds.now false) s in
+    let r : c.threshold_value.result ≡ threshold_value c.args.doubled c.in-Some.threshold = c.threshold_value.ensures.value ∙ ap (threshold_value c.args.doubled) t in
+    record {
+      threshold = ap Some (to_z-of_z w128 c.threshold_value.result h)
+          ∙ threshold-found c.args.thresholds.now c.args.doubled c.args.bound c.start_of.result c.in-Some.threshold c.threshold_value.result e (sym c.in-Some.is ∙ l) r;
+    }

@@ -1,7 +1,6 @@
-use Rattle.std.specs.Prelude.{◌≡◌, ◌^◌, ◌≤ℤ◌, ◌<ℤ◌, pos, ℤ, FitsSigned}
-use Rattle.std.proofs.Common.{rules, subst, sym, ◌∙◌}
-use Rattle.std.proofs.lemmas.Int.{to_z-of_z}
-use mir.Syntax.{w128, w32}
+use Rattle.std.specs.Prelude.{◌≡◌, ◌^◌, ◌≤ℤ◌, ◌<ℤ◌, pos, ℤ}
+use Rattle.std.proofs.Common.{subst, sym}
+use mir.Syntax.{w32}
 use mir.Val.{of_z, to_z}
 use Rattle.dbm_core.specs.Operations.{next_threshold}
 use Rattle.dbm_narrow.proofs.EntryLemmas.{le-false, le-true, same}
@@ -31,11 +30,9 @@ returns c =
     let y : to_z w32 (of_z w32 c.args.new) ≡ c.args.new = same c.args.new c.ranges.new in
     let h : to_z w32 (of_z w32 c.args.old) <ℤ to_z w32 (of_z w32 c.args.new) = le-false (to_z w32 (of_z w32 c.args.new)) (to_z w32 (of_z w32 c.args.old)) c.if-new-old.false in
     let l : to_z w32 (of_z w32 c.args.new) <ℤ pos (2 ^ 28) = le-false (pos (2 ^ 28)) (to_z w32 (of_z w32 c.args.new)) c.if-new-ge-FREE.false in
-    let g : FitsSigned w128 c.from.result = search rules in
-    let e : to_z w128 (of_z w128 c.from.result) ≡ c.args.new = to_z-of_z w128 c.from.result g ∙ c.from.ensures ∙ y in
     record {
       widened = widened-goes c.args.thresholds.now c.args.doubled c.args.old c.args.new c.threshold_entry.result
           (subst (λ z. z <ℤ c.args.new) x (subst (λ z. to_z w32 (of_z w32 c.args.old) <ℤ z) y h))
           (subst (λ z. z <ℤ pos (2 ^ 28)) y l)
-          (subst (λ b. IsThresholdEntry (next_threshold c.args.thresholds.now c.args.doubled b) c.threshold_entry.result) e c.threshold_entry.ensures.threshold);
+          (subst (λ b. IsThresholdEntry (next_threshold c.args.thresholds.now c.args.doubled b) c.threshold_entry.result) y c.threshold_entry.ensures.threshold);
     }

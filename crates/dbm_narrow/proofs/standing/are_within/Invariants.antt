@@ -1,5 +1,0 @@
-use Rattle.dbm_narrow.proofs.RowLemmas.{Spans}
-use Rattle.dbm_narrow.proofs.standing.are_within.Given as goal
-
-abbrev pub invariant-loop-j : goal.invariant-loop-j
-invariant-loop-j l = Spans l.row l.j l.low l.high

@@ -1,0 +1,56 @@
+//! The bounds from both nodes of one slot to both nodes of another, or of its own.
+ghost use Rattle.std.specs.Prelude.{◌≡◌, ◌<◌, ◌≤◌, ◌^◌, ◌*◌, ◌+◌, length};
+ghost use Rattle.dbm_core.specs.Half.{row_start, row_width};
+ghost use Rattle.dbm_narrow.specs.Between.{IsBetween};
+ghost use Rattle.dbm_narrow.specs.Entries.{AreEntries, at};
+
+use crate::rows::place;
+
+/// The bounds from a slot's two nodes to those of another.
+#[derive(Clone, Copy)]
+pub struct Between {
+    pub first_even: i32,
+    pub first_odd: i32,
+    pub second_even: i32,
+    pub second_odd: i32,
+}
+
+/// The bounds from the nodes of slot q to those of another, or of its own.
+#[inline]
+pub fn bounds_between(entries: &[i32], slots: usize, q: usize, slot: usize) -> Between
+    requires few { slots ≤ 16 }
+    requires middle { q < slots }
+    requires slot { slot < slots }
+    requires size { length entries.now ≡ row_start (2 * slots) }
+    requires entries { AreEntries (2 ^ 25) entries.now }
+    ensures bounds { IsBetween entries.now q slot result }
+{
+    if slot <= q {
+        return Between {
+            first_even: kept_at(entries, slots, 2 * q, 2 * slot),
+            first_odd: kept_at(entries, slots, 2 * q, 2 * slot + 1),
+            second_even: kept_at(entries, slots, 2 * q + 1, 2 * slot),
+            second_odd: kept_at(entries, slots, 2 * q + 1, 2 * slot + 1),
+        };
+    }
+    Between {
+        first_even: kept_at(entries, slots, 2 * slot + 1, 2 * q + 1),
+        first_odd: kept_at(entries, slots, 2 * slot, 2 * q + 1),
+        second_even: kept_at(entries, slots, 2 * slot + 1, 2 * q),
+        second_odd: kept_at(entries, slots, 2 * slot, 2 * q),
+    }
+}
+
+// The entry of a kept pair.
+#[inline]
+fn kept_at(entries: &[i32], slots: usize, i: usize, j: usize) -> i32
+    requires few { slots ≤ 16 }
+    requires row { i < 2 * slots }
+    requires column { j < row_width i }
+    requires size { length entries.now ≡ row_start (2 * slots) }
+    requires entries { AreEntries (2 ^ 25) entries.now }
+    ensures entry { result ≡ at entries.now (row_start i + j) }
+{
+    let kept = place(i, j);
+    entries[kept]
+}
