@@ -1,21 +1,18 @@
 -- Statements that have a check, and what is known before them, one at a time.
 use Rattle.std.proofs.Common.{ℕ, ◌≡◌, ◌+◌, ◌<◌, ◌≤◌, true, false, List, [], ◌∷◌, ◌++◌, length, map, drop, get_or, Option, Some, None, refl, sym, ap, ◌∙◌, append_assoc}
 use Rattle.std.proofs.lemmas.List.{map-append, drop_all, append-nil}
-use Rattle.imp_slots.specs.Plain.{Guard, Effect, Code, Stop}
+use Rattle.imp_slots.specs.Plain.{Effect, Code, Stop}
 use Rattle.imp_slots.specs.ActionViews.{effect_of}
 use Rattle.imp_slots.specs.BlockViews.{before_code, code_of}
 use Rattle.imp_slots.specs.declared.blocks.SlotNode.{SlotNode}
 use Rattle.imp_slots.specs.declared.blocks.SlotNode.TheVariants as node
 use Rattle.imp_words.specs.declared.findings.Check as asked
 use Rattle.domain_laws.specs.Checks.{Check, check_of, kind_if}
-use Rattle.domain_laws.specs.Operations.{Operations}
-use Rattle.batch_meaning.specs.Values.{Value, lift}
-use Rattle.batch_meaning.specs.Batch.{head_of}
+use Rattle.batch_meaning.specs.Values.{Value}
 use Rattle.batch_meaning.specs.Report.{CheckedStatement, checked_one, checked_in}
 use Rattle.batch_interp.specs.Answered.{value_of}
-use Rattle.batch_interp.specs.Frames.{Plan, thresholds_at, passed}
 use Rattle.batch_interp.specs.Checking.{is_checked}
-use Rattle.batch_interp.specs.Reporting.{claim_of, claims, before_one, befores, in_front}
+use Rattle.batch_interp.specs.Reporting.{claim_of, claims, before_one}
 use Rattle.batch_interp.specs.declared.value.Answer.{Answer}
 use Rattle.batch_interp.specs.declared.claim.Claim.{Claim}
 use Rattle.base_values.proofs.Lists.{drop_item}
@@ -73,22 +70,3 @@ no_before (Some c) v h = absurd cc
 
 pub values_one : {S : Type 0} (xs : List (Answer S)) (x : Answer S) → map value_of (xs ++ x ∷ []) ≡ map value_of xs ++ value_of x ∷ []
 values_one xs x = map-append value_of xs (x ∷ [])
-
-module _ {S : Type 0} (dom : Operations S) (plan : Plan) (place : ℕ) (z : List ℕ) where
-  before_node : (s : SlotNode) (r : Code) (v : Value S) → befores dom plan place z (before_code s r) v ≡ in_front dom plan place z s v ++ befores dom plan place z r (passed dom plan place z (before_code s Stop) v).value
-  before_node (node.Simple n a) r v = refl
-  before_node (node.If n c t e) r v = refl
-  before_node (node.While n c b) r v = refl
-  before_node (node.Call n i q) r v = refl
-  before_node (node.Break n) r v = refl
-
-  pub befores_step : (ss : List SlotNode) (i : ℕ) (s : SlotNode) (v w : Value S) → i < length ss → s ≡ get_or ss i s → w ≡ (passed dom plan place z (before_code s Stop) v).value → befores dom plan place z (code_of (drop i ss)) v ≡ in_front dom plan place z s v ++ befores dom plan place z (code_of (drop (i + 1) ss)) w
-  befores_step ss i s v w h e k =
-      ap (λ xs. befores dom plan place z (code_of xs) v) (drop_item ss i s h e) ∙ before_node s (code_of (drop (i + 1) ss)) v
-      ∙ ap (λ x. in_front dom plan place z s v ++ befores dom plan place z (code_of (drop (i + 1) ss)) x) (sym k)
-
-  pub befores_end : (ss : List SlotNode) (i : ℕ) (v : Value S) → length ss ≤ i → befores dom plan place z (code_of (drop i ss)) v ≡ []
-  befores_end ss i v h = ap (λ xs. befores dom plan place z (code_of xs) v) (drop_all i ss h)
-
-  pub while_front : (n : ℕ) (c : Guard) (b : Code) (v h w : Value S) → h ≡ (head_of dom plan.engine (thresholds_at plan place) z n c (passed dom plan place z b) v).value → w ≡ lift (dom.assume c true) h → befores dom plan place z b w ≡ in_front dom plan place z (node.While n c b) v
-  while_front n c b v h w j k = ap (befores dom plan place z b) (k ∙ ap (lift (dom.assume c true)) j)

@@ -3,26 +3,26 @@ use Rattle.std.proofs.Common.{ℕ, zero, suc, ◌≡◌, ◌+◌, ◌<◌, ◌�
 use Rattle.std.specs.Prelude.{Contains}
 use Rattle.std.proofs.lemmas.List.{map-append, reverse-reverse, drop_all}
 use Rattle.imp_syntax.specs.declared.edit.Location.TheVariants.{Before}
-use Rattle.imp_slots.specs.Plain.{Guard, Effect, Does, DoBreak, Invoke, Code, Stop, Simple, If, While, Call, Break, Routine, code_numbers}
-use Rattle.imp_slots.specs.Fits.{Distinct, IsChecked}
+use Rattle.imp_slots.specs.Plain.{Effect, Code, Stop, Simple, If, While, Call, Break, Routine, code_numbers}
+use Rattle.imp_slots.specs.Fits.{IsChecked}
 use Rattle.imp_chains.specs.Chains.{chains, holder}
 use Rattle.imp_chains.specs.Claims.{PlacesAreFound}
 use Rattle.domain_laws.specs.Operations.{Operations}
 use Rattle.domain_laws.specs.Checks.{Check, check_of, kind_of}
 use Rattle.imp_words.specs.declared.findings.Finding.{Finding}
 use Rattle.imp_words.specs.declared.refusal.QueryRefusal.TheVariants.{NoStatement}
-use Rattle.batch_meaning.specs.Values.{Value, lift, lift2}
-use Rattle.batch_meaning.specs.Batch.{LoopOptions, head_of, behind}
+use Rattle.batch_meaning.specs.Values.{Value, lift}
+use Rattle.batch_meaning.specs.Batch.{LoopOptions}
 use Rattle.batch_meaning.specs.Places.{Spot, spot, if_some, entry, value_in, value_at}
 use Rattle.batch_meaning.specs.Answers.{found_or, all_values, sum_of, answer_in, answer}
 use Rattle.batch_meaning.specs.Report.{CheckedStatement, checked_one, checked_in, checked_statements, verdict_on, finding}
 use Rattle.batch_interp.specs.Answered.{value_of}
-use Rattle.batch_interp.specs.Frames.{Plan, earlier, thresholds_at, calls_in, passed, body_of, body_at}
-use Rattle.batch_interp.specs.Seeking.{places}
+use Rattle.batch_interp.specs.Frames.{Plan, earlier, body_of, body_at, value_after, value_at_head}
 use Rattle.batch_interp.specs.Handing.{in_one, IsEnteredBy}
 use Rattle.batch_interp.specs.Pairs.{All2}
 use Rattle.batch_interp.specs.Summing.{sum_with}
-use Rattle.batch_interp.specs.Reporting.{claim_of, claims, before_one, befores}
+use Rattle.batch_interp.specs.Gathered.{Gathering, gathered}
+use Rattle.batch_interp.specs.Reporting.{claim_of, claims, before_one, of_checks, befores}
 use Rattle.batch_interp.specs.Totalling.{first_of, behind_first, all_added, answer_of_sum, EachWith, AreTotals, kind_for, found_from, all_found}
 use Rattle.batch_interp.specs.declared.claim.Claim.{Claim}
 use Rattle.batch_interp.specs.declared.value.Answer.{Answer}
@@ -30,111 +30,75 @@ use Rattle.batch_interp.specs.declared.frames.CallFrame.{CallFrame}
 use Rattle.batch_interp.specs.declared.walks.Entered.{Entered}
 use Rattle.base_values.proofs.Lists.{drop_item, drop_next}
 use Rattle.base_values.proofs.Members.{Member, here, there, in_left, in_right}
-use Rattle.batch_meaning.proofs.Places.{found}
-use Rattle.batch_sound.proofs.Chains.{has_member, once_in, every_ends}
-use Rattle.batch_interp.proofs.Members.{all2_both, all2_as, all2_length, AllOf, all_both, all_as, At}
+use Rattle.batch_sound.proofs.Chains.{has_member, every_ends}
+use Rattle.batch_interp.proofs.Alongside.{Agree, IsFound, each_found}
+use Rattle.batch_interp.proofs.Members.{all2_as, all2_length, AllOf, all_both, all_as, At}
 use Rattle.batch_interp.proofs.Procedures.{there_at}
 use Rattle.batch_interp.proofs.Turned.{IsPopped, reversed}
-use Rattle.batch_interp.proofs.Seekings.{numbers_of_places}
 use Rattle.batch_interp.proofs.Walkings.{before_there}
-use Rattle.batch_interp.proofs.Gathering.{gathered, gathered_none, one_added_chain}
+use Rattle.batch_interp.proofs.ChainSums.{sum_so_far, sum_none, one_added_chain}
 
 claims_both : (xs ys : List CheckedStatement) → claims (xs ++ ys) ≡ claims xs ++ claims ys
 claims_both [] ys = refl
 claims_both (x ∷ xs) ys = ap (λ zs. (x.number, x.effect) ∷ zs) (claims_both xs ys)
 
+-- of a statement that has a check its number and what it does, whatever is known before it
+abbrev of_claims : {S : Type 0} → Gathering S (ℕ × Effect)
+of_claims = record { simple = λ n e v. claims (checked_one n e (check_of e)); head = λ n v. []; call = λ n i q v. [] }
+
+-- a statement has this number, and this value is known before it
+abbrev IsBefore : {S : Type 0} → ℕ × Spot S → ℕ × Effect → Value S → Type 0
+IsBefore at k b = (at.0 ≡ k.0) × (at.1.before ≡ b)
+
+before_claim : {S : Type 0} (n : ℕ) (e : Effect) (v w : Value S) (o : Option Check) → All2 (IsBefore (n, spot v None w None)) (claims (checked_one n e o)) (before_one o v)
+before_claim n e v w None = tt
+before_claim n e v w (Some c) = ((refl, refl), tt)
+
+agree : {S : Type 0} → Agree {S = S} IsBefore of_claims of_checks
+agree = record { simple = λ n e v w. before_claim n e v w (check_of e); head = λ n v w h. tt; call = λ n i q v w. tt }
+
 module _ {S : Type 0} (dom : Operations S) (plan : Plan) where
   module _ (place : ℕ) (z : List ℕ) where
-    abbrev P : Code → Value S → List (ℕ × Spot S)
-    P = places dom plan place z
+    abbrev after : Code → Value S → Value S
+    after = value_after dom plan place z
 
-    abbrev F : Code → Value S → List (Value S)
-    F = befores dom plan place z
-
-    -- a statement of a block, and the value before it
-    record Stands (c : Code) (v : Value S) (k : ℕ × Effect) (b : Value S) : Type 0 where
-      spot : Spot S
-      stands : Member (k.0, spot) (places dom plan place z c v)
-      is : spot.before ≡ b
-
-    abbrev All_stand : (c : Code) (v : Value S) → List CheckedStatement → List (Value S) → Type 0
-    All_stand c v cs bs = All2 (Stands c v) (claims cs) bs
-
-    more : (c d : Code) (v w : Value S) (cs : List CheckedStatement) (bs : List (Value S)) → ((x : ℕ × Spot S) → Member x (P c v) → Member x (P d w)) → All_stand c v cs bs → All_stand d w cs bs
-    more c d v w cs bs f h = all2_as (Stands c v) (Stands d w) (claims cs) bs (λ k b s. record { spot = s.spot; stands = f (k.0, s.spot) s.stands; is = s.is }) h
-
-    join : (c : Code) (v : Value S) (cs ds : List CheckedStatement) (xs ys : List (Value S)) → All_stand c v cs xs → All_stand c v ds ys → All_stand c v (cs ++ ds) (xs ++ ys)
-    join c v cs ds xs ys f g = subst (λ ks. All2 (Stands c v) ks (xs ++ ys)) (sym (claims_both cs ds)) (all2_both (Stands c v) (claims cs) (claims ds) xs ys f g)
-
-    one : (n : ℕ) (e : Effect) (r : Code) (v : Value S) (o : Option Check) → All_stand (Simple n e r) v (checked_one n e o) (before_one o v)
-    one n e r v None = tt
-    one n e r v (Some c) = (record { spot = spot v None (lift (dom.post (Does e)) v) None; stands = here; is = refl }, tt)
-
-    abbrev holds : Guard → Value S → Value S
-    holds g v = lift (dom.assume g true) v
-
-    abbrev fails : Guard → Value S → Value S
-    fails g v = lift (dom.assume g false) v
-
-    abbrev both : Guard → (t e : Code) → Value S → Value S
-    both g t e v = lift2 dom.join (passed dom plan place z t (holds g v)).value (passed dom plan place z e (fails g v)).value
-
-    abbrev head : ℕ → Guard → Code → Value S → Value S
-    head n g b v = (head_of dom plan.engine (thresholds_at plan place) z n g (passed dom plan place z b) v).value
-
-    abbrev out : ℕ → Guard → Code → Value S → Value S
-    out n g b v = behind dom plan.engine g (passed dom plan place z b) (head n g b v)
-
-    abbrev returned : ℕ → Invoke → ℕ → Value S → Value S
-    returned n i q v = lift2 (dom.leave i.returning) v (calls_in dom plan place z n q (lift (dom.enter i.entering) v))
-
-    all_stand : (c : Code) (v : Value S) → All_stand c v (checked_in c) (befores dom plan place z c v)
-    all_stand Stop v = tt
-    all_stand (Simple n e r) v =
-        let w = lift (dom.post (Does e)) v in
-        join (Simple n e r) v (checked_one n e (check_of e)) (checked_in r) (before_one (check_of e) v) (F r w) (one n e r v (check_of e)) (more r (Simple n e r) w v (checked_in r) (F r w) (λ x. there) (all_stand r w))
-    all_stand (If n g t e r) v =
-        let c = If n g t e r in
-        let a = holds g v in
-        let b = fails g v in
-        let w = both g t e v in
-        let first = more t c a v (checked_in t) (F t a) (λ y m. there (in_left (P e b ++ P r w) m)) (all_stand t a) in
-        let second = more e c b v (checked_in e) (F e b) (λ y m. there (in_right (P t a) (in_left (P r w) m))) (all_stand e b) in
-        let last = more r c w v (checked_in r) (F r w) (λ y m. there (in_right (P t a) (in_right (P e b) m))) (all_stand r w) in
-        subst (λ bs. All_stand c v (checked_in c) bs) (sym (append_assoc (F t a) (F e b) (F r w)))
-        (join c v (checked_in t) (checked_in e ++ checked_in r) (F t a) (F e b ++ F r w) first (join c v (checked_in e) (checked_in r) (F e b) (F r w) second last))
-    all_stand (While n g b r) v =
-        let c = While n g b r in
-        let a = holds g (head n g b v) in
-        let w = out n g b v in
-        join c v (checked_in b) (checked_in r) (F b a) (F r w)
-        (more b c a v (checked_in b) (F b a) (λ y m. there (in_left (P r w) m)) (all_stand b a))
-        (more r c w v (checked_in r) (F r w) (λ y m. there (in_right (P b a) m)) (all_stand r w))
-    all_stand (Call n i q r) v = more r (Call n i q r) (returned n i q v) v (checked_in r) (F r (returned n i q v)) (λ x. there) (all_stand r (returned n i q v))
-    all_stand (Break n r) v = more r (Break n r) (lift (dom.post DoBreak) v) v (checked_in r) (F r (lift (dom.post DoBreak) v)) (λ x. there) (all_stand r (lift (dom.post DoBreak) v))
+    claims_gathered : (c : Code) (v : Value S) → claims (checked_in c) ≡ gathered of_claims dom plan place z c v
+    claims_gathered Stop v = refl
+    claims_gathered (Simple n e r) v =
+        claims_both (checked_one n e (check_of e)) (checked_in r) ∙ ap (λ ks. claims (checked_one n e (check_of e)) ++ ks) (claims_gathered r (after (Simple n e Stop) v))
+    claims_gathered (If n g t e r) v =
+        claims_both (checked_in t) (checked_in e ++ checked_in r) ∙ ap (λ ks. claims (checked_in t) ++ ks) (claims_both (checked_in e) (checked_in r))
+        ∙ sym (append_assoc (claims (checked_in t)) (claims (checked_in e)) (claims (checked_in r)))
+        ∙ (λ i. (claims_gathered t (lift (dom.assume g true) v) i ++ claims_gathered e (lift (dom.assume g false) v) i) ++ claims_gathered r (after (If n g t e Stop) v) i)
+    claims_gathered (While n g b r) v =
+        claims_both (checked_in b) (checked_in r)
+        ∙ (λ i. claims_gathered b (lift (dom.assume g true) (value_at_head dom plan place z n g b v)) i ++ claims_gathered r (after (While n g b Stop) v) i)
+    claims_gathered (Call n i q r) v = claims_gathered r (after (Call n i q Stop) v)
+    claims_gathered (Break n r) v = claims_gathered r (after (Break n Stop) v)
 
   -- what stands before a statement is the value at its location
   pub fronts : (place : ℕ) (z : List ℕ) (r : Routine) (v : Value S) → IsChecked plan.program → slice_get plan.program place ≡ Some r → entry dom plan.engine (reverse plan.program) z ≡ Some (earlier plan.program (suc place), v) → All2 (λ (c : ℕ × Effect) b. Some b ≡ value_at dom plan.engine plan.program (Before c.0) z) (claims (checked_in r.code)) (befores dom plan place z r.code v)
   fronts place z r v checked g e =
-      let once = subst Distinct (sym (numbers_of_places dom plan place z r.code v)) (once_in plan.program place r checked.numbers_once g) in
-      all2_as (Stands place z r.code v) (λ c b. Some b ≡ value_at dom plan.engine plan.program (Before c.0) z) (claims (checked_in r.code)) (befores dom plan place z r.code v)
+      let Found = IsFound IsBefore of_claims of_checks agree dom plan place z r.code v in
+      all2_as Found (λ c b. Some b ≡ value_at dom plan.engine plan.program (Before c.0) z) (claims (checked_in r.code)) (befores dom plan place z r.code v)
       (λ c b s.
-      ap Some (sym s.is)
-      ∙ sym (ap (λ o. if_some o (λ (x : Spot S). Some x.before)) (found (c.0, s.spot) (places dom plan place z r.code v) once s.stands))
-      ∙ before_there dom plan place c.0 z r v g
-      ∙ ap (λ o. if_some o (λ x. value_in dom plan.engine x.0 z x.1 (Before c.0))) (sym e))
-      (all_stand place z r.code v)
+      ap Some (sym s.is.1)
+      ∙ sym (ap (λ o. if_some o (λ (x : Spot S). Some x.before)) s.spotted)
+      ∙ before_there dom plan place s.at.0 z r v g
+      ∙ ap (λ o. if_some o (λ x. value_in dom plan.engine x.0 z x.1 (Before s.at.0))) (sym e)
+      ∙ ap (λ n. value_at dom plan.engine plan.program (Before n) z) s.is.0)
+      (subst (λ ks. All2 Found ks (befores dom plan place z r.code v)) (sym (claims_gathered place z r.code v)) (each_found IsBefore of_claims of_checks agree dom plan place z r v checked g))
 
   abbrev at_claim : ℕ × Effect → List ℕ → Option (Value S)
   at_claim c = value_at dom plan.engine plan.program (Before c.0)
 
   -- the totals so far, with the chains to come, give what all chains give
   abbrev pub SoFar : (all rest : List (List ℕ)) → List (ℕ × Effect) → List (Value S) → Type 0
-  SoFar all rest cs vs = EachWith (λ (c : ℕ × Effect) o. gathered dom plan.engine o (all_values dom plan.engine (value_at dom plan.engine plan.program (Before c.0)) rest) ≡ sum_of dom plan.engine (all_values dom plan.engine (value_at dom plan.engine plan.program (Before c.0)) all)) cs vs
+  SoFar all rest cs vs = EachWith (λ (c : ℕ × Effect) o. sum_so_far dom plan.engine o (all_values dom plan.engine (value_at dom plan.engine plan.program (Before c.0)) rest) ≡ sum_of dom plan.engine (all_values dom plan.engine (value_at dom plan.engine plan.program (Before c.0)) all)) cs vs
 
   pub none_so_far : (zs : List (List ℕ)) (cs : List (ℕ × Effect)) → SoFar zs zs cs []
   none_so_far zs [] = tt
-  none_so_far zs (c ∷ cs) = (gathered_none dom plan.engine (all_values dom plan.engine (at_claim c) zs), none_so_far zs cs)
+  none_so_far zs (c ∷ cs) = (sum_none dom plan.engine (all_values dom plan.engine (at_claim c) zs), none_so_far zs cs)
 
   one_more_chain : (all rest : List (List ℕ)) (z : List ℕ) (cs : List (ℕ × Effect)) (vs bs : List (Value S)) → All2 (λ (c : ℕ × Effect) b. Some b ≡ value_at dom plan.engine plan.program (Before c.0) z) cs bs → SoFar all (z ∷ rest) cs vs → SoFar all rest cs (all_added dom vs bs)
   one_more_chain all rest z [] vs [] f g = tt
@@ -142,13 +106,13 @@ module _ {S : Type 0} (dom : Operations S) (plan : Plan) where
   one_more_chain all rest z (c ∷ cs) vs [] f g = absurd f
   one_more_chain all rest z (c ∷ cs) vs (b ∷ bs) f g = (one_added_chain dom plan.engine (at_claim c) rest z (first_of vs) b f.0 ∙ g.0, one_more_chain all rest z cs (behind_first vs) bs f.1 g.1)
 
-  gathered_end : (o : Option (Value S)) → gathered dom plan.engine o (Some []) ≡ answer_of_sum o
-  gathered_end None = refl
-  gathered_end (Some v) = refl
+  sum_end : (o : Option (Value S)) → sum_so_far dom plan.engine o (Some []) ≡ answer_of_sum o
+  sum_end None = refl
+  sum_end (Some v) = refl
 
   pub all_chains : (zs : List (List ℕ)) (cs : List (ℕ × Effect)) (vs : List (Value S)) → SoFar zs [] cs vs → AreTotals dom plan zs cs vs
   all_chains zs [] vs g = tt
-  all_chains zs (c ∷ cs) vs g = (sym g.0 ∙ gathered_end (first_of vs), all_chains zs cs (behind_first vs) g.1)
+  all_chains zs (c ∷ cs) vs g = (sym g.0 ∙ sum_end (first_of vs), all_chains zs cs (behind_first vs) g.1)
 
   -- A checked statement of a block is one of its statements, and has that check.
   record Right (code : Code) (c : CheckedStatement) : Type 0 where
@@ -242,8 +206,8 @@ finding_step dom engine found found' cs ts i c o f h e g k a =
 
 module _ {S : Type 0} (dom : Operations S) (plan : Plan) where
   -- the totals under one more chain
-  pub totals_next : (place i : ℕ) (body : Code) (e : Entered S) (at : At (IsEnteredBy dom plan place) (chains plan.program place) i e) (all more before left all' : List (Answer S)) → IsChecked plan.program → place < length plan.program → body ≡ body_at plan.program place → map value_of more ≡ befores dom plan e.frame.place e.frame.sites body (value_of e.before) → before ≡ reverse all → left ≡ reverse more → map value_of all' ≡ all_added dom (map value_of (reverse before)) (map value_of (reverse left)) → SoFar dom plan (chains plan.program place) (drop i (chains plan.program place)) (claims (checked_in (body_at plan.program place))) (map value_of all) → SoFar dom plan (chains plan.program place) (drop (i + 1) (chains plan.program place)) (claims (checked_in (body_at plan.program place))) (map value_of all')
-  totals_next place i body e at all more before left all' checked h b m k l a g =
+  pub totals_next : (place i : ℕ) (body : Code) (e : Entered S) (at : At (IsEnteredBy dom plan place) (chains plan.program place) i e) (none all more before left all' : List (Answer S)) → IsChecked plan.program → place < length plan.program → body ≡ body_at plan.program place → none ≡ [] → map value_of more ≡ map value_of none ++ befores dom plan e.frame.place e.frame.sites body (value_of e.before) → before ≡ reverse all → left ≡ reverse more → map value_of all' ≡ all_added dom (map value_of (reverse before)) (map value_of (reverse left)) → SoFar dom plan (chains plan.program place) (drop i (chains plan.program place)) (claims (checked_in (body_at plan.program place))) (map value_of all) → SoFar dom plan (chains plan.program place) (drop (i + 1) (chains plan.program place)) (claims (checked_in (body_at plan.program place))) (map value_of all')
+  totals_next place i body e at none all more before left all' checked h b n m k l a g =
       let zs = chains plan.program place in
       let code = body_at plan.program place in
       let r = there_at plan.program place h in
@@ -252,7 +216,7 @@ module _ {S : Type 0} (dom : Operations S) (plan : Plan) where
       let z = at.item in
       let p : e.frame.place ≡ place = ap (λ (f : CallFrame). f.place) at.holds.frame in
       let q : e.frame.sites ≡ z = ap (λ (f : CallFrame). f.sites) at.holds.frame in
-      let same : befores dom plan place z r.0.code v ≡ map value_of more = sym (m ∙ (λ j. befores dom plan (p j) (q j) ((b ∙ here) j) v)) in
+      let same : befores dom plan place z r.0.code v ≡ map value_of more = sym (m ∙ ap (λ xs. map value_of xs ++ befores dom plan e.frame.place e.frame.sites body v) n ∙ (λ j. befores dom plan (p j) (q j) ((b ∙ here) j) v)) in
       let front = subst (λ bs. All2 (λ (c : ℕ × Effect) x. Some x ≡ value_at dom plan.engine plan.program (Before c.0) z) (claims (checked_in r.0.code)) bs) same (fronts dom plan place z r.0 v checked r.1 at.holds.value) in
       let front' = subst (λ c. All2 (λ (c : ℕ × Effect) x. Some x ≡ value_at dom plan.engine plan.program (Before c.0) z) (claims (checked_in c)) (map value_of more)) (sym here) front in
       let turned : map value_of all' ≡ all_added dom (map value_of all) (map value_of more) =

@@ -2,34 +2,32 @@
 use Rattle.std.proofs.Common.{ℕ, zero, suc, ◌≡◌, ◌≢◌, ◌+◌, ◌-◌, ◌<◌, ◌≤◌, true, false, List, [], ◌∷◌, ◌++◌, length, map, drop, take, reverse, slice_get, Some, None, refl, sym, ap, subst, ◌∙◌, arith, append_assoc}
 use Rattle.std.specs.Prelude.{◌==◌, if◌then◌else◌}
 use Rattle.std.proofs.lemmas.List.{drop_all, take_all, length-take-le}
-use Rattle.imp_slots.specs.Plain.{Guard, Does, DoBreak, Invoke, Code, Stop, Simple, If, While, Call, Break, Routine}
-use Rattle.imp_slots.specs.Fits.{Distinct, IsChecked}
+use Rattle.imp_slots.specs.Plain.{Invoke, Code, Stop, Simple, If, While, Call, Break, Routine}
+use Rattle.imp_slots.specs.Fits.{IsChecked}
 use Rattle.imp_chains.specs.Chains.{calls_to, extended, through, chains_within, chains}
 use Rattle.imp_chains.specs.Claims.{ChainsAreThroughCallers}
 use Rattle.imp_chains.proofs.Found.{called_earlier}
 use Rattle.domain_laws.specs.Operations.{Operations}
-use Rattle.batch_meaning.specs.Values.{Value, lift, lift2}
-use Rattle.batch_meaning.specs.Batch.{head_of, behind}
-use Rattle.batch_meaning.specs.Places.{Spot, spot, find, if_some, entered, entry}
+use Rattle.batch_meaning.specs.Values.{Value, lift}
+use Rattle.batch_meaning.specs.Places.{Spot, find, if_some, entered, entry}
 use Rattle.base_values.proofs.Cases.{by_test}
 use Rattle.base_values.proofs.Lists.{get_take, drop_next}
-use Rattle.base_values.proofs.Members.{Member, here, there, in_left, in_right}
-use Rattle.batch_meaning.proofs.Places.{found}
+use Rattle.base_values.proofs.Members.{Member, here, there}
 use Rattle.batch_interp.specs.Answered.{value_of}
-use Rattle.batch_interp.specs.Frames.{Plan, earlier, thresholds_at, calls_in, passed, body_of, body_at}
-use Rattle.batch_interp.specs.Handing.{told_of, handed_on, all_handed, handed_to, handed_besides, calls_from, IsEnteredBy, coming, AreEntered, AreHandedBy, AreHanded}
+use Rattle.batch_interp.specs.Frames.{Plan, earlier, body_of, body_at, value_after, value_at_head}
+use Rattle.batch_interp.specs.Gathered.{Gathering, gathered}
+use Rattle.batch_interp.specs.Handing.{told_of, handed_on, all_handed, handed_to, handed_besides, of_calls, calls_from, IsEnteredBy, coming, AreEntered, AreHandedBy, AreHanded}
 use Rattle.batch_interp.specs.Pairs.{All2}
 use Rattle.batch_interp.specs.Seeking.{places}
 use Rattle.batch_interp.specs.Walking.{entered_of, called_from}
 use Rattle.batch_interp.specs.declared.calls.Handed.{Handed}
 use Rattle.batch_interp.specs.declared.frames.CallFrame.{CallFrame}
 use Rattle.batch_interp.specs.declared.walks.Entered.{Entered}
-use Rattle.batch_interp.proofs.Members.{all2_both, all2_as, all2_map, all2_length, At}
+use Rattle.batch_interp.proofs.Alongside.{Agree, IsFound, each_found}
+use Rattle.batch_interp.proofs.Members.{all2_both, all2_within, all2_map, all2_length, At}
 use Rattle.batch_interp.proofs.Once.{fit_at, called_before}
 use Rattle.batch_interp.proofs.Procedures.{there_at, from_earlier}
-use Rattle.batch_interp.proofs.Seekings.{numbers_of_places}
 use Rattle.batch_interp.proofs.Walkings.{standing, entered_there}
-use Rattle.batch_sound.proofs.Chains.{once_in}
 
 -- the calls of a block, each with its procedure
 abbrev pub calls_made : Code → List (ℕ × ℕ)
@@ -44,6 +42,11 @@ calls_made (Break n r) = calls_made r
 abbrev pub sites_to : (p : ℕ) → List (ℕ × ℕ) → List ℕ
 sites_to p [] = []
 sites_to p (k ∷ ks) = if p == k.1 then k.0 ∷ sites_to p ks else sites_to p ks
+
+made_site : (ks : List (ℕ × ℕ)) (k : ℕ × ℕ) → Member k ks → Member k.0 (sites_to k.1 ks)
+made_site [] k m = elim m [ ]
+made_site (x ∷ ks) k here = by_test k.1 k.1 (λ c. Member k.0 (if c then k.0 ∷ sites_to k.1 ks else sites_to k.1 ks)) (λ e. here) (λ e. absurd (e refl))
+made_site (x ∷ ks) k (there m) = by_test k.1 x.1 (λ c. Member k.0 (if c then x.0 ∷ sites_to k.1 ks else sites_to k.1 ks)) (λ e. there (made_site ks k m)) (λ e. made_site ks k m)
 
 sites_both : (p : ℕ) (xs ys : List (ℕ × ℕ)) → sites_to p (xs ++ ys) ≡ sites_to p xs ++ sites_to p ys
 sites_both p [] ys = refl
@@ -64,103 +67,61 @@ sites_of p (Break n r) = sites_of p r
 abbrev main_at : ℕ → CallFrame
 main_at n = record { place = n; sites = [] }
 
+-- of a call its number and its procedure's place, whatever is known before it
+abbrev of_sites : {S : Type 0} → Gathering S (ℕ × ℕ)
+of_sites = record { simple = λ n e v. []; head = λ n v. []; call = λ n i q v. (n, q) ∷ [] }
+
+-- a call has this number and procedure, and enters it so
+record Calls {S : Type 0} (dom : Operations S) (z : List ℕ) (at : ℕ × Spot S) (k : ℕ × ℕ) (w : CallFrame × Value S) : Type 0 where
+  invoke : Invoke
+  number : at.0 ≡ k.0
+  calls : at.1.call ≡ Some (invoke, k.1)
+  frame : w.0 ≡ record { place = k.1; sites = k.0 ∷ z }
+  value : lift (dom.enter invoke.entering) at.1.before ≡ w.1
+
+agree : {S : Type 0} (dom : Operations S) (z : List ℕ) → Agree (Calls dom z) of_sites (of_calls dom z)
+agree dom z = record {
+  simple = λ n e v w. tt;
+  head = λ n v w h. tt;
+  call = λ n i q v w. (record { invoke = i; number = refl; calls = refl; frame = refl; value = refl }, tt);
+}
+
 module _ {S : Type 0} (dom : Operations S) (plan : Plan) where
   module _ (place : ℕ) (z : List ℕ) where
-    abbrev P : Code → Value S → List (ℕ × Spot S)
-    P = places dom plan place z
+    abbrev after : Code → Value S → Value S
+    after = value_after dom plan place z
 
-    abbrev F : Code → Value S → List (CallFrame × Value S)
-    F = calls_from dom plan place z
+    sites_gathered : (c : Code) (v : Value S) → calls_made c ≡ gathered of_sites dom plan place z c v
+    sites_gathered Stop v = refl
+    sites_gathered (Simple n e r) v = sites_gathered r (after (Simple n e Stop) v)
+    sites_gathered (If n g t e r) v = λ i. (sites_gathered t (lift (dom.assume g true) v) i ++ sites_gathered e (lift (dom.assume g false) v) i) ++ sites_gathered r (after (If n g t e Stop) v) i
+    sites_gathered (While n g b r) v = λ i. sites_gathered b (lift (dom.assume g true) (value_at_head dom plan place z n g b v)) i ++ sites_gathered r (after (While n g b Stop) v) i
+    sites_gathered (Call n j q r) v = ap (λ ks. (n, q) ∷ ks) (sites_gathered r (after (Call n j q Stop) v))
+    sites_gathered (Break n r) v = sites_gathered r (after (Break n Stop) v)
 
-    -- a call of a block, and the procedure that it enters
-    record Stands (c : Code) (v : Value S) (k : ℕ × ℕ) (w : CallFrame × Value S) : Type 0 where
-      spot : Spot S
-      invoke : Invoke
-      stands : Member (k.0, spot) (places dom plan place z c v)
-      calls : spot.call ≡ Some (invoke, k.1)
-      called : Member k.0 (calls_to k.1 c)
-      frame : w.0 ≡ record { place = k.1; sites = k.0 ∷ z }
-      value : lift (dom.enter invoke.entering) spot.before ≡ w.1
-
-    more : (c d : Code) (v w : Value S) (ks : List (ℕ × ℕ)) (xs : List (CallFrame × Value S)) → ((x : ℕ × Spot S) → Member x (P c v) → Member x (P d w)) → ((p n : ℕ) → Member n (calls_to p c) → Member n (calls_to p d)) → All2 (Stands c v) ks xs → All2 (Stands d w) ks xs
-    more c d v w ks xs f g h = all2_as (Stands c v) (Stands d w) ks xs (λ k x s. record { spot = s.spot; invoke = s.invoke; stands = f (k.0, s.spot) s.stands; calls = s.calls; called = g k.1 k.0 s.called; frame = s.frame; value = s.value }) h
-
-    abbrev holds : Guard → Value S → Value S
-    holds g v = lift (dom.assume g true) v
-
-    abbrev fails : Guard → Value S → Value S
-    fails g v = lift (dom.assume g false) v
-
-    abbrev both : Guard → (t e : Code) → Value S → Value S
-    both g t e v = lift2 dom.join (passed dom plan place z t (holds g v)).value (passed dom plan place z e (fails g v)).value
-
-    abbrev head : ℕ → Guard → Code → Value S → Value S
-    head n g b v = (head_of dom plan.engine (thresholds_at plan place) z n g (passed dom plan place z b) v).value
-
-    abbrev out : ℕ → Guard → Code → Value S → Value S
-    out n g b v = behind dom plan.engine g (passed dom plan place z b) (head n g b v)
-
-    abbrev returned : ℕ → Invoke → ℕ → Value S → Value S
-    returned n i q v = lift2 (dom.leave i.returning) v (calls_in dom plan place z n q (lift (dom.enter i.entering) v))
-
-    one_call : (n : ℕ) (i : Invoke) (q : ℕ) (r : Code) (v : Value S) → Stands (Call n i q r) v (n, q) (record { place = q; sites = n ∷ z }, lift (dom.enter i.entering) v)
-    one_call n i q r v = record {
-      spot = spot v None (returned n i q v) (Some (i, q));
-      invoke = i;
-      stands = here;
-      calls = refl;
-      called = by_test q q (λ c. Member n (if c then n ∷ calls_to q r else calls_to q r)) (λ e. here) (λ e. absurd (e refl));
-      frame = refl;
-      value = refl;
-    }
-
-    behind_call : (k : ℕ) (i : Invoke) (q : ℕ) (r : Code) (p n : ℕ) → Member n (calls_to p r) → Member n (calls_to p (Call k i q r))
-    behind_call k i q r p n m = by_test p q (λ c. Member n (if c then k ∷ calls_to p r else calls_to p r)) (λ e. there m) (λ e. m)
-
-    all_stand : (c : Code) (v : Value S) → All2 (Stands c v) (calls_made c) (calls_from dom plan place z c v)
-    all_stand Stop v = tt
-    all_stand (Simple n e r) v = let w = lift (dom.post (Does e)) v in more r (Simple n e r) w v (calls_made r) (F r w) (λ x. there) (λ p k m. m) (all_stand r w)
-    all_stand (If n g t e r) v =
-        let c = If n g t e r in
-        let a = holds g v in
-        let b = fails g v in
-        let w = both g t e v in
-        all2_both (Stands c v) (calls_made t ++ calls_made e) (calls_made r) (F t a ++ F e b) (F r w)
-        (all2_both (Stands c v) (calls_made t) (calls_made e) (F t a) (F e b)
-        (more t c a v (calls_made t) (F t a) (λ y m. there (in_left (P e b ++ P r w) m)) (λ p k m. in_left (calls_to p e ++ calls_to p r) m) (all_stand t a))
-        (more e c b v (calls_made e) (F e b) (λ y m. there (in_right (P t a) (in_left (P r w) m))) (λ p k m. in_right (calls_to p t) (in_left (calls_to p r) m)) (all_stand e b)))
-        (more r c w v (calls_made r) (F r w) (λ y m. there (in_right (P t a) (in_right (P e b) m))) (λ p k m. in_right (calls_to p t) (in_right (calls_to p e) m)) (all_stand r w))
-    all_stand (While n g b r) v =
-        let c = While n g b r in
-        let a = holds g (head n g b v) in
-        let w = out n g b v in
-        all2_both (Stands c v) (calls_made b) (calls_made r) (F b a) (F r w)
-        (more b c a v (calls_made b) (F b a) (λ y m. there (in_left (P r w) m)) (λ p k m. in_left (calls_to p r) m) (all_stand b a))
-        (more r c w v (calls_made r) (F r w) (λ y m. there (in_right (P b a) m)) (λ p k m. in_right (calls_to p b) m) (all_stand r w))
-    all_stand (Call n i q r) v =
-        let w = returned n i q v in
-        (one_call n i q r v, more r (Call n i q r) w v (calls_made r) (F r w) (λ x. there) (behind_call n i q r) (all_stand r w))
-    all_stand (Break n r) v = let w = lift (dom.post DoBreak) v in more r (Break n r) w v (calls_made r) (F r w) (λ x. there) (λ p k m. m) (all_stand r w)
+    abbrev Found : Routine → Value S → ℕ × ℕ → CallFrame × Value S → Type 0
+    Found r v = IsFound (Calls dom z) of_sites (of_calls dom z) (agree dom z) dom plan place z r.code v
 
   -- the procedures that calls enter, under the chains through the calls
   abbrev pub Enters : (z : List ℕ) → ℕ × ℕ → Entered S → Type 0
   Enters z k e = IsEnteredBy dom plan k.1 (k.0 ∷ z) e
 
-  enters : (place : ℕ) (z : List ℕ) (r : Routine) (v : Value S) (k : ℕ × ℕ) (e : Entered S) → IsChecked plan.program → slice_get plan.program place ≡ Some r → entry dom plan.engine (reverse plan.program) z ≡ Some (earlier plan.program (suc place), v) → Stands place z r.code v k (told_of e) → Enters z k e
-  enters place z r v k e checked g en s =
-      let once = subst Distinct (sym (numbers_of_places dom plan place z r.code v)) (once_in plan.program place r checked.numbers_once g) in
-      let seen : find k.0 (places dom plan place z r.code v) ≡ Some s.spot = found (k.0, s.spot) (places dom plan place z r.code v) once s.stands in
-      let q = called_before plan.program place k.1 r k.0 checked g s.called in
-      let list : called_from dom plan.program place s.spot.before (Some (s.invoke, k.1)) ≡ Some (earlier plan.program (suc k.1), lift (dom.enter s.invoke.entering) s.spot.before) =
-      ap (λ rs. Some (rs, lift (dom.enter s.invoke.entering) s.spot.before)) (from_earlier plan.program place k.1 q.0 q.1 ∙ sym (standing plan.program k.1 q.0 (get_take plan.program place k.1 q.0 q.1))) in
+  enters : (place : ℕ) (z : List ℕ) (r : Routine) (v : Value S) (k : ℕ × ℕ) (e : Entered S) → IsChecked plan.program → slice_get plan.program place ≡ Some r → entry dom plan.engine (reverse plan.program) z ≡ Some (earlier plan.program (suc place), v) → Member k (calls_made r.code) → Found place z r v k (told_of e) → Enters z k e
+  enters place z r v k e checked g en m s =
+      let before = s.at.1.before in
+      let enter = lift (dom.enter s.is.invoke.entering) in
+      let seen : find k.0 (places dom plan place z r.code v) ≡ Some s.at.1 = ap (λ n. find n (places dom plan place z r.code v)) (sym s.is.number) ∙ s.spotted in
+      let q = called_before plan.program place k.1 r k.0 checked g (subst (Member k.0) (sites_of k.1 r.code) (made_site (calls_made r.code) k m)) in
+      let list : called_from dom plan.program place before (Some (s.is.invoke, k.1)) ≡ Some (earlier plan.program (suc k.1), enter before) =
+      ap (λ rs. Some (rs, enter before)) (from_earlier plan.program place k.1 q.0 q.1 ∙ sym (standing plan.program k.1 q.0 (get_take plan.program place k.1 q.0 q.1))) in
       record {
-        frame = s.frame;
+        frame = s.is.frame;
         value =
             ap (λ o. if_some o (entered dom plan.engine k.0 z)) en
-            ∙ entered_there dom plan place k.0 z r v (Some s.spot) g (sym seen)
-            ∙ ap (called_from dom plan.program place s.spot.before) s.calls
+            ∙ entered_there dom plan place k.0 z r v (Some s.at.1) g (sym seen)
+            ∙ ap (called_from dom plan.program place before) s.is.calls
             ∙ list
-            ∙ ap (λ w. Some (earlier plan.program (suc k.1), w)) s.value;
+            ∙ ap (λ w. Some (earlier plan.program (suc k.1), w)) s.is.value;
       }
 
   -- what a walk through a body under one chain hands down
@@ -169,8 +130,10 @@ module _ {S : Type 0} (dom : Operations S) (plan : Plan) where
       let v = value_of x.before in
       let same : calls_from dom plan place z r.code v ≡ map told_of es =
       (let p : place ≡ x.frame.place = sym (ap (λ (f : CallFrame). f.place) i.frame) in let q : z ≡ x.frame.sites = sym (ap (λ (f : CallFrame). f.sites) i.frame) in λ j. calls_from dom plan (p j) (q j) (sym b j) v) ∙ sym m in
-      let all = subst (All2 (Stands place z r.code v) (calls_made r.code)) same (all_stand place z r.code v) in
-      all2_as (λ k e. Stands place z r.code v k (told_of e)) (Enters z) (calls_made r.code) es (λ k e s. enters place z r v k e checked g i.value s) (all2_map (Stands place z r.code v) told_of (calls_made r.code) es all)
+      let all : All2 (Found place z r v) (calls_made r.code) (calls_from dom plan place z r.code v) =
+      subst (λ ks. All2 (Found place z r v) ks (calls_from dom plan place z r.code v)) (sym (sites_gathered place z r.code v)) (each_found (Calls dom z) of_sites (of_calls dom z) (agree dom z) dom plan place z r v checked g) in
+      all2_within (λ k e. Found place z r v k (told_of e)) (Enters z) (calls_made r.code) es (λ k e n s. enters place z r v k e checked g i.value n s)
+      (all2_map (Found place z r v) told_of (calls_made r.code) es (subst (All2 (Found place z r v) (calls_made r.code)) same all))
 
   -- what a call statement hands down under these chains
   pub record Column (zs : List (List ℕ)) (k : ℕ × ℕ) (h : Handed S) : Type 0 where

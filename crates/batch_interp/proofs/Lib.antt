@@ -4,12 +4,13 @@ pub mod Procedures
 pub mod BlockLemmas
 pub mod Seekings
 pub mod Walkings
-pub mod Gathering
+pub mod ChainSums
 pub mod Claimed
 pub mod Members
 pub mod Once
-pub mod CallLemmas
+pub mod GatherLemmas
 pub mod Turned
+pub mod Alongside
 pub mod Handings
 pub mod Fronts
 pub mod ThresholdTables

@@ -23,6 +23,11 @@ pub on_ok_along : {A B E : Type 0} (r : Result A E) (x y a b : List B) → OnOk 
 on_ok_along (Err e) x y a b h k = h
 on_ok_along (Ok i) x y a b h k = h ∙ ap (λ c. y ++ c) k
 
+-- two parts that are added one after the other
+pub on_ok_behind : {A B E : Type 0} (r : Result A E) (old middle new a b c : List B) → OnOk r (new ≡ middle ++ b) → middle ≡ old ++ a → a ++ b ≡ c → OnOk r (new ≡ old ++ c)
+on_ok_behind (Err e) old middle new a b c h m k = h
+on_ok_behind (Ok i) old middle new a b c h m k = h ∙ ap (λ xs. xs ++ b) m ∙ append_assoc old a b ∙ ap (λ xs. old ++ xs) k
+
 pub on_ok_as : {A E : Type 0} (r : Result A E) (P Q : Type 0) → OnOk r P → (P → Q) → OnOk r Q
 on_ok_as (Err e) P Q h f = h
 on_ok_as (Ok x) P Q h f = f h

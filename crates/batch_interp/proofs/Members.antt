@@ -1,6 +1,7 @@
 -- Members of lists, and two lists item by item.
 use Rattle.std.proofs.Common.{ℕ, zero, suc, ◌≡◌, ◌+◌, ◌<◌, List, [], ◌∷◌, ◌++◌, length, map, drop, take, get_or, slice_get, Some, refl, sym, ap, subst, arith, add-one}
 use Rattle.base_values.proofs.Lists.{drop_from, take_next}
+use Rattle.base_values.proofs.Members.{Member, here, there}
 use Rattle.batch_interp.specs.Pairs.{All2}
 
 pub all2_both : {A B : Type 0} (P : A → B → Type 0) (xs xs' : List A) (ys ys' : List B) → All2 P xs ys → All2 P xs' ys' → All2 P (xs ++ xs') (ys ++ ys')
@@ -9,11 +10,21 @@ all2_both P [] xs' (y ∷ ys) ys' f g = absurd f
 all2_both P (x ∷ xs) xs' [] ys' f g = absurd f
 all2_both P (x ∷ xs) xs' (y ∷ ys) ys' f g = (f.0, all2_both P xs xs' ys ys' f.1 g)
 
+pub all2_within : {A B : Type 0} (P Q : A → B → Type 0) (xs : List A) (ys : List B) → ((a : A) (b : B) → Member a xs → P a b → Q a b) → All2 P xs ys → All2 Q xs ys
+all2_within P Q [] [] h f = tt
+all2_within P Q [] (y ∷ ys) h f = f
+all2_within P Q (x ∷ xs) [] h f = f
+all2_within P Q (x ∷ xs) (y ∷ ys) h f = (h x y here f.0, all2_within P Q xs ys (λ a b m. h a b (there m)) f.1)
+
 pub all2_as : {A B : Type 0} (P Q : A → B → Type 0) (xs : List A) (ys : List B) → ((a : A) (b : B) → P a b → Q a b) → All2 P xs ys → All2 Q xs ys
-all2_as P Q [] [] h f = tt
-all2_as P Q [] (y ∷ ys) h f = f
-all2_as P Q (x ∷ xs) [] h f = f
-all2_as P Q (x ∷ xs) (y ∷ ys) h f = (h x y f.0, all2_as P Q xs ys h f.1)
+all2_as P Q xs ys h f = all2_within P Q xs ys (λ a b m. h a b) f
+
+-- two lists that are told alike, item by item
+pub all2_told : {A B C : Type 0} (f : A → C) (g : B → C) (xs : List A) (ys : List B) → All2 (λ a b. g b ≡ f a) xs ys → map g ys ≡ map f xs
+all2_told f g [] [] h = refl
+all2_told f g [] (y ∷ ys) h = absurd h
+all2_told f g (x ∷ xs) [] h = absurd h
+all2_told f g (x ∷ xs) (y ∷ ys) h = λ i. h.0 i ∷ all2_told f g xs ys h.1 i
 
 pub all2_map : {A B C : Type 0} (P : A → B → Type 0) (f : C → B) (xs : List A) (cs : List C) → All2 P xs (map f cs) → All2 (λ a c. P a (f c)) xs cs
 all2_map P f [] [] h = tt

@@ -1,11 +1,11 @@
 -- The program that is interpreted, and where a block of it stands.
 use Rattle.std.specs.Prelude.{ℕ, ℤ, List, [], reverse, take, slice_get, Option, Some, None}
-use Rattle.imp_slots.specs.Plain.{Code, Stop, Routine}
+use Rattle.imp_slots.specs.Plain.{Guard, Code, Stop, Routine}
 use Rattle.imp_chains.specs.declared.widening.Widening.{Widening}
 use Rattle.imp_chains.specs.Thresholds.{thresholds}
 use Rattle.domain_laws.specs.Operations.{Operations}
 use Rattle.batch_meaning.specs.Values.{Value}
-use Rattle.batch_meaning.specs.Batch.{LoopOptions, Passed, batch, calls_of}
+use Rattle.batch_meaning.specs.Batch.{LoopOptions, Passed, Fixed, batch, calls_of, head_of}
 
 -- A program, and how its loops are interpreted.
 pub record Plan : Type 0 where
@@ -40,3 +40,19 @@ module _ {S : Type 0} (dom : Operations S) (plan : Plan) (place : ℕ) (z : List
   -- a block there
   abbrev pub passed : Code → Value S → Passed S
   passed = batch dom plan.engine (thresholds_at plan place) z calls_in
+
+  -- the value after a block there
+  abbrev pub value_after : Code → Value S → Value S
+  value_after b v = (passed b v).value
+
+  -- the value after the body of the procedure
+  abbrev pub procedure_end : Value S → Value S
+  procedure_end = value_after (body_at plan.program place)
+
+  -- what the iterates of a loop there come to
+  abbrev pub head_there : (n : ℕ) → Guard → Code → Value S → Fixed S
+  head_there n g b = head_of dom plan.engine (thresholds_at plan place) z n g (passed b)
+
+  -- the value at the head of a loop there
+  abbrev pub value_at_head : (n : ℕ) → Guard → Code → Value S → Value S
+  value_at_head n g b v = (head_there n g b v).value

@@ -1,15 +1,14 @@
 -- What calls hand down to the procedures that they enter.
-use Rattle.std.specs.Prelude.{◌≡◌, ℕ, suc, ◌==◌, ◌<◌, List, [], ◌∷◌, ◌++◌, length, drop, reverse, Option, Some, None, true, false, if◌then◌else◌}
-use Rattle.imp_slots.specs.Plain.{Code, Stop, Simple, If, While, Call, Break, Routine}
+use Rattle.std.specs.Prelude.{◌≡◌, ℕ, suc, ◌==◌, ◌<◌, List, [], ◌∷◌, ◌++◌, length, drop, reverse, Option, Some, None, if◌then◌else◌}
+use Rattle.imp_slots.specs.Plain.{Code, Routine}
 use Rattle.imp_slots.specs.declared.blocks.SlotNode.{SlotNode}
-use Rattle.imp_slots.specs.declared.blocks.SlotNode.TheVariants as node
 use Rattle.imp_chains.specs.Chains.{calls_to, extended, through, chains}
 use Rattle.domain_laws.specs.Operations.{Operations}
 use Rattle.batch_meaning.specs.Values.{Value, lift}
-use Rattle.batch_meaning.specs.Batch.{head_of}
 use Rattle.batch_meaning.specs.Places.{entry}
 use Rattle.batch_interp.specs.Answered.{value_of}
-use Rattle.batch_interp.specs.Frames.{Plan, earlier, thresholds_at, passed, body_at}
+use Rattle.batch_interp.specs.Frames.{Plan, earlier, body_at}
+use Rattle.batch_interp.specs.Gathered.{Gathering, gathered, gathered_in}
 use Rattle.batch_interp.specs.Pairs.{All2}
 use Rattle.batch_interp.specs.Totalling.{first_of, behind_first}
 use Rattle.batch_interp.specs.declared.frames.CallFrame.{CallFrame}
@@ -48,27 +47,18 @@ abbrev pub handed_besides : {S : Type 0} → (place : ℕ) → List (Handed S) �
 handed_besides p [] = []
 handed_besides p (h ∷ hs) = if h.place == p then handed_besides p hs else h ∷ handed_besides p hs
 
+-- of a call the procedure that it enters, under the call sites z
+abbrev pub of_calls : {S : Type 0} → Operations S → (z : List ℕ) → Gathering S (CallFrame × Value S)
+of_calls dom z = record { simple = λ n e v. []; head = λ n v. []; call = λ n i q v. (record { place = q; sites = n ∷ z }, lift (dom.enter i.entering) v) ∷ [] }
+
 module _ {S : Type 0} (dom : Operations S) (plan : Plan) (place : ℕ) (z : List ℕ) where
   -- the procedures that the calls of a block enter, in the order of the text
   abbrev pub calls_from : Code → Value S → List (CallFrame × Value S)
-  calls_from Stop v = []
-  calls_from (Simple n e r) v = calls_from r (passed dom plan place z (Simple n e Stop) v).value
-  calls_from (If n g t e r) v =
-      (calls_from t (lift (dom.assume g true) v) ++ calls_from e (lift (dom.assume g false) v)) ++ calls_from r (passed dom plan place z (If n g t e Stop) v).value
-  calls_from (While n g b r) v =
-      calls_from b (lift (dom.assume g true) (head_of dom plan.engine (thresholds_at plan place) z n g (passed dom plan place z b) v).value)
-      ++ calls_from r (passed dom plan place z (While n g b Stop) v).value
-  calls_from (Call n i q r) v =
-      (record { place = q; sites = n ∷ z }, lift (dom.enter i.entering) v) ∷ calls_from r (passed dom plan place z (Call n i q Stop) v).value
-  calls_from (Break n r) v = calls_from r (passed dom plan place z (Break n Stop) v).value
+  calls_from = gathered (of_calls dom z) dom plan place z
 
   -- those of one statement and the statements inside it
   abbrev pub calls_inside : SlotNode → Value S → List (CallFrame × Value S)
-  calls_inside (node.Simple n a) v = []
-  calls_inside (node.If n g t e) v = calls_from t (lift (dom.assume g true) v) ++ calls_from e (lift (dom.assume g false) v)
-  calls_inside (node.While n g b) v = calls_from b (lift (dom.assume g true) (head_of dom plan.engine (thresholds_at plan place) z n g (passed dom plan place z b) v).value)
-  calls_inside (node.Call n i q) v = (record { place = q; sites = n ∷ z }, lift (dom.enter i.entering) v) ∷ []
-  calls_inside (node.Break n) v = []
+  calls_inside = gathered_in (of_calls dom z) dom plan place z
 
 -- The procedure at a place is entered under these call sites.
 pub record IsEnteredBy {S : Type 0} (dom : Operations S) (plan : Plan) (place : ℕ) (z : List ℕ) (e : Entered S) : Type 0 where

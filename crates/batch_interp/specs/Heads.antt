@@ -1,17 +1,16 @@
 -- What is known at the heads of loops.
-use Rattle.std.specs.Prelude.{ℕ, suc, List, [], ◌∷◌, ◌++◌, map, reverse, Option, Some, true, false}
+use Rattle.std.specs.Prelude.{ℕ, suc, List, [], ◌∷◌, ◌++◌, map, reverse, Option, Some}
 use Rattle.imp_syntax.specs.declared.edit.Location.TheVariants.{Head as AtHead}
-use Rattle.imp_slots.specs.Plain.{Guard, Code, Stop, Simple, If, While, Call, Break, Routine}
-use Rattle.imp_slots.specs.declared.blocks.SlotNode.{SlotNode}
-use Rattle.imp_slots.specs.declared.blocks.SlotNode.TheVariants as node
+use Rattle.imp_slots.specs.Plain.{Code, Routine}
 use Rattle.imp_chains.specs.Chains.{chains}
 use Rattle.domain_laws.specs.Operations.{Operations}
-use Rattle.batch_meaning.specs.Values.{Value, lift}
-use Rattle.batch_meaning.specs.Batch.{LoopOptions, head_of}
+use Rattle.batch_meaning.specs.Values.{Value}
+use Rattle.batch_meaning.specs.Batch.{LoopOptions}
 use Rattle.batch_meaning.specs.Places.{value_at}
 use Rattle.cert_meaning.specs.Written.{loops}
 use Rattle.batch_interp.specs.Answered.{value_of}
-use Rattle.batch_interp.specs.Frames.{Plan, thresholds_at, passed}
+use Rattle.batch_interp.specs.Frames.{Plan}
+use Rattle.batch_interp.specs.Gathered.{Gathering, gathered, within}
 use Rattle.batch_interp.specs.declared.heads.LoopHead.{LoopHead}
 use Rattle.batch_interp.specs.declared.heads.LoopsUnder.{LoopsUnder}
 
@@ -40,26 +39,10 @@ abbrev pub all_loops_told : {S : Type 0} → Operations S → LoopOptions → Li
 all_loops_told dom engine program k [] = []
 all_loops_told dom engine program k (r ∷ rs) = told_under dom engine program (loops r.code) (chains program k) ++ all_loops_told dom engine program (suc k) rs
 
-module _ {S : Type 0} (dom : Operations S) (plan : Plan) (place : ℕ) (z : List ℕ) where
-  -- at the head of a loop, from the value before it
-  abbrev pub value_at_head : ℕ → Guard → Code → Value S → Value S
-  value_at_head n g b v = (head_of dom plan.engine (thresholds_at plan place) z n g (passed dom plan place z b) v).value
+-- of a loop its number, with the value at its head
+abbrev pub of_loops : {S : Type 0} → Gathering S (ℕ × Value S)
+of_loops = within (λ e v. []) (λ n v. (n, v) ∷ [])
 
-  -- the loops of a block in preorder, each with the value at its head
-  abbrev pub loop_values : Code → Value S → List (ℕ × Value S)
-  loop_values Stop v = []
-  loop_values (Simple n e r) v = loop_values r (passed dom plan place z (Simple n e Stop) v).value
-  loop_values (If n g t e r) v =
-      (loop_values t (lift (dom.assume g true) v) ++ loop_values e (lift (dom.assume g false) v)) ++ loop_values r (passed dom plan place z (If n g t e Stop) v).value
-  loop_values (While n g b r) v =
-      ((n, value_at_head n g b v) ∷ loop_values b (lift (dom.assume g true) (value_at_head n g b v))) ++ loop_values r (passed dom plan place z (While n g b Stop) v).value
-  loop_values (Call n i q r) v = loop_values r (passed dom plan place z (Call n i q Stop) v).value
-  loop_values (Break n r) v = loop_values r (passed dom plan place z (Break n Stop) v).value
-
-  -- those of one statement and the statements inside it
-  abbrev pub values_inside : SlotNode → Value S → List (ℕ × Value S)
-  values_inside (node.Simple n a) v = []
-  values_inside (node.If n g t e) v = loop_values t (lift (dom.assume g true) v) ++ loop_values e (lift (dom.assume g false) v)
-  values_inside (node.While n g b) v = (n, value_at_head n g b v) ∷ loop_values b (lift (dom.assume g true) (value_at_head n g b v))
-  values_inside (node.Call n i q) v = []
-  values_inside (node.Break n) v = []
+-- the loops of a block in preorder, each with the value at its head
+abbrev pub loop_values : {S : Type 0} → Operations S → Plan → (place : ℕ) → (z : List ℕ) → Code → Value S → List (ℕ × Value S)
+loop_values = gathered of_loops

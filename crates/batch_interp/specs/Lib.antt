@@ -8,7 +8,10 @@ pub mod Summing
 pub mod Reporting
 pub mod Checking
 pub mod Totalling
+pub mod Gathered
 pub mod Heads
 pub mod Pairs
 pub mod Handing
 pub mod Remembering
+pub mod Here
+pub mod Added

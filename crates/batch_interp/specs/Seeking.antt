@@ -7,10 +7,10 @@ use Rattle.imp_slots.specs.declared.blocks.SlotNode.TheVariants.{Simple, If, Whi
 use Rattle.imp_chains.specs.Chains.{has}
 use Rattle.domain_laws.specs.Operations.{Operations}
 use Rattle.batch_meaning.specs.Values.{Value, lift}
-use Rattle.batch_meaning.specs.Batch.{Fixed, head_of}
+use Rattle.batch_meaning.specs.Batch.{Fixed}
 use Rattle.batch_meaning.specs.Places.{Spot, spot, spots}
 use Rattle.batch_interp.specs.Answered.{value_of}
-use Rattle.batch_interp.specs.Frames.{Plan, thresholds_at, calls_in, passed}
+use Rattle.batch_interp.specs.Frames.{Plan, thresholds_at, calls_in, value_after, head_there, value_at_head}
 use Rattle.batch_interp.specs.declared.spots.Seen.{Seen}
 
 -- whether a statement of this number stands inside a statement
@@ -38,13 +38,13 @@ module _ {S : Type 0} (dom : Operations S) (plan : Plan) (place : ℕ) (z : List
   abbrev pub head_at : SlotNode → Value S → Option (Fixed S)
   head_at (Simple n a) v = None
   head_at (If n c t e) v = None
-  head_at (While n c b) v = Some (head_of dom plan.engine (thresholds_at plan place) z n c (passed dom plan place z b) v)
+  head_at (While n c b) v = Some (head_there dom plan place z n c b v)
   head_at (Call n i q) v = None
   head_at (Break n) v = None
 
   -- what is known at a statement, from the value before it
   abbrev pub spot_at : SlotNode → Value S → Spot S
-  spot_at s v = spot v (head_at s v) (passed dom plan place z (before_code s Stop) v).value (call_at s)
+  spot_at s v = spot v (head_at s v) (value_after dom plan place z (before_code s Stop) v) (call_at s)
 
   abbrev pub spot_of : Seen S → Spot S
   spot_of s = spot_at s.node.now (value_of s.before)
@@ -53,6 +53,6 @@ module _ {S : Type 0} (dom : Operations S) (plan : Plan) (place : ℕ) (z : List
   abbrev pub inner_of : SlotNode → Value S → List (ℕ × Spot S)
   inner_of (Simple n a) v = []
   inner_of (If n c t e) v = places t (lift (dom.assume c true) v) ++ places e (lift (dom.assume c false) v)
-  inner_of (While n c b) v = places b (lift (dom.assume c true) (head_of dom plan.engine (thresholds_at plan place) z n c (passed dom plan place z b) v).value)
+  inner_of (While n c b) v = places b (lift (dom.assume c true) (value_at_head dom plan place z n c b v))
   inner_of (Call n i q) v = []
   inner_of (Break n) v = []

@@ -1,21 +1,21 @@
 //! Blocks: the state after each from the state before it, by recursion on the syntax.
-ghost use Rattle.std.specs.Prelude.{◌≡◌, ◌++◌, ◌∷◌, [], IfOk, OnOk, true, false};
-ghost use Rattle.imp_slots.specs.Plain.{Does, DoBreak, Stop, If, While, Call};
-ghost use Rattle.imp_slots.specs.ActionViews.{effect_of};
+ghost use Rattle.std.specs.Prelude.{◌≡◌, IfOk, OnOk, true, false};
+ghost use Rattle.imp_slots.specs.Plain.{Stop, If, While, Call};
 ghost use Rattle.imp_slots.specs.BlockViews.{before_code};
 ghost use Rattle.batch_meaning.specs.Values as plain;
-ghost use Rattle.batch_meaning.specs.Batch.{LoopOptions, next_of, head_of, joined};
+ghost use Rattle.batch_meaning.specs.Batch.{next_of};
 ghost use Rattle.batch_interp.specs.Answered.{value_of};
-ghost use Rattle.batch_interp.specs.Frames.{thresholds_at, body_at, calls_in, passed};
-ghost use Rattle.batch_interp.specs.Passing.{states, Ends, IsFixed};
-ghost use Rattle.batch_interp.specs.Remembering.{AreRight};
+ghost use Rattle.batch_interp.specs.Frames.{thresholds_at, body_at, calls_in, passed, value_after, head_there};
+ghost use Rattle.batch_interp.specs.Passing.{Ends, IsFixed};
+ghost use Rattle.batch_interp.specs.Here.{here, AreRightHere};
 
 use crate::Answer;
 use crate::frames::Interpreter;
-use crate::remembered::{Remembered, noted, recalled};
+use crate::remembered::{Remembered, note, recalled};
+use crate::single::{behind_action, behind_break, joined_states};
 use base_values::{Items, Memory};
 use domain_laws::{Domain, Steps};
-use imp_slots::{SlotAction, SlotBlock, SlotCall, SlotCond, SlotNode, SlotStmt};
+use imp_slots::{SlotBlock, SlotCall, SlotCond, SlotNode};
 use imp_syntax::{Chain, StmtId};
 use std::alloc::Global;
 use std::sync::ledger::Ledger;
@@ -27,36 +27,6 @@ pub(crate) enum Fixed<S> {
     At { head: S, leaving: Items<S> },
     /// A loop that used up its budget: this one, or one that its body meets.
     Over { head: StmtId, chain: Chain },
-}
-
-/// After a simple statement. It fails only when memory runs out.
-pub fn behind_action<D: Domain, L: Ledger>(
-    alloc: Global,
-    dom: &D,
-    action: &SlotAction,
-    state: &D::State,
-    steps: &mut Steps<L>,
-) -> Result<D::State, Memory>
-    ensures value { IfOk result (λ t. t ≡ (D.operations dom.now).post
-        (Does (effect_of action.now)) state.now) }
-{
-    let stmt = SlotStmt::Simple(action.clone()?);
-    dom.post(alloc, &stmt, state, steps)
-}
-
-/// After a break, before which the state leaves. It fails only when memory runs out.
-pub fn behind_break<D: Domain, L: Ledger>(
-    alloc: Global,
-    dom: &D,
-    state: &D::State,
-    leaving: &mut Items<D::State>,
-    steps: &mut Steps<L>,
-) -> Result<D::State, Memory>
-    ensures value { IfOk result (λ t. t ≡ (D.operations dom.now).post DoBreak state.now) }
-    ensures left { OnOk result (leaving.new ≡ leaving.old ++ state.now ∷ []) }
-{
-    leaving.push(dom.copy(alloc, state)?)?;
-    dom.post(alloc, &SlotStmt::Break, state, steps)
 }
 
 /// The next iterate of a loop after the k-th: joined below the delay, else widened.
@@ -84,25 +54,6 @@ fn next_iterate<D: Domain, L: Ledger>(
     }
 }
 
-/// The state joined with others, from left to right. It fails only when memory runs out.
-pub fn joined_states<D: Domain, L: Ledger>(
-    alloc: Global,
-    dom: &D,
-    first: D::State,
-    others: &[D::State],
-    steps: &mut Steps<L>,
-) -> Result<D::State, Memory>
-    ensures value { IfOk result (λ t. (e : LoopOptions) →
-        plain.State t ≡ joined (D.operations dom.now) e (plain.State first)
-        (states others.now)) }
-{
-    let mut all = first;
-    for other in others {
-        all = dom.join(alloc, &all, other, steps)?;
-    }
-    Ok(all)
-}
-
 /// A block: the state after it, or the first loop that used up its budget. The states before
 /// breaks that leave the loop around it are added to `leaving`.
 #[cycle(blocks)]
@@ -115,14 +66,10 @@ pub(crate) fn block_answer<D: Domain, L: Ledger>(
     remembered: &mut Remembered<D::State>,
     steps: &mut Steps<L>,
 ) -> Result<Answer<D::State>, Memory>
-    requires right { AreRight (D.operations interpreter.now.dom.now) interpreter.now.plan.now
-        remembered.old }
+    requires right { AreRightHere D.operations interpreter.now remembered.old }
     ensures is { IfOk result (Ends leaving.old leaving.new
-        (passed (D.operations interpreter.now.dom.now) interpreter.now.plan.now
-        interpreter.now.frame.now.place interpreter.now.frame.now.sites block.now
-        (plain.State state))) }
-    ensures right { OnOk result (AreRight (D.operations interpreter.now.dom.now)
-        interpreter.now.plan.now remembered.new) }
+        (here D.operations interpreter.now passed block.now (plain.State state))) }
+    ensures right { OnOk result (AreRightHere D.operations interpreter.now remembered.new) }
 {
     let mut now = state;
     for node in block.statements() {
@@ -144,14 +91,11 @@ pub(crate) fn node_answer<D: Domain, L: Ledger>(
     remembered: &mut Remembered<D::State>,
     steps: &mut Steps<L>,
 ) -> Result<Answer<D::State>, Memory>
-    requires right { AreRight (D.operations interpreter.now.dom.now) interpreter.now.plan.now
-        remembered.old }
+    requires right { AreRightHere D.operations interpreter.now remembered.old }
     ensures is { IfOk result (Ends leaving.old leaving.new
-        (passed (D.operations interpreter.now.dom.now) interpreter.now.plan.now
-        interpreter.now.frame.now.place interpreter.now.frame.now.sites
-        (before_code node.now Stop) (plain.State state.now))) }
-    ensures right { OnOk result (AreRight (D.operations interpreter.now.dom.now)
-        interpreter.now.plan.now remembered.new) }
+        (here D.operations interpreter.now passed (before_code node.now Stop)
+        (plain.State state.now))) }
+    ensures right { OnOk result (AreRightHere D.operations interpreter.now remembered.new) }
 {
     match node {
         SlotNode::Simple(_, action) => {
@@ -195,15 +139,11 @@ fn block_under<D: Domain, L: Ledger>(
     remembered: &mut Remembered<D::State>,
     steps: &mut Steps<L>,
 ) -> Result<Answer<D::State>, Memory>
-    requires right { AreRight (D.operations interpreter.now.dom.now) interpreter.now.plan.now
-        remembered.old }
+    requires right { AreRightHere D.operations interpreter.now remembered.old }
     ensures is { IfOk result (Ends leaving.old leaving.new
-        (passed (D.operations interpreter.now.dom.now) interpreter.now.plan.now
-        interpreter.now.frame.now.place interpreter.now.frame.now.sites block.now
-        (plain.State ((D.operations interpreter.now.dom.now).assume cond.now sense
-        state.now)))) }
-    ensures right { OnOk result (AreRight (D.operations interpreter.now.dom.now)
-        interpreter.now.plan.now remembered.new) }
+        (here D.operations interpreter.now passed block.now
+        (plain.State ((D.operations interpreter.now.dom.now).assume cond.now sense state.now)))) }
+    ensures right { OnOk result (AreRightHere D.operations interpreter.now remembered.new) }
 {
     let inside = interpreter
         .dom
@@ -223,14 +163,11 @@ fn if_answer<D: Domain, L: Ledger>(
     remembered: &mut Remembered<D::State>,
     steps: &mut Steps<L>,
 ) -> Result<Answer<D::State>, Memory>
-    requires right { AreRight (D.operations interpreter.now.dom.now) interpreter.now.plan.now
-        remembered.old }
+    requires right { AreRightHere D.operations interpreter.now remembered.old }
     ensures is { IfOk result (Ends leaving.old leaving.new
-        (passed (D.operations interpreter.now.dom.now) interpreter.now.plan.now
-        interpreter.now.frame.now.place interpreter.now.frame.now.sites
-        (If 0 cond.now then.now els.now Stop) (plain.State state.now))) }
-    ensures right { OnOk result (AreRight (D.operations interpreter.now.dom.now)
-        interpreter.now.plan.now remembered.new) }
+        (here D.operations interpreter.now passed (If 0 cond.now then.now els.now Stop)
+        (plain.State state.now))) }
+    ensures right { OnOk result (AreRightHere D.operations interpreter.now remembered.new) }
 {
     let left = match block_under(
         interpreter,
@@ -276,13 +213,10 @@ fn while_answer<D: Domain, L: Ledger>(
     remembered: &mut Remembered<D::State>,
     steps: &mut Steps<L>,
 ) -> Result<Answer<D::State>, Memory>
-    requires right { AreRight (D.operations interpreter.now.dom.now) interpreter.now.plan.now
-        remembered.old }
-    ensures is { IfOk result (λ a. value_of a ≡ (passed (D.operations interpreter.now.dom.now)
-        interpreter.now.plan.now interpreter.now.frame.now.place interpreter.now.frame.now.sites
-        (While n cond.now body.now Stop) (plain.State state.now)).value) }
-    ensures right { OnOk result (AreRight (D.operations interpreter.now.dom.now)
-        interpreter.now.plan.now remembered.new) }
+    requires right { AreRightHere D.operations interpreter.now remembered.old }
+    ensures is { IfOk result (λ a. value_of a ≡ here D.operations interpreter.now value_after
+        (While n cond.now body.now Stop) (plain.State state.now)) }
+    ensures right { OnOk result (AreRightHere D.operations interpreter.now remembered.new) }
 {
     match loop_head(interpreter, n, cond, body, state, remembered, steps)? {
         Fixed::At { head, leaving } => {
@@ -313,19 +247,11 @@ pub(crate) fn loop_head<D: Domain, L: Ledger>(
     remembered: &mut Remembered<D::State>,
     steps: &mut Steps<L>,
 ) -> Result<Fixed<D::State>, Memory>
-    requires right { AreRight (D.operations interpreter.now.dom.now) interpreter.now.plan.now
-        remembered.old }
+    requires right { AreRightHere D.operations interpreter.now remembered.old }
     ensures is { IfOk result (IsFixed (D.operations interpreter.now.dom.now)
-        (head_of (D.operations interpreter.now.dom.now) interpreter.now.plan.now.engine
-        (thresholds_at interpreter.now.plan.now interpreter.now.frame.now.place)
-        interpreter.now.frame.now.sites n cond.now (passed
-        (D.operations interpreter.now.dom.now) interpreter.now.plan.now
-        interpreter.now.frame.now.place interpreter.now.frame.now.sites body.now)
-        (plain.State state.now)) cond.now (passed (D.operations interpreter.now.dom.now)
-        interpreter.now.plan.now interpreter.now.frame.now.place interpreter.now.frame.now.sites
-        body.now)) }
-    ensures right { OnOk result (AreRight (D.operations interpreter.now.dom.now)
-        interpreter.now.plan.now remembered.new) }
+        (here D.operations interpreter.now head_there n cond.now body.now (plain.State state.now))
+        cond.now (here D.operations interpreter.now passed body.now)) }
+    ensures right { OnOk result (AreRightHere D.operations interpreter.now remembered.new) }
 {
     let mut now = interpreter.dom.copy(interpreter.alloc, state)?;
     for k in 0..interpreter.plan.budget() {
@@ -366,13 +292,10 @@ fn call_answer<D: Domain, L: Ledger>(
     remembered: &mut Remembered<D::State>,
     steps: &mut Steps<L>,
 ) -> Result<Answer<D::State>, Memory>
-    requires right { AreRight (D.operations interpreter.now.dom.now) interpreter.now.plan.now
-        remembered.old }
-    ensures is { IfOk result (λ a. value_of a ≡ (passed (D.operations interpreter.now.dom.now)
-        interpreter.now.plan.now interpreter.now.frame.now.place interpreter.now.frame.now.sites
-        (Call n call.now callee Stop) (plain.State state.now)).value) }
-    ensures right { OnOk result (AreRight (D.operations interpreter.now.dom.now)
-        interpreter.now.plan.now remembered.new) }
+    requires right { AreRightHere D.operations interpreter.now remembered.old }
+    ensures is { IfOk result (λ a. value_of a ≡ here D.operations interpreter.now value_after
+        (Call n call.now callee Stop) (plain.State state.now)) }
+    ensures right { OnOk result (AreRightHere D.operations interpreter.now remembered.new) }
 {
     let entered = interpreter
         .dom
@@ -398,13 +321,10 @@ fn callee_answer<D: Domain, L: Ledger>(
     remembered: &mut Remembered<D::State>,
     steps: &mut Steps<L>,
 ) -> Result<Answer<D::State>, Memory>
-    requires right { AreRight (D.operations interpreter.now.dom.now) interpreter.now.plan.now
-        remembered.old }
-    ensures is { IfOk result (λ a. value_of a ≡ calls_in (D.operations interpreter.now.dom.now)
-        interpreter.now.plan.now interpreter.now.frame.now.place interpreter.now.frame.now.sites
-        n callee (plain.State entered)) }
-    ensures right { OnOk result (AreRight (D.operations interpreter.now.dom.now)
-        interpreter.now.plan.now remembered.new) }
+    requires right { AreRightHere D.operations interpreter.now remembered.old }
+    ensures is { IfOk result (λ a. value_of a ≡
+        here D.operations interpreter.now calls_in n callee (plain.State entered)) }
+    ensures right { OnOk result (AreRightHere D.operations interpreter.now remembered.new) }
 {
     match interpreter.plan.callee(interpreter.frame.place, callee) {
         None => Ok(Answer::State(entered)),
@@ -433,13 +353,10 @@ fn procedure_answer<D: Domain, L: Ledger>(
 ) -> Result<Answer<D::State>, Memory>
     requires body { body.now ≡ body_at interpreter.now.plan.now.program
         interpreter.now.frame.now.place }
-    requires right { AreRight (D.operations interpreter.now.dom.now) interpreter.now.plan.now
-        remembered.old }
-    ensures is { IfOk result (λ a. value_of a ≡ (passed (D.operations interpreter.now.dom.now)
-        interpreter.now.plan.now interpreter.now.frame.now.place interpreter.now.frame.now.sites
-        body.now (plain.State entered)).value) }
-    ensures right { OnOk result (AreRight (D.operations interpreter.now.dom.now)
-        interpreter.now.plan.now remembered.new) }
+    requires right { AreRightHere D.operations interpreter.now remembered.old }
+    ensures is { IfOk result (λ a. value_of a ≡
+        here D.operations interpreter.now value_after body.now (plain.State entered)) }
+    ensures right { OnOk result (AreRightHere D.operations interpreter.now remembered.new) }
 {
     match recalled(interpreter, remembered, &entered)? {
         Some(end) => Ok(Answer::State(end)),
@@ -447,7 +364,8 @@ fn procedure_answer<D: Domain, L: Ledger>(
             let before = interpreter.dom.copy(interpreter.alloc, &entered)?;
             let mut leaving = Items::new(interpreter.alloc);
             let answer = block_answer(interpreter, body, entered, &mut leaving, remembered, steps)?;
-            noted(interpreter, before, answer, remembered)
+            note(interpreter, before, &answer, remembered);
+            Ok(answer)
         }
     }
 }

@@ -55,7 +55,6 @@ fn handed_on<S: Drop>(
 
 /// Adds what one more call statement hands down under one more chain, after what the last one so far did,
 /// which goes, where there is one.
-#[tactic(auto, using(crate::proofs::Turned::first_popped, crate::proofs::Turned::rest_popped))]
 fn add_handed<S: Drop>(
     alloc: Global,
     so_far: &mut Items<Handed<S>>,
@@ -71,7 +70,7 @@ fn add_handed<S: Drop>(
 }
 
 /// What the call statements of a procedure hand down, with what they do under one more chain.
-#[tactic(auto, using(crate::proofs::Turned::one_handed, crate::proofs::Turned::turned_twice))]
+#[tactic(auto, using(crate::proofs::Turned::turned_twice))]
 pub(crate) fn all_handed<S: Drop>(
     alloc: Global,
     so_far: Items<Handed<S>>,
@@ -89,7 +88,6 @@ pub(crate) fn all_handed<S: Drop>(
 }
 
 /// What is handed down to the procedure at a place, and the rest.
-#[tactic(auto, using(crate::proofs::Turned::taken_here, crate::proofs::Turned::taken_other, crate::proofs::Turned::turned_twice))]
 pub(crate) fn taken<S: Drop>(
     alloc: Global,
     calls: Items<Handed<S>>,

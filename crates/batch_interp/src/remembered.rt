@@ -3,8 +3,9 @@ ghost use Rattle.std.specs.Prelude.{◌≡◌, ◌<◌, length, IfOk, IfSome, On
 ghost use Rattle.domain_laws.specs.Operations.{Operations};
 ghost use Rattle.batch_meaning.specs.Values as plain;
 ghost use Rattle.batch_interp.specs.Answered.{value_of};
-ghost use Rattle.batch_interp.specs.Frames.{Plan, body_at, passed};
-ghost use Rattle.batch_interp.specs.Remembering.{Gives, IsRight, AreRight};
+ghost use Rattle.batch_interp.specs.Frames.{Plan, procedure_end};
+ghost use Rattle.batch_interp.specs.Remembering.{Gives, IsRight, AreRight, StaysRight};
+ghost use Rattle.batch_interp.specs.Here.{here, AreRightHere, GivesHere};
 
 use crate::Answer;
 use crate::frames::Interpreter;
@@ -48,8 +49,7 @@ impl<S: Drop> Remembered<S> {
     /// Makes the table so long that it has an index.
     fn reach(&mut self, index: usize) -> Result<(), Memory>
         ensures long { OnOk result (index < length self.new.outcomes.items) }
-        ensures right { OnOk result ((dom : Operations S) (plan : Plan) →
-            AreRight dom plan self.old → AreRight dom plan self.new) }
+        ensures right { StaysRight self.old self.new }
     {
         while self.outcomes.len() <= index {
             self.outcomes.push(None)?;
@@ -59,9 +59,8 @@ impl<S: Drop> Remembered<S> {
 
     /// Puts what a procedure gave at an index, in place of what stands there.
     fn put(&mut self, index: usize, outcome: Outcome<S>) -> Result<(), Memory>
-        ensures right { OnOk result ((dom : Operations S) (plan : Plan) →
-            AreRight dom plan self.old → IsRight dom plan (Some outcome) →
-            AreRight dom plan self.new) }
+        ensures right { (dom : Operations S) (plan : Plan) → AreRight dom plan self.old →
+            IsRight dom plan (Some outcome) → AreRight dom plan self.new }
     {
         self.reach(index)?;
         self.outcomes[index] = Some(outcome);
@@ -85,8 +84,8 @@ fn end_if_same<D: Domain>(
 ) -> Result<Option<D::State>, Memory>
     requires right { Gives (D.operations interpreter.now.dom.now) interpreter.now.plan.now
         outcome.now.place outcome.now.entered outcome.now.end }
-    ensures gives { IfOk result (λ o. IfSome o (Gives (D.operations interpreter.now.dom.now)
-        interpreter.now.plan.now interpreter.now.frame.now.place entered.now)) }
+    ensures gives { IfOk result
+        (λ o. IfSome o (GivesHere D.operations interpreter.now entered.now)) }
 {
     if outcome.place == interpreter.frame.place && outcome.entered == *entered {
         let end = interpreter.dom.copy(interpreter.alloc, &outcome.end)?;
@@ -104,8 +103,8 @@ fn end_in<D: Domain>(
 ) -> Result<Option<D::State>, Memory>
     requires right { IsRight (D.operations interpreter.now.dom.now) interpreter.now.plan.now
         outcome.now }
-    ensures gives { IfOk result (λ o. IfSome o (Gives (D.operations interpreter.now.dom.now)
-        interpreter.now.plan.now interpreter.now.frame.now.place entered.now)) }
+    ensures gives { IfOk result
+        (λ o. IfSome o (GivesHere D.operations interpreter.now entered.now)) }
 {
     match outcome {
         Some(outcome) => end_if_same(interpreter, outcome, entered),
@@ -119,10 +118,9 @@ pub(crate) fn recalled<D: Domain>(
     remembered: &Remembered<D::State>,
     entered: &D::State,
 ) -> Result<Option<D::State>, Memory>
-    requires right { AreRight (D.operations interpreter.now.dom.now) interpreter.now.plan.now
-        remembered.now }
-    ensures gives { IfOk result (λ o. IfSome o (Gives (D.operations interpreter.now.dom.now)
-        interpreter.now.plan.now interpreter.now.frame.now.place entered.now)) }
+    requires right { AreRightHere D.operations interpreter.now remembered.now }
+    ensures gives { IfOk result
+        (λ o. IfSome o (GivesHere D.operations interpreter.now entered.now)) }
 {
     let index = index_of(interpreter.frame.place, entered);
     if index < remembered.outcomes.len() {
@@ -139,14 +137,10 @@ fn remember<D: Domain>(
     end: &D::State,
     remembered: &mut Remembered<D::State>,
 ) -> Result<(), Memory>
-    requires right { AreRight (D.operations interpreter.now.dom.now) interpreter.now.plan.now
-        remembered.old }
-    requires gave { (passed (D.operations interpreter.now.dom.now) interpreter.now.plan.now
-        interpreter.now.frame.now.place interpreter.now.frame.now.sites
-        (body_at interpreter.now.plan.now.program interpreter.now.frame.now.place)
-        (plain.State entered)).value ≡ plain.State end.now }
-    ensures right { OnOk result (AreRight (D.operations interpreter.now.dom.now)
-        interpreter.now.plan.now remembered.new) }
+    requires right { AreRightHere D.operations interpreter.now remembered.old }
+    requires gave { here D.operations interpreter.now procedure_end (plain.State entered) ≡
+        plain.State end.now }
+    ensures right { AreRightHere D.operations interpreter.now remembered.new }
 {
     let place = interpreter.frame.place;
     let index = index_of(place, &entered);
@@ -159,28 +153,23 @@ fn remember<D: Domain>(
     remembered.put(index, outcome)
 }
 
-/// What the procedure of a frame gave, which is remembered if it is a state: an Over names its chain.
-pub(crate) fn noted<D: Domain>(
+/// Notes what the procedure of a frame gave, if it is a state, and if there is memory for it: an Over names
+/// its chain.
+pub(crate) fn note<D: Domain>(
     interpreter: &Interpreter<D>,
     entered: D::State,
-    answer: Answer<D::State>,
+    answer: &Answer<D::State>,
     remembered: &mut Remembered<D::State>,
-) -> Result<Answer<D::State>, Memory>
-    requires right { AreRight (D.operations interpreter.now.dom.now) interpreter.now.plan.now
-        remembered.old }
-    requires gave { (passed (D.operations interpreter.now.dom.now) interpreter.now.plan.now
-        interpreter.now.frame.now.place interpreter.now.frame.now.sites
-        (body_at interpreter.now.plan.now.program interpreter.now.frame.now.place)
-        (plain.State entered)).value ≡ value_of answer }
-    ensures same { IfOk result (λ a. value_of a ≡ value_of answer) }
-    ensures right { OnOk result (AreRight (D.operations interpreter.now.dom.now)
-        interpreter.now.plan.now remembered.new) }
+)
+    requires right { AreRightHere D.operations interpreter.now remembered.old }
+    requires gave { here D.operations interpreter.now procedure_end (plain.State entered) ≡
+        value_of answer.now }
+    ensures right { AreRightHere D.operations interpreter.now remembered.new }
 {
     match answer {
         Answer::State(end) => {
-            remember(interpreter, entered, &end, remembered)?;
-            Ok(Answer::State(end))
+            let _ = remember(interpreter, entered, end, remembered);
         }
-        Answer::Over { head, chain } => Ok(Answer::Over { head, chain }),
+        Answer::Over { head: _, chain: _ } => {}
     }
 }

@@ -3,12 +3,11 @@ ghost use Rattle.std.specs.Prelude.{◌≡◌, IfOk, OnOk, true, false, option_m
 ghost use Rattle.imp_slots.specs.Plain.{Stop, While};
 ghost use Rattle.imp_slots.specs.BlockViews.{before_code};
 ghost use Rattle.batch_meaning.specs.Values.{State, lift};
-ghost use Rattle.batch_meaning.specs.Batch.{head_of};
 ghost use Rattle.batch_meaning.specs.Places.{find};
 ghost use Rattle.batch_interp.specs.Answered.{value_of};
-ghost use Rattle.batch_interp.specs.Frames.{thresholds_at, passed};
 ghost use Rattle.batch_interp.specs.Seeking.{places, spot_of, inner_of, holds_inside};
-ghost use Rattle.batch_interp.specs.Remembering.{AreRight};
+ghost use Rattle.batch_interp.specs.Here.{here, AreRightHere};
+ghost use Rattle.batch_interp.specs.Frames.{value_after, value_at_head};
 
 use crate::Answer;
 use crate::blocks::{Fixed, block_answer, loop_head, node_answer};
@@ -86,13 +85,10 @@ pub(crate) fn behind_block<D: Domain, L: Ledger>(
     remembered: &mut Remembered<D::State>,
     steps: &mut Steps<L>,
 ) -> Result<Answer<D::State>, Memory>
-    requires right { AreRight (D.operations interpreter.now.dom.now) interpreter.now.plan.now
-        remembered.old }
-    ensures is { IfOk result (λ a. value_of a ≡ (passed (D.operations interpreter.now.dom.now)
-        interpreter.now.plan.now interpreter.now.frame.now.place interpreter.now.frame.now.sites
-        block.now (value_of before)).value) }
-    ensures right { OnOk result (AreRight (D.operations interpreter.now.dom.now)
-        interpreter.now.plan.now remembered.new) }
+    requires right { AreRightHere D.operations interpreter.now remembered.old }
+    ensures is { IfOk result (λ a. value_of a ≡
+        here D.operations interpreter.now value_after block.now (value_of before)) }
+    ensures right { OnOk result (AreRightHere D.operations interpreter.now remembered.new) }
 {
     match before {
         Answer::State(state) => {
@@ -111,13 +107,10 @@ pub(crate) fn behind_node<D: Domain, L: Ledger>(
     remembered: &mut Remembered<D::State>,
     steps: &mut Steps<L>,
 ) -> Result<Answer<D::State>, Memory>
-    requires right { AreRight (D.operations interpreter.now.dom.now) interpreter.now.plan.now
-        remembered.old }
-    ensures is { IfOk result (λ a. value_of a ≡ (passed (D.operations interpreter.now.dom.now)
-        interpreter.now.plan.now interpreter.now.frame.now.place interpreter.now.frame.now.sites
-        (before_code node.now Stop) (value_of before)).value) }
-    ensures right { OnOk result (AreRight (D.operations interpreter.now.dom.now)
-        interpreter.now.plan.now remembered.new) }
+    requires right { AreRightHere D.operations interpreter.now remembered.old }
+    ensures is { IfOk result (λ a. value_of a ≡ here D.operations interpreter.now value_after
+        (before_code node.now Stop) (value_of before)) }
+    ensures right { OnOk result (AreRightHere D.operations interpreter.now remembered.new) }
 {
     match before {
         Answer::State(state) => {
@@ -138,16 +131,10 @@ fn head_of_state<D: Domain, L: Ledger>(
     remembered: &mut Remembered<D::State>,
     steps: &mut Steps<L>,
 ) -> Result<Answer<D::State>, Memory>
-    requires right { AreRight (D.operations interpreter.now.dom.now) interpreter.now.plan.now
-        remembered.old }
-    ensures is { IfOk result (λ a. value_of a ≡ (head_of (D.operations interpreter.now.dom.now)
-        interpreter.now.plan.now.engine (thresholds_at interpreter.now.plan.now
-        interpreter.now.frame.now.place) interpreter.now.frame.now.sites n cond.now
-        (passed (D.operations interpreter.now.dom.now) interpreter.now.plan.now
-        interpreter.now.frame.now.place interpreter.now.frame.now.sites body.now)
-        (State state.now)).value) }
-    ensures right { OnOk result (AreRight (D.operations interpreter.now.dom.now)
-        interpreter.now.plan.now remembered.new) }
+    requires right { AreRightHere D.operations interpreter.now remembered.old }
+    ensures is { IfOk result (λ a. value_of a ≡
+        here D.operations interpreter.now value_at_head n cond.now body.now (State state.now)) }
+    ensures right { OnOk result (AreRightHere D.operations interpreter.now remembered.new) }
 {
     match loop_head(interpreter, n, cond, body, state, remembered, steps)? {
         Fixed::At { head, leaving: _ } => Ok(Answer::State(head)),
@@ -165,16 +152,10 @@ pub(crate) fn head_answer<D: Domain, L: Ledger>(
     remembered: &mut Remembered<D::State>,
     steps: &mut Steps<L>,
 ) -> Result<Answer<D::State>, Memory>
-    requires right { AreRight (D.operations interpreter.now.dom.now) interpreter.now.plan.now
-        remembered.old }
-    ensures is { IfOk result (λ a. value_of a ≡ (head_of (D.operations interpreter.now.dom.now)
-        interpreter.now.plan.now.engine (thresholds_at interpreter.now.plan.now
-        interpreter.now.frame.now.place) interpreter.now.frame.now.sites n cond.now
-        (passed (D.operations interpreter.now.dom.now) interpreter.now.plan.now
-        interpreter.now.frame.now.place interpreter.now.frame.now.sites body.now)
-        (value_of before)).value) }
-    ensures right { OnOk result (AreRight (D.operations interpreter.now.dom.now)
-        interpreter.now.plan.now remembered.new) }
+    requires right { AreRightHere D.operations interpreter.now remembered.old }
+    ensures is { IfOk result (λ a. value_of a ≡
+        here D.operations interpreter.now value_at_head n cond.now body.now (value_of before)) }
+    ensures right { OnOk result (AreRightHere D.operations interpreter.now remembered.new) }
 {
     match before {
         Answer::State(state) => head_of_state(
@@ -200,16 +181,10 @@ pub(crate) fn head_from<D: Domain, L: Ledger>(
     remembered: &mut Remembered<D::State>,
     steps: &mut Steps<L>,
 ) -> Result<Answer<D::State>, Memory>
-    requires right { AreRight (D.operations interpreter.now.dom.now) interpreter.now.plan.now
-        remembered.old }
-    ensures is { IfOk result (λ a. value_of a ≡ (head_of (D.operations interpreter.now.dom.now)
-        interpreter.now.plan.now.engine (thresholds_at interpreter.now.plan.now
-        interpreter.now.frame.now.place) interpreter.now.frame.now.sites n cond.now
-        (passed (D.operations interpreter.now.dom.now) interpreter.now.plan.now
-        interpreter.now.frame.now.place interpreter.now.frame.now.sites body.now)
-        (value_of before.now)).value) }
-    ensures right { OnOk result (AreRight (D.operations interpreter.now.dom.now)
-        interpreter.now.plan.now remembered.new) }
+    requires right { AreRightHere D.operations interpreter.now remembered.old }
+    ensures is { IfOk result (λ a. value_of a ≡
+        here D.operations interpreter.now value_at_head n cond.now body.now (value_of before.now)) }
+    ensures right { OnOk result (AreRightHere D.operations interpreter.now remembered.new) }
 {
     match before {
         Answer::State(state) => head_of_state(interpreter, n, cond, body, state, remembered, steps),
@@ -243,16 +218,10 @@ pub(crate) fn seek<'a, D: Domain, L: Ledger>(
     remembered: &mut Remembered<D::State>,
     steps: &mut Steps<L>,
 ) -> Result<Option<Seen<'a, D::State>>, Memory>
-    requires right { AreRight (D.operations interpreter.now.dom.now) interpreter.now.plan.now
-        remembered.old }
-    ensures is { IfOk result (λ s. option_map (spot_of (D.operations interpreter.now.dom.now)
-        interpreter.now.plan.now interpreter.now.frame.now.place
-        interpreter.now.frame.now.sites) s ≡ find number
-        (places (D.operations interpreter.now.dom.now) interpreter.now.plan.now
-        interpreter.now.frame.now.place interpreter.now.frame.now.sites block.now
-        (value_of before))) }
-    ensures right { OnOk result (AreRight (D.operations interpreter.now.dom.now)
-        interpreter.now.plan.now remembered.new) }
+    requires right { AreRightHere D.operations interpreter.now remembered.old }
+    ensures is { IfOk result (λ s. option_map (here D.operations interpreter.now spot_of) s ≡
+        find number (here D.operations interpreter.now places block.now (value_of before))) }
+    ensures right { OnOk result (AreRightHere D.operations interpreter.now remembered.new) }
 {
     let mut now = before;
     for node in block.statements() {
@@ -277,16 +246,10 @@ fn seek_inside<'a, D: Domain, L: Ledger>(
     remembered: &mut Remembered<D::State>,
     steps: &mut Steps<L>,
 ) -> Result<Option<Seen<'a, D::State>>, Memory>
-    requires right { AreRight (D.operations interpreter.now.dom.now) interpreter.now.plan.now
-        remembered.old }
-    ensures is { IfOk result (λ s. option_map (spot_of (D.operations interpreter.now.dom.now)
-        interpreter.now.plan.now interpreter.now.frame.now.place
-        interpreter.now.frame.now.sites) s ≡ find number
-        (inner_of (D.operations interpreter.now.dom.now) interpreter.now.plan.now
-        interpreter.now.frame.now.place interpreter.now.frame.now.sites node.now
-        (value_of before))) }
-    ensures right { OnOk result (AreRight (D.operations interpreter.now.dom.now)
-        interpreter.now.plan.now remembered.new) }
+    requires right { AreRightHere D.operations interpreter.now remembered.old }
+    ensures is { IfOk result (λ s. option_map (here D.operations interpreter.now spot_of) s ≡
+        find number (here D.operations interpreter.now inner_of node.now (value_of before))) }
+    ensures right { OnOk result (AreRightHere D.operations interpreter.now remembered.new) }
 {
     match node {
         SlotNode::If(_, cond, then, els) => {
@@ -345,17 +308,11 @@ fn seek_under<'a, D: Domain, L: Ledger>(
     remembered: &mut Remembered<D::State>,
     steps: &mut Steps<L>,
 ) -> Result<Option<Seen<'a, D::State>>, Memory>
-    requires right { AreRight (D.operations interpreter.now.dom.now) interpreter.now.plan.now
-        remembered.old }
-    ensures is { IfOk result (λ s. option_map (spot_of (D.operations interpreter.now.dom.now)
-        interpreter.now.plan.now interpreter.now.frame.now.place
-        interpreter.now.frame.now.sites) s ≡ find number
-        (places (D.operations interpreter.now.dom.now) interpreter.now.plan.now
-        interpreter.now.frame.now.place interpreter.now.frame.now.sites block.now
-        (lift ((D.operations interpreter.now.dom.now).assume cond.now sense)
-        (value_of before)))) }
-    ensures right { OnOk result (AreRight (D.operations interpreter.now.dom.now)
-        interpreter.now.plan.now remembered.new) }
+    requires right { AreRightHere D.operations interpreter.now remembered.old }
+    ensures is { IfOk result (λ s. option_map (here D.operations interpreter.now spot_of) s ≡
+        find number (here D.operations interpreter.now places block.now
+        (lift ((D.operations interpreter.now.dom.now).assume cond.now sense) (value_of before)))) }
+    ensures right { OnOk result (AreRightHere D.operations interpreter.now remembered.new) }
 {
     let inside = assumed(interpreter, cond, sense, &before, steps)?;
     seek(interpreter, block, inside, number, remembered, steps)

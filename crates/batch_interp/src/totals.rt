@@ -1,28 +1,27 @@
 //! What is known before each statement of a procedure that has a check, under all its chains.
-ghost use Rattle.std.specs.Prelude.{◌≡◌, ◌<◌, ◌++◌, ◌∷◌, [], length, map, reverse, IfOk, OnOk};
+ghost use Rattle.std.specs.Prelude.{◌≡◌, ◌<◌, ◌∷◌, [], length, map, reverse, IfOk, OnOk};
 ghost use Rattle.imp_slots.specs.Fits.{IsChecked};
 ghost use Rattle.imp_chains.specs.Chains.{chains};
 ghost use Rattle.batch_meaning.specs.Report.{checked_in};
 ghost use Rattle.batch_interp.specs.Answered.{value_of};
 ghost use Rattle.batch_interp.specs.Frames.{body_at};
-ghost use Rattle.batch_interp.specs.Handing.{told_of, calls_from, AreEntered, AreHandedBy};
-ghost use Rattle.batch_interp.specs.Reporting.{befores, claims};
+ghost use Rattle.batch_interp.specs.Handing.{AreEntered, AreHandedBy};
+ghost use Rattle.batch_interp.specs.Reporting.{claims};
 ghost use Rattle.batch_interp.specs.Summing.{sum_with};
 ghost use Rattle.batch_interp.specs.Totalling.{first_of, behind_first, all_added, AreTotals};
 ghost use Rattle.batch_interp.specs.Remembering.{AreRight};
+ghost use Rattle.batch_interp.specs.Added.{Adds};
 
 use crate::Answer;
-use crate::befores::add_befores;
 use crate::calls::{Handed, all_handed};
-use crate::frames::{Interpreter, Plan};
+use crate::frames::Plan;
+use crate::gather::gather_entered;
 use crate::pieces::last_first;
 use crate::remembered::Remembered;
-use crate::spots::copy_of;
 use crate::sums::added;
 use crate::walks::Entered;
 use base_values::{Items, Memory};
 use domain_laws::{Domain, Steps};
-use imp_slots::SlotBlock;
 use std::alloc::Global;
 use std::sync::ledger::Ledger;
 
@@ -32,47 +31,6 @@ use std::sync::ledger::Ledger;
 pub(crate) struct Summed<S> {
     pub(crate) known: Items<Answer<S>>,
     pub(crate) calls: Items<Handed<S>>,
-}
-
-/// What is known before each statement with a check of a procedure that is entered. The procedures
-/// that its calls enter are added.
-fn befores_of<D: Domain, L: Ledger>(
-    alloc: Global,
-    dom: &D,
-    plan: &Plan,
-    body: &SlotBlock,
-    entered: &Entered<D::State>,
-    calls: &mut Items<Entered<D::State>>,
-    remembered: &mut Remembered<D::State>,
-    steps: &mut Steps<L>,
-) -> Result<Items<Answer<D::State>>, Memory>
-    requires right { AreRight (D.operations dom.now) plan.now remembered.old }
-    ensures is { IfOk result (λ vs. map value_of vs ≡ befores
-        (D.operations dom.now) plan.now entered.now.frame.place entered.now.frame.sites body.now
-        (value_of entered.now.before)) }
-    ensures calls { OnOk result (map told_of calls.new ≡ map told_of calls.old
-        ++ calls_from (D.operations dom.now) plan.now entered.now.frame.place
-        entered.now.frame.sites body.now (value_of entered.now.before)) }
-    ensures right { OnOk result (AreRight (D.operations dom.now) plan.now remembered.new) }
-{
-    let before = copy_of(alloc, dom, &entered.before)?;
-    let mut found = Items::new(alloc);
-    let interpreter = Interpreter {
-        alloc,
-        dom,
-        plan,
-        frame: &entered.frame,
-    };
-    add_befores(
-        &interpreter,
-        body,
-        before,
-        &mut found,
-        calls,
-        remembered,
-        steps,
-    )?;
-    Ok(found)
 }
 
 /// Adds one more, joined to the last one so far, which goes, where there is one.
@@ -87,9 +45,9 @@ fn add_total<D: Domain, L: Ledger>(
 ) -> Result<(), Memory>
     ensures rest { OnOk result (behind_first (map value_of (reverse so_far.old)) ≡
         map value_of (reverse so_far.new)) }
-    ensures added { OnOk result (map value_of all.new ≡ map value_of all.old
-        ++ sum_with (D.operations dom.now) (first_of (map value_of (reverse so_far.old)))
-        (value_of next) ∷ []) }
+    ensures added { OnOk result (Adds value_of all.old all.new
+        (sum_with (D.operations dom.now) (first_of (map value_of (reverse so_far.old)))
+        (value_of next) ∷ [])) }
 {
     let total = added(alloc, dom, so_far.pop(), next, steps)?;
     all.push(total)
@@ -97,7 +55,6 @@ fn add_total<D: Domain, L: Ledger>(
 
 /// Each of these, joined to the one so far at its place, where there is one. Both come with the last
 /// one first.
-#[tactic(auto, using(crate::proofs::Fronts::one_added))]
 fn all_added<D: Domain, L: Ledger>(
     alloc: Global,
     dom: &D,
@@ -143,8 +100,11 @@ pub(crate) fn totals<D: Domain, L: Ledger>(
     let mut known = Items::new(alloc);
     let mut handed = Items::new(alloc);
     for next in entered {
+        let mut more = Items::new(alloc);
         let mut calls = Items::new(alloc);
-        let more = befores_of(alloc, dom, plan, body, next, &mut calls, remembered, steps)?;
+        gather_entered(
+            alloc, dom, plan, body, next, &mut more, &mut calls, remembered, steps,
+        )?;
         known = all_added(alloc, dom, last_first(known), last_first(more), steps)?;
         handed = all_handed(alloc, handed, calls)?;
     }

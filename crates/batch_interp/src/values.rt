@@ -5,6 +5,7 @@ ghost use Rattle.batch_meaning.specs.Places.{if_some, find, head_value, value_in
 ghost use Rattle.batch_interp.specs.Answered.{value_of};
 ghost use Rattle.batch_interp.specs.Frames.{earlier};
 ghost use Rattle.batch_interp.specs.Seeking.{places, head_at};
+ghost use Rattle.batch_interp.specs.Here.{here};
 
 use crate::Answer;
 use crate::frames::{Interpreter, Plan};
@@ -27,9 +28,8 @@ fn before_number<D: Domain, L: Ledger>(
     steps: &mut Steps<L>,
 ) -> Result<Option<Answer<D::State>>, Memory>
     ensures is { IfOk result (λ o. option_map value_of o ≡
-        if_some (find number (places (D.operations interpreter.now.dom.now)
-        interpreter.now.plan.now interpreter.now.frame.now.place interpreter.now.frame.now.sites
-        body.now (value_of before))) (λ s. Some s.before)) }
+        if_some (find number (here D.operations interpreter.now places body.now (value_of before)))
+        (λ s. Some s.before)) }
 {
     let mut remembered = Remembered::new(interpreter.alloc);
     match seek(interpreter, body, before, number, &mut remembered, steps)? {
@@ -47,9 +47,8 @@ fn after_number<D: Domain, L: Ledger>(
     steps: &mut Steps<L>,
 ) -> Result<Option<Answer<D::State>>, Memory>
     ensures is { IfOk result (λ o. option_map value_of o ≡
-        if_some (find number (places (D.operations interpreter.now.dom.now)
-        interpreter.now.plan.now interpreter.now.frame.now.place interpreter.now.frame.now.sites
-        body.now (value_of before))) (λ s. Some s.after)) }
+        if_some (find number (here D.operations interpreter.now places body.now (value_of before)))
+        (λ s. Some s.after)) }
 {
     let mut remembered = Remembered::new(interpreter.alloc);
     match seek(interpreter, body, before, number, &mut remembered, steps)? {
@@ -68,8 +67,7 @@ fn head_of_seen<D: Domain, L: Ledger>(
     steps: &mut Steps<L>,
 ) -> Result<Option<Answer<D::State>>, Memory>
     ensures is { IfOk result (λ o. option_map value_of o ≡
-        if_some (head_at (D.operations interpreter.now.dom.now) interpreter.now.plan.now
-        interpreter.now.frame.now.place interpreter.now.frame.now.sites seen.entry.node.now
+        if_some (here D.operations interpreter.now head_at seen.entry.node.now
         (value_of seen.entry.before)) (λ h. Some h.value)) }
 {
     match seen.node {
@@ -99,9 +97,8 @@ fn head_of_number<D: Domain, L: Ledger>(
     steps: &mut Steps<L>,
 ) -> Result<Option<Answer<D::State>>, Memory>
     ensures is { IfOk result (λ o. option_map value_of o ≡
-        if_some (find number (places (D.operations interpreter.now.dom.now)
-        interpreter.now.plan.now interpreter.now.frame.now.place interpreter.now.frame.now.sites
-        body.now (value_of before))) head_value) }
+        if_some (find number (here D.operations interpreter.now places body.now (value_of before)))
+        head_value) }
 {
     let mut remembered = Remembered::new(interpreter.alloc);
     match seek(interpreter, body, before, number, &mut remembered, steps)? {

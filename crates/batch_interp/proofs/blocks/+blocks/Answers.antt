@@ -7,7 +7,6 @@ use Rattle.batch_meaning.specs.Batch.{with_leaving, iterate, head_of}
 use Rattle.batch_interp.specs.Frames.{thresholds_at, calls_in, passed}
 use Rattle.batch_interp.specs.Answered.{value_of}
 use Rattle.batch_interp.specs.declared.frames.CallFrame.{CallFrame}
-use Rattle.batch_interp.proofs.Lists.{if_ok_along}
 use Rattle.batch_interp.specs.Passing.{states}
 use Rattle.batch_interp.proofs.BlockLemmas.{ends_along, block_on, block_left, block_end, while_at, while_over, of_callee, of_callee_body, gave_before, ends_value, stopped, round_over, round_stops, round_goes_on}
 use Rattle.batch_interp.proofs.Procedures.{call_gone}
@@ -96,8 +95,8 @@ procedure_answer-returns-in-Some g t c =
       right = c.requires.right;
     }
 
-pub procedure_answer-noted-requires : goal.procedure_answer-noted-requires
-procedure_answer-noted-requires g t c =
+pub procedure_answer-note-requires : goal.procedure_answer-note-requires
+procedure_answer-note-requires g t c =
     let dom = g.D.Domain.operations c.args.interpreter.now.dom.now in
     let plan = c.args.interpreter.now.plan.now in
     let place = c.args.interpreter.now.frame.now.place in
@@ -114,8 +113,8 @@ procedure_answer-returns-in_ok-answer-in-None g t c =
     let place = c.args.interpreter.now.frame.now.place in
     let z = c.args.interpreter.now.frame.now.sites in
     record {
-      is = if_ok_along c.noted.result value_of _ _ c.noted.ensures.same (ends_value c.new-leaving.result c.block_answer.new.leaving (passed dom plan place z c.args.body.now (plain.State c.args.entered)) c.in_ok-answer-in-None.answer c.in_ok-answer-in-None.ensures.is);
-      right = c.noted.ensures.right;
+      is = ends_value c.new-leaving.result c.block_answer.new.leaving (passed dom plan place z c.args.body.now (plain.State c.args.entered)) c.in_ok-answer-in-None.answer c.in_ok-answer-in-None.ensures.is;
+      right = c.note.ensures.right;
     }
 
 pub loop_head-returns-in-Over : goal.loop_head-returns-in-Over

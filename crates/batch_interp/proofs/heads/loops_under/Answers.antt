@@ -20,9 +20,9 @@ loop-next-preserved g c =
     let body = c.body-body.result.now in
     let at = all2_at (IsEnteredBy dom plan place) (chains plan.program place) c.args.entered.now i e c.requires.entered c.loop-next-test.true c.next-item.is in
     record {
-      told = loops_next dom plan place i body e at c.loop-next.loops c.push.new.self c.in_ok-under.under c.requires.checked c.requires.within c.body-body.ensures.is c.in_ok-under.ensures.chain c.in_ok-under.ensures.is c.in_ok-push.ensures.added c.loop-next.invariant.told;
-      handed = columns_next dom plan place i body e at c.new-calls.result c.heads_of.new.calls c.loop-next.handed c.in_ok-handed.handed c.requires.checked c.requires.within c.body-body.ensures.is c.new-calls.ensures.empty c.in_ok-under.ensures.calls c.in_ok-handed.ensures.is c.loop-next.invariant.handed;
-      right = c.in_ok-under.ensures.right;
+      told = loops_next dom plan place i body e at c.new-heads.result c.loop-next.loops c.push.new.self _ c.requires.checked c.requires.within c.body-body.ensures.is c.in_ok-chain.ensures.is c.new-heads.ensures.empty c.in_ok-gather_entered.ensures.added c.in_ok-push.ensures.added c.loop-next.invariant.told;
+      handed = columns_next dom plan place i body e at c.new-calls.result c.gather_entered.new.calls c.loop-next.handed c.in_ok-handed.handed c.requires.checked c.requires.within c.body-body.ensures.is c.new-calls.ensures.empty c.in_ok-gather_entered.ensures.calls c.in_ok-handed.ensures.is c.loop-next.invariant.handed;
+      right = c.in_ok-gather_entered.ensures.right;
     }
 
 pub returns : goal.returns

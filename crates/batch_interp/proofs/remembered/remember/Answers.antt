@@ -1,5 +1,3 @@
-use Rattle.batch_interp.specs.Remembering.{AreRight}
-use Rattle.batch_interp.proofs.Lists.{on_ok_as}
 use Rattle.batch_interp.proofs.Remembering.{gives_always}
 use Rattle.batch_interp.proofs.remembered.remember.Goals as goal
 
@@ -8,4 +6,4 @@ returns g c =
     let dom = g.D.Domain.operations c.args.interpreter.now.dom.now in
     let plan = c.args.interpreter.now.plan.now in
     let frame = c.args.interpreter.now.frame.now in
-    record { right = on_ok_as c.put.result _ (AreRight dom plan c.put.new.self) c.put.ensures.right (λ told. told dom plan c.requires.right (gives_always dom plan frame.place frame.sites c.args.entered c.args.end.now c.in_ok-end.end c.requires.gave c.in_ok-end.ensures.same)) }
+    record { right = c.put.ensures.right dom plan c.requires.right (gives_always dom plan frame.place frame.sites c.args.entered c.args.end.now c.in_ok-end.end c.requires.gave c.in_ok-end.ensures.same) }

@@ -32,9 +32,9 @@ loop-next-preserved g c =
     let body = c.body-body.result.now in
     let at = all2_at (IsEnteredBy dom plan place) (chains plan.program place) c.args.entered.now i e c.requires.entered c.loop-next-test.true c.next-item.is in
     record {
-      known = totals_next dom plan place i body e at c.loop-next.known c.in_ok-more.more c.last_first.result c.last_first-in-loop-next.result c.in_ok-known.known c.requires.checked c.requires.within c.body-body.ensures.is c.in_ok-more.ensures.is c.last_first.ensures.is c.last_first-in-loop-next.ensures.is c.in_ok-known.ensures.is c.loop-next.invariant.known;
-      handed = columns_next dom plan place i body e at c.new-calls.result c.befores_of.new.calls c.loop-next.handed c.in_ok-handed.handed c.requires.checked c.requires.within c.body-body.ensures.is c.new-calls.ensures.empty c.in_ok-more.ensures.calls c.in_ok-handed.ensures.is c.loop-next.invariant.handed;
-      right = c.in_ok-more.ensures.right;
+      known = totals_next dom plan place i body e at c.new-more.result c.loop-next.known c.gather_entered.new.found c.last_first.result c.last_first-in-loop-next.result c.in_ok-known.known c.requires.checked c.requires.within c.body-body.ensures.is c.new-more.ensures.empty c.in_ok-gather_entered.ensures.added c.last_first.ensures.is c.last_first-in-loop-next.ensures.is c.in_ok-known.ensures.is c.loop-next.invariant.known;
+      handed = columns_next dom plan place i body e at c.new-calls.result c.gather_entered.new.calls c.loop-next.handed c.in_ok-handed.handed c.requires.checked c.requires.within c.body-body.ensures.is c.new-calls.ensures.empty c.in_ok-gather_entered.ensures.calls c.in_ok-handed.ensures.is c.loop-next.invariant.handed;
+      right = c.in_ok-gather_entered.ensures.right;
     }
 
 pub returns : goal.returns
