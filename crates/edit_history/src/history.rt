@@ -1,14 +1,17 @@
 //! Histories of programs.
-ghost use Rattle.std.specs.Prelude.{◌≡◌, ◌+◌, ◌<◌, ◌≤◌, [], ◌∷◌, List, length, take, IfOk, OnOk, MatchOption, IsSome, ◌↔◌};
+ghost use Rattle.std.specs.Prelude.{ℕ, ◌≡◌, ◌+◌, ◌<◌, ◌≤◌, [], ◌∷◌, List, length, take, IfOk, OnOk, MatchOption, IsSome, ◌↔◌};
+ghost use Rattle.std.specs.List.{All};
 ghost use Rattle.std.specs.VecDeque.{deque_capacity};
 ghost use Rattle.imp_syntax.specs.Plain.{Procedure};
 ghost use Rattle.imp_check.specs.Fine.{IsFine};
-ghost use Rattle.imp_table.specs.Changes.{AreWithin, Makes};
+ghost use Rattle.imp_table.specs.Changes.{Makes};
+ghost use Rattle.imp_table.specs.Pages.{HasPlace, HavePlaces, IsNeeded};
+ghost use Rattle.imp_table.specs.declared.change.Put.{Put};
 ghost use Rattle.edit_history.specs.After.{LeadsOn, programs_by};
-ghost use Rattle.edit_history.specs.History.{AreKept};
+ghost use Rattle.edit_history.specs.History.{AllNeeded, AreKept};
 
 use base_values::Memory;
-use imp_table::{Change, Table};
+use imp_table::{Change, NeededPages, Table};
 use std::alloc::Global;
 use std::collections::VecDeque;
 use std::marker::Model;
@@ -36,12 +39,12 @@ impl Model for History {
 
     ghost view = { λ a. record {
       now = a.table.program;
-      room = a.table.room;
+      places = a.table.places;
       past = programs_by a.table.program a.past.items;
       future = programs_by a.table.program a.future.items;
     } };
 
-    ghost invariant = { λ a. AreKept a.table.program a.table.room a.past.items a.future.items
+    ghost invariant = { λ a. AreKept a.table.program a.table.places a.past.items a.future.items
         (deque_capacity a.past) (deque_capacity a.future) };
 }
 
@@ -50,7 +53,7 @@ impl History {
     /// and forth needs.
     pub fn new(alloc: Global, table: Table) -> Result<History, Memory>
         ensures now { IfOk result (λ h. h.now ≡ table.program) }
-        ensures room { IfOk result (λ h. h.room ≡ table.room) }
+        ensures places { IfOk result (λ h. h.places ≡ table.places) }
         ensures past { IfOk result (λ h. h.past ≡ []) }
         ensures future { IfOk result (λ h. h.future ≡ []) }
     {
@@ -67,27 +70,56 @@ impl History {
     /// The table of the present program.
     pub fn table(&self) -> &Table
         ensures is { result.now.program ≡ self.now.now }
-        ensures room { result.now.room ≡ self.now.room }
+        ensures places { result.now.places ≡ self.now.places }
     {
         &self.table
     }
 
-    /// Makes places of the table below a number. When memory runs out it keeps those that it has.
-    pub fn make_room(&mut self, below: u32) -> Result<(), Memory>
-        ensures room { OnOk result (below ≤ self.new.room) }
-        ensures no_less { self.old.room ≤ self.new.room }
+    /// Makes the places of the table that a change needs. Where many pages were made, it gives back those first that neither
+    /// a statement nor a change of this history needs. When memory runs out the history can do all that it could.
+    pub fn make_room(&mut self, alloc: Global, change: &Change) -> Result<(), Memory>
+        ensures places { OnOk result
+            (All (λ (p : Put). HasPlace self.new.places p.number) change.now.entries.items) }
         ensures now { self.new.now ≡ self.old.now }
         ensures past { self.new.past ≡ self.old.past }
         ensures future { self.new.future ≡ self.old.future }
     {
-        self.table.make_room(below)
+        if self.table.is_crowded() {
+            // Where there is no memory to find the pages, they stay.
+            let _ = self.drop_pages(alloc);
+        }
+        self.make_places(alloc, change)
+    }
+
+    /// Makes the places of the table that a change needs.
+    fn make_places(&mut self, alloc: Global, change: &Change) -> Result<(), Memory>
+        ensures places { OnOk result
+            (All (λ (p : Put). HasPlace self.new.places p.number) change.now.entries.items) }
+        ensures now { self.new.now ≡ self.old.now }
+        ensures past { self.new.past ≡ self.old.past }
+        ensures future { self.new.future ≡ self.old.future }
+    {
+        self.table.make_room(alloc, change)
+    }
+
+    /// Gives back the pages of the table that neither a statement nor a change of this history needs.
+    fn drop_pages(&mut self, alloc: Global) -> Result<(), Memory>
+        ensures now { self.new.now ≡ self.old.now }
+        ensures past { self.new.past ≡ self.old.past }
+        ensures future { self.new.future ≡ self.old.future }
+    {
+        let mut needed = NeededPages::none(alloc);
+        add_all(&self.past, &mut needed)?;
+        add_all(&self.future, &mut needed)?;
+        self.table.drop_pages(alloc, &needed);
+        Ok(())
     }
 
     /// The change that leads to the program after, or `None` where there is none.
     pub fn behind(&self) -> Option<&Change>
         ensures there { IsSome result ↔ (0 < length self.now.past) }
         ensures is { MatchOption result (self.now.past ≡ [])
-            (λ change. LeadsOn self.now.room self.now.now change.now self.now.past) }
+            (λ change. LeadsOn self.now.places self.now.now change.now self.now.past) }
     {
         self.past.front()
     }
@@ -96,7 +128,7 @@ impl History {
     pub fn ahead(&self) -> Option<&Change>
         ensures there { IsSome result ↔ (0 < length self.now.future) }
         ensures is { MatchOption result (self.now.future ≡ [])
-            (λ change. LeadsOn self.now.room self.now.now change.now self.now.future) }
+            (λ change. LeadsOn self.now.places self.now.now change.now self.now.future) }
     {
         self.future.front()
     }
@@ -107,11 +139,11 @@ impl History {
         ghost program: { List Procedure }
         requires makes { Makes self.old.now change program }
         requires fine { IsFine program }
-        requires within { AreWithin self.old.room change.entries.items }
+        requires there { HavePlaces self.old.places change.entries.items }
         ensures now { self.new.now ≡ program }
         ensures past { self.new.past ≡ take 64 (self.old.now ∷ self.old.past) }
         ensures future { self.new.future ≡ [] }
-        ensures room { self.new.room ≡ self.old.room }
+        ensures places { self.new.places ≡ self.old.places }
     {
         self.table.exchange(&mut change);
         self.future.clear();
@@ -124,7 +156,7 @@ impl History {
         requires there { 0 < length self.old.past }
         ensures now { self.new.now ∷ self.new.past ≡ self.old.past }
         ensures future { self.new.future ≡ self.old.now ∷ self.old.future }
-        ensures room { self.new.room ≡ self.old.room }
+        ensures places { self.new.places ≡ self.old.places }
     {
         go(&mut self.table, &mut self.past, &mut self.future);
     }
@@ -134,10 +166,23 @@ impl History {
         requires there { 0 < length self.old.future }
         ensures now { self.new.now ∷ self.new.future ≡ self.old.future }
         ensures past { self.new.past ≡ self.old.now ∷ self.old.past }
-        ensures room { self.new.room ≡ self.old.room }
+        ensures places { self.new.places ≡ self.old.places }
     {
         go(&mut self.table, &mut self.future, &mut self.past);
     }
+}
+
+/// Adds the pages that these changes need.
+fn add_all(changes: &VecDeque<Change>, needed: &mut NeededPages) -> Result<(), Memory>
+    ensures added { OnOk result (AllNeeded needed.new changes.now.items) }
+    ensures still { (n : ℕ) → IsNeeded needed.old n → IsNeeded needed.new n }
+{
+    let mut place = 0;
+    while let Some(change) = changes.get(place) {
+        needed.add(change)?;
+        place += 1;
+    }
+    Ok(())
 }
 
 /// Removes the change furthest away where there are 64.
@@ -154,14 +199,14 @@ fn leave_room(past: &mut VecDeque<Change>)
 /// Exchanges the nearest change of one side with the table; what is left is then the nearest of the other side.
 fn go(table: &mut Table, from: &mut VecDeque<Change>, onto: &mut VecDeque<Change>)
     requires there { 0 < length from.old.items }
-    requires kept { AreKept table.old.program table.old.room from.old.items onto.old.items
+    requires kept { AreKept table.old.program table.old.places from.old.items onto.old.items
         (deque_capacity from.old) (deque_capacity onto.old) }
     ensures now { table.new.program ∷ programs_by table.new.program from.new.items ≡
         programs_by table.old.program from.old.items }
     ensures onto { programs_by table.new.program onto.new.items ≡ table.old.program
         ∷ programs_by table.old.program onto.old.items }
-    ensures room { table.new.room ≡ table.old.room }
-    ensures still { AreKept table.new.program table.new.room from.new.items onto.new.items
+    ensures places { table.new.places ≡ table.old.places }
+    ensures still { AreKept table.new.program table.new.places from.new.items onto.new.items
         (deque_capacity from.new) (deque_capacity onto.new) }
 {
     let Some(mut change) = from.pop_front() else {

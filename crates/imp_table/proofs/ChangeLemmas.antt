@@ -12,7 +12,7 @@ use Rattle.imp_check.specs.Entries.{entries_of, entry_of}
 use Rattle.imp_check.specs.declared.entry.Entry.{Entry}
 use Rattle.imp_table.specs.declared.change.Put.{Put}
 use Rattle.imp_check.specs.Tables.{entry_in}
-use Rattle.imp_check.proofs.PutLemmas.{other, entry_past}
+use Rattle.imp_check.proofs.PutLemmas.{other}
 use Rattle.imp_check.proofs.RebuildLemmas.{entry_numbers, all_numbers}
 use Rattle.imp_table.proofs.OverlayLemmas.{put_numbers, overlay_more, overlay_other}
 use Rattle.imp_table.proofs.FallingLemmas.{falling_more}
@@ -43,46 +43,66 @@ module _ (xs ys zs : List (Option Entry)) (o : Option Entry) (e : xs ≡ ys ++ o
   taken : o ≡ entry_in zs (length ys)
   taken = sym (at_end ys o) ∙ ap (λ ws. entry_in ws (length ys)) (sym e) ∙ kept (length ys) (omega (arith, more))
 
-  -- It is put, below a number ..
-  module _ (at : ℕ → Option Entry) (b : ℕ) (ps : List Put) (high : All (λ (q : Put). length xs ≤ q.number) ps) (comes : (m : ℕ) → length xs ≤ m → m < b → overlay ps at m ≡ entry_in zs m) where
-    higher : All (λ (q : Put). suc (length ys) ≤ q.number) ps
-    higher = λ i d h. omega (arith, more, high i d h)
-
-    free : Absent (length ys) (put_numbers ps)
-    free = apart (length ys) ps higher
-
-    pub comes_put : (p : Put) → p.number ≡ length ys → p.entry ≡ o → (m : ℕ) → length ys ≤ m → m < b → overlay (ps ++ p ∷ []) at m ≡ entry_in zs m
-    comes_put p n w m h l =
-        overlay_more ps p at m (subst (λ k. Absent k (put_numbers ps)) (sym n) free)
-        ∙ ap (λ k. cond (k == m) p.entry (overlay ps at m)) n
-        ∙ go (length ys == m) refl
+  -- It is put where those taken before it are, or left out, where nothing stands there.
+  module _ (f : ℕ → Option Entry) (moved : (m : ℕ) → length xs ≤ m → f m ≡ entry_in zs m) (free : (m : ℕ) → m < length xs → f m ≡ None) where
+    pub moved_put : (g : ℕ → Option Entry) (k : ℕ) → k ≡ length ys → ((m : ℕ) → g m ≡ cond (k == m) o (f m)) → (m : ℕ) → length ys ≤ m → g m ≡ entry_in zs m
+    moved_put g k n put m h = put m ∙ go (k == m) refl
       where
-        go : (t : Bool) → (length ys == m) ≡ t → cond t p.entry (overlay ps at m) ≡ entry_in zs m
-        go true q = let r : length ys ≡ m = grind (arith, nat_tests) in w ∙ taken ∙ ap (entry_in zs) r
-        go false q = comes m (let r : length ys ≡ m → ⊥ = λ s. absurd (grind (arith, nat_tests)) in grind (arith, more)) l
+        go : (t : Bool) → (k == m) ≡ t → cond t o (f m) ≡ entry_in zs m
+        go true q = let r : k ≡ m = grind (arith, nat_tests) in taken ∙ ap (entry_in zs) (sym n ∙ r)
+        go false q = moved m (let r : k ≡ m → ⊥ = λ s. absurd (grind (arith, nat_tests)) in grind (arith, more, n))
 
-    pub high_put : (p : Put) → p.number ≡ length ys → All (λ (q : Put). length ys ≤ q.number) (ps ++ p ∷ [])
-    high_put p n = All-push (λ (q : Put). length ys ≤ q.number) ps p (λ i d h. omega (arith, more, high i d h)) (omega (arith, n))
+    pub free_put : (g : ℕ → Option Entry) (k : ℕ) → k ≡ length ys → ((m : ℕ) → g m ≡ cond (k == m) o (f m)) → (m : ℕ) → m < length ys → g m ≡ None
+    free_put g k n put m h = put m ∙ ap (λ t. cond t o (f m)) (other k m (λ q. omega (arith, q, n))) ∙ free m (omega (arith, more))
 
-    pub within_put : (p : Put) → p.number ≡ length ys → length ys < b → AreWithin b ps → AreWithin b (ps ++ p ∷ [])
-    within_put p n l w = record {
-      falling = falling_more ps p w.falling (λ i d h. omega (arith, n, higher i d h));
-      below = All-push (λ (q : Put). q.number < b) ps p w.below (omega (arith, n));
-    }
-
-    -- .. or left out, where nothing stands there nor comes.
-    pub comes_left : (length ys < b → (o ≡ None) × (at (length ys) ≡ None)) → (m : ℕ) → length ys ≤ m → m < b → overlay ps at m ≡ entry_in zs m
-    comes_left none m h l = go (length ys == m) refl
+    pub moved_left : o ≡ None → (m : ℕ) → length ys ≤ m → f m ≡ entry_in zs m
+    moved_left none m h = go (length ys == m) refl
       where
-        go : (t : Bool) → (length ys == m) ≡ t → overlay ps at m ≡ entry_in zs m
+        go : (t : Bool) → (length ys == m) ≡ t → f m ≡ entry_in zs m
         go true q =
             let r : length ys ≡ m = grind (arith, nat_tests) in
-            let k = none (omega arith) in
-            subst (λ n. overlay ps at n ≡ entry_in zs n) r (overlay_other ps at (length ys) free ∙ k.1 ∙ sym k.0 ∙ taken)
-        go false q = comes m (let r : length ys ≡ m → ⊥ = λ s. absurd (grind (arith, nat_tests)) in grind (arith, more)) l
+            subst (λ n. f n ≡ entry_in zs n) r (free (length ys) (omega (arith, more)) ∙ sym none ∙ taken)
+        go false q = moved m (let r : length ys ≡ m → ⊥ = λ s. absurd (grind (arith, nat_tests)) in grind (arith, more))
 
-    pub high_left : All (λ (q : Put). length ys ≤ q.number) ps
-    high_left = λ i d h. omega (arith, more, high i d h)
+    pub free_left : (m : ℕ) → m < length ys → f m ≡ None
+    free_left m h = free m (omega (arith, more))
+
+-- What stands at a number is put, below a bound ..
+module _ (k b : ℕ) (zs at : ℕ → Option Entry) (ps : List Put) (high : All (λ (q : Put). suc k ≤ q.number) ps) (comes : (m : ℕ) → suc k ≤ m → m < b → overlay ps at m ≡ zs m) where
+  free : Absent k (put_numbers ps)
+  free = apart k ps high
+
+  pub comes_put : (p : Put) → p.number ≡ k → p.entry ≡ zs k → (m : ℕ) → k ≤ m → m < b → overlay (ps ++ p ∷ []) at m ≡ zs m
+  comes_put p n w m h l =
+      overlay_more ps p at m (subst (λ k. Absent k (put_numbers ps)) (sym n) free)
+      ∙ ap (λ k. cond (k == m) p.entry (overlay ps at m)) n
+      ∙ go (k == m) refl
+    where
+      go : (t : Bool) → (k == m) ≡ t → cond t p.entry (overlay ps at m) ≡ zs m
+      go true q = let r : k ≡ m = grind (arith, nat_tests) in w ∙ ap zs r
+      go false q = comes m (let r : k ≡ m → ⊥ = λ s. absurd (grind (arith, nat_tests)) in grind arith) l
+
+  pub high_put : (p : Put) → p.number ≡ k → All (λ (q : Put). k ≤ q.number) (ps ++ p ∷ [])
+  high_put p n = All-push (λ (q : Put). k ≤ q.number) ps p (λ i d h. omega (arith, high i d h)) (omega (arith, n))
+
+  pub within_put : (p : Put) → p.number ≡ k → k < b → AreWithin b ps → AreWithin b (ps ++ p ∷ [])
+  within_put p n l w = record {
+    falling = falling_more ps p w.falling (λ i d h. omega (arith, n, high i d h));
+    below = All-push (λ (q : Put). q.number < b) ps p w.below (omega (arith, n));
+  }
+
+  -- .. or left out, where nothing stands there nor comes.
+  pub comes_left : (zs k ≡ None) × (at k ≡ None) → (m : ℕ) → k ≤ m → m < b → overlay ps at m ≡ zs m
+  comes_left none m h l = go (k == m) refl
+    where
+      go : (t : Bool) → (k == m) ≡ t → overlay ps at m ≡ zs m
+      go true q =
+          let r : k ≡ m = grind (arith, nat_tests) in
+          subst (λ n. overlay ps at n ≡ zs n) r (overlay_other ps at k free ∙ none.1 ∙ sym none.0)
+      go false q = comes m (let r : k ≡ m → ⊥ = λ s. absurd (grind (arith, nat_tests)) in grind arith) l
+
+  pub high_left : All (λ (q : Put). k ≤ q.number) ps
+  high_left = λ i d h. omega (arith, high i d h)
 
 -- a number of no statement has no entry
 pub no_entry : (es : List Entry) (n : ℕ) → Absent n (entry_numbers es) → entry_of es n ≡ None
@@ -107,29 +127,3 @@ entries_made old new at puts b low lows is comes w n = go (cases_lt n b)
     go : (n < b) ⊎ (b ≤ n) → entry_of (entries_of new) n ≡ overlay puts (entry_of (entries_of old)) n
     go (inl l) = sym (comes n l ∙ is n)
     go (inr l) = past_entry new b lows n l ∙ sym (overlay_other puts (entry_of (entries_of old)) n (absent_put b puts w.below n l) ∙ past_entry old b low n l)
-
--- a number without an entry is of no statement
-pub no_number : (es : List Entry) (n : ℕ) → entry_of es n ≡ None → Absent n (entry_numbers es)
-no_number [] n h = tt
-no_number (e ∷ es) n h = go (no_number es n) (e.number == n) refl h
-  where
-    go : (entry_of es n ≡ None → Absent n (entry_numbers es)) → (b : Bool) → (e.number == n) ≡ b → cond b (Some e) (entry_of es n) ≡ None → Absent n (entry_numbers (e ∷ es))
-    go f true q h = absurd cc
-    go f false q h = ((λ s. let r : e.number ≡ n = sym s in absurd (grind (arith, nat_tests))), f h)
-
--- numbers of which none is at a bound or past it
-none_past : (b : ℕ) (ns : List ℕ) → ((m : ℕ) → b ≤ m → Absent m ns) → All (λ (n : ℕ). n < b) ns
-none_past b [] h = λ i d k. absurd (omega arith)
-none_past b (n ∷ ns) h = go (none_past b ns (λ m l. (h m l).1))
-  where
-    first : (n < b) ⊎ (b ≤ n) → n < b
-    first (inl l) = l
-    first (inr l) = absurd ((h n l).0 refl)
-
-    go : All (λ (n : ℕ). n < b) ns → All (λ (n : ℕ). n < b) (n ∷ ns)
-    go a zero d k = first (cases_lt n b)
-    go a (suc i) d k = a i d (omega arith)
-
--- All statements of a table have numbers below its places.
-pub all_placed : (ps : List Procedure) (places : List (Option Entry)) → ((n : ℕ) → entry_in places n ≡ entry_of (entries_of ps) n) → All (λ (n : ℕ). n < length places) (program_numbers ps)
-all_placed ps places is = subst (λ ns. All (λ (n : ℕ). n < length places) ns) (all_numbers ps) (none_past (length places) (entry_numbers (entries_of ps)) (λ m l. no_number (entries_of ps) m (sym (is m) ∙ entry_past places m l)))

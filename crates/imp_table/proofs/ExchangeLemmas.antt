@@ -15,6 +15,16 @@ there_again : {A : Type 0} (o : Option A) (x y z : A) → x ≡ z → y ≡ unwr
 there_again None x y z e f = sym f
 there_again (Some w) x y z e f = sym e
 
+-- the same entries in another form
+pub alike_right : (program : List Procedure) (at after : ℕ → Option Entry) (count : ℕ) (heads : List ProcHeader) (sites : List (List ℕ)) → ((n : ℕ) → after n ≡ at n) → AreOf program at count heads sites → AreOf program after count heads sites
+alike_right program at after count heads sites h r = record {
+  fine = r.fine;
+  entries = λ n. h n ∙ r.entries n;
+  counted = r.counted;
+  procedures = r.procedures;
+  calls = r.calls;
+}
+
 module _ (old program : List Procedure) (change : Change) (makes : Makes old change program) (fine : IsFine program) (at : ℕ → Option Entry) (count : ℕ) (heads : List ProcHeader) (sites : List (List ℕ)) (right : AreOf old at count heads sites) (after : ℕ → Option Entry) (put : (m : ℕ) → after m ≡ overlay change.entries.items at m) where
   pub after_right : AreOf program after change.count (unwrap_or change.heads heads) (unwrap_or change.sites sites)
   after_right = record {

@@ -26,7 +26,7 @@ pub falling_once : (ps : List Put) → AreFalling ps → Distinct (put_numbers p
 falling_once [] f = tt
 falling_once (p ∷ ps) f = (apart_all p.number ps (λ j d l e. omega (arith, e, less_behind p ps f j d l)), falling_once ps (falling_tail p ps f))
 
-any_default : (ps : List Put) (i : ℕ) (d e : Put) → i < length ps → slice_index_or ps i d ≡ slice_index_or ps i e
+pub any_default : (ps : List Put) (i : ℕ) (d e : Put) → i < length ps → slice_index_or ps i d ≡ slice_index_or ps i e
 any_default [] i d e h = absurd (omega arith)
 any_default (p ∷ ps) zero d e h = refl
 any_default (p ∷ ps) (suc i) d e h = any_default ps i d e (omega arith)

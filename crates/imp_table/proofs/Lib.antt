@@ -1,5 +1,6 @@
 pub mod OverlayLemmas
 pub mod FallingLemmas
+pub mod PageLemmas
 pub mod ExchangeLemmas
 pub mod ChangeLemmas
 pub mod ViewLemmas

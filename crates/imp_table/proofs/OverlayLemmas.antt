@@ -3,7 +3,8 @@ use Rattle.std.proofs.lemmas.Bool.Decides.{nat_tests}
 use Rattle.std.proofs.Common.{◌≡◌, ℕ, zero, suc, ◌+◌, ◌<◌, ◌==◌, cond, Bool, true, false, List, [], ◌∷◌, ◌++◌, ◌≤◌, length, map, take, drop, slice_get, slice_index_or, slice_set, Option, Some, refl, sym, ap, ◌∙◌, subst, arith, add-one}
 use Rattle.std.proofs.lemmas.List.{take_all}
 use Rattle.imp_slots.specs.Fits.{Absent, Distinct}
-use Rattle.imp_table.specs.Changes.{overlay, AreWithin}
+use Rattle.imp_table.specs.Changes.{overlay}
+use Rattle.imp_table.specs.Pages.{HasPlace, HavePlaces}
 use Rattle.imp_check.specs.declared.entry.Entry.{Entry}
 use Rattle.imp_table.specs.declared.change.Put.{Put}
 use Rattle.imp_check.proofs.PutLemmas.{other}
@@ -58,12 +59,14 @@ back_length at [] = refl
 back_length at (p ∷ ps) = ap suc (back_length at ps)
 
 -- the change back has the same numbers
-pub back_within : (at : ℕ → Option Entry) (ps : List Put) (room : ℕ) → AreWithin room ps → AreWithin room (back_of at ps)
-back_within at ps room w = record {
+pub back_there : (at : ℕ → Option Entry) (ps : List Put) (places : List ℕ) → HavePlaces places ps → HavePlaces places (back_of at ps)
+back_there at ps places w = record {
   falling = λ i j d h l.
       let k : j < length ps = omega (arith, l, back_length at ps) in
       omega (arith, below_back at ps i d (omega arith), below_back at ps j d l, w.falling i j d h k);
-  below = λ i d h. let k : i < length ps = omega (arith, h, back_length at ps) in omega (arith, below_back at ps i d h, w.below i d k);
+  there = λ i d h.
+      let k : i < length ps = omega (arith, h, back_length at ps) in
+      subst (HasPlace places) (sym (below_back at ps i d h)) (w.there i d k);
 }
 
 -- Places of lists.

@@ -17,10 +17,10 @@ overlay (p ∷ ps) at m = cond (p.number == m) p.entry (overlay ps at m)
 abbrev pub AreFalling : List Put → Type 0
 AreFalling puts = AllPairs (λ (p q : Put). q.number < p.number) puts
 
--- the numbers of a change fall, and are places of a table of this length
-pub record AreWithin (room : ℕ) (puts : List Put) : Type 0 where
+-- the numbers of a change fall, and are below this one
+pub record AreWithin (bound : ℕ) (puts : List Put) : Type 0 where
   pub falling : AreFalling puts
-  pub below : All (λ (p : Put). p.number < room) puts
+  pub below : All (λ (p : Put). p.number < bound) puts
 
 -- The change makes the second program of the first.
 pub record Makes (old : List Procedure) (change : Change) (new : List Procedure) : Type 0 where

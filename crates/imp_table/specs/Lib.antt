@@ -1,4 +1,5 @@
 pub mod Tabled
 pub mod Changes
+pub mod Pages
 pub mod Views
 pub mod Checks

@@ -12,12 +12,16 @@
 //! [`Change`] in place, by which one program is made of another (`Makes` of `specs/Changes.antt`) and which becomes the
 //! change back. A [`View`] is a program as it is read: that of a table, or the one that a change makes of it.
 //!
-//! The table takes memory linear in the largest statement number. The readers of a [`Checked`] take constant time and no
-//! memory.
+//! A table keeps its entries in pages of 64 numbers. A page where nothing stands takes no memory, unless a change that was
+//! taken back or may be taken back needs it ([`NeededPages`]): numbers are never used again, so old pages become empty.
+//! Reading a [`Checked`] or an entry takes constant time and no memory.
 #![tactic(auto)]
 
 mod change;
 mod checked;
+mod needed;
+mod page;
+mod pages;
 mod places;
 mod rebuilt;
 mod table;
@@ -26,5 +30,6 @@ mod walk;
 
 pub use change::{Change, Put};
 pub use checked::{Checked, check, check_table};
+pub use needed::NeededPages;
 pub use table::Table;
 pub use view::View;

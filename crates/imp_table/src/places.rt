@@ -1,74 +1,48 @@
-//! Places of a table, by number.
-ghost use Rattle.std.specs.Prelude.{ℕ, ◌≡◌, ◌<◌, ◌≤◌, ◌∷◌, [], length, MatchOption, OnOk, Option};
-ghost use Rattle.std.specs.Option.{option_copied};
-ghost use Rattle.imp_check.specs.Tables.{entry_in};
-ghost use Rattle.imp_table.specs.Changes.{overlay, AreFalling, AreWithin};
+//! Changes of a table, put in place.
+ghost use Rattle.std.specs.Prelude.{ℕ, ◌≡◌, ◌∷◌, [], MatchOption, Option};
+ghost use Rattle.imp_table.specs.Changes.{overlay, AreFalling};
+ghost use Rattle.imp_table.specs.Pages.{entry_at, lengths, HasPlace, HavePlaces};
 ghost use Rattle.imp_check.specs.declared.entry.Entry.{Entry};
 
 use crate::change::Put;
-use base_values::Memory;
-use imp_check::{Entry, TableSlot};
-
-/// What stands at a number.
-#[inline]
-pub(crate) fn entry_in(places: &[TableSlot], number: u32) -> Option<&Entry>
-    ensures is { option_copied result ≡ entry_in places.now number }
-{
-    match places.get(number as usize) {
-        Some(place) => place.entry(),
-        None => None,
-    }
-}
-
-/// Makes places below a number, where nothing stands.
-#[tactic(auto, using(imp_check::proofs::PutLemmas::entry_more))]
-pub(crate) fn make_room(places: &mut Vec<TableSlot>, below: usize) -> Result<(), Memory>
-    ensures room { OnOk result (below ≤ length places.new.items) }
-    ensures kept { (n : ℕ) → entry_in places.new.items n ≡ entry_in places.old.items n }
-    ensures no_less { length places.old.items ≤ length places.new.items }
-{
-    while places.len() < below {
-        places.push(TableSlot::free())?;
-    }
-    Ok(())
-}
+use crate::page::Page;
+use crate::pages::exchange_at;
 
 /// Exchanges what stands at these numbers of a table.
 #[tactic(auto, using(imp_check::proofs::TableLemmas::take_at))]
-pub(crate) fn put_all(places: &mut Vec<TableSlot>, puts: &mut [Put])
-    requires within { AreWithin (length places.old.items) puts.old }
-    ensures is { (m : ℕ) → entry_in places.new.items m ≡
-        overlay puts.old (entry_in places.old.items) m }
-    ensures as_long { length places.new.items ≡ length places.old.items }
-    ensures back { (m : ℕ) → overlay puts.new (entry_in places.new.items) m ≡
-        entry_in places.old.items m }
-    ensures back_within { AreWithin (length places.old.items) puts.new }
+pub(crate) fn put_all(pages: &mut Vec<Page>, puts: &mut [Put])
+    requires there { HavePlaces (lengths pages.old.items) puts.old }
+    ensures is { (m : ℕ) → entry_at pages.new.items m ≡
+        overlay puts.old (entry_at pages.old.items) m }
+    ensures places { lengths pages.new.items ≡ lengths pages.old.items }
+    ensures back { (m : ℕ) → overlay puts.new (entry_at pages.new.items) m ≡
+        entry_at pages.old.items m }
+    ensures back_there { HavePlaces (lengths pages.old.items) puts.new }
 {
-    put_in(places.as_mut_slice(), puts);
+    put_in(pages.as_mut_slice(), puts);
 }
 
 /// Exchanges what stands at a number.
-#[tactic(auto, using(imp_check::proofs::PutLemmas::slot_set, imp_check::proofs::PutLemmas::slot_get))]
-fn put_one(places: &mut [TableSlot], put: &mut Put)
-    requires within { put.old.number < length places.old }
-    ensures is { (m : ℕ) → entry_in places.new m ≡ overlay (put.old ∷ []) (entry_in places.old) m }
+fn put_one(pages: &mut [Page], put: &mut Put)
+    requires there { HasPlace (lengths pages.old) put.old.number }
+    ensures is { (m : ℕ) → entry_at pages.new m ≡ overlay (put.old ∷ []) (entry_at pages.old) m }
     ensures number { put.new.number ≡ put.old.number }
-    ensures entry { put.new.entry ≡ entry_in places.old put.old.number }
-    ensures as_long { length places.new ≡ length places.old }
+    ensures entry { put.new.entry ≡ entry_at pages.old put.old.number }
+    ensures places { lengths pages.new ≡ lengths pages.old }
 {
-    std::mem::swap(&mut places[put.number as usize], &mut put.entry);
+    exchange_at(pages, put.number as usize, &mut put.entry);
 }
 
 /// Exchanges what stands at these numbers.
-fn put_in(places: &mut [TableSlot], puts: &mut [Put])
-    requires within { AreWithin (length places.old) puts.old }
-    ensures is { (m : ℕ) → entry_in places.new m ≡ overlay puts.old (entry_in places.old) m }
-    ensures as_long { length places.new ≡ length places.old }
-    ensures back { (m : ℕ) → overlay puts.new (entry_in places.new) m ≡ entry_in places.old m }
-    ensures back_within { AreWithin (length places.old) puts.new }
+fn put_in(pages: &mut [Page], puts: &mut [Put])
+    requires there { HavePlaces (lengths pages.old) puts.old }
+    ensures is { (m : ℕ) → entry_at pages.new m ≡ overlay puts.old (entry_at pages.old) m }
+    ensures places { lengths pages.new ≡ lengths pages.old }
+    ensures back { (m : ℕ) → overlay puts.new (entry_at pages.new) m ≡ entry_at pages.old m }
+    ensures back_there { HavePlaces (lengths pages.old) puts.new }
 {
     for i in 0..puts.len() {
-        put_one(places, &mut puts[i]);
+        put_one(pages, &mut puts[i]);
     }
 }
 

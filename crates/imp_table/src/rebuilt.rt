@@ -1,12 +1,13 @@
 //! The tree of a program, from the table of its statements.
 ghost use Rattle.std.specs.Prelude.{◌≡◌, IfOk};
-ghost use Rattle.imp_check.specs.Tables.{entry_in};
 ghost use Rattle.std.specs.Option.{option_copied};
 ghost use Rattle.imp_check.specs.Rebuilt.{next_in, statement_with, block_from, procedure_from, program_from};
+ghost use Rattle.imp_table.specs.Pages.{entry_at};
 
-use crate::places::entry_in;
+use crate::page::Page;
+use crate::pages::entry_at;
 use base_values::{Items, Memory};
-use imp_check::{Entry, ProcHeader, TableSlot};
+use imp_check::{Entry, ProcHeader};
 use imp_syntax::{Block, Proc, Stmt, StmtId, StmtNode};
 use std::alloc::Global;
 
@@ -23,14 +24,14 @@ fn statement_with(alloc: Global, entry: &Entry, inner: Block, other: Block) -> R
 }
 
 /// What stands at a number, if so many more statements there are.
-fn next_in(places: &[TableSlot], most: u32, at: Option<StmtId>) -> Option<&Entry>
-    ensures is { option_copied result ≡ next_in (entry_in places.now) most at }
+fn next_in(pages: &[Page], most: u32, at: Option<StmtId>) -> Option<&Entry>
+    ensures is { option_copied result ≡ next_in (entry_at pages.now) most at }
 {
     if most == 0 {
         return None;
     }
     match at {
-        Some(id) => entry_in(places, id.number()),
+        Some(id) => entry_at(pages, id.number() as usize),
         None => None,
     }
 }
@@ -39,19 +40,19 @@ fn next_in(places: &[TableSlot], most: u32, at: Option<StmtId>) -> Option<&Entry
 #[tactic(auto, using(imp_check::proofs::StepLemmas::step_some, imp_check::proofs::StepLemmas::step_is, imp_check::proofs::StepLemmas::step_none, imp_check::proofs::StepLemmas::block_is_of))]
 fn block_from(
     alloc: Global,
-    places: &[TableSlot],
+    pages: &[Page],
     most: u32,
     first: Option<StmtId>,
 ) -> Result<Block, Memory>
-    ensures is { IfOk result (λ block. block ≡ block_from (entry_in places.now) most first) }
+    ensures is { IfOk result (λ block. block ≡ block_from (entry_at pages.now) most first) }
 {
     let mut stmts = Items::new(alloc);
     let mut left = most;
     let mut at = first;
-    while let Some(entry) = next_in(places, left, at) {
+    while let Some(entry) = next_in(pages, left, at) {
         left -= 1;
-        let inner = block_from(alloc, places, left, entry.inner.first)?;
-        let other = block_from(alloc, places, left, entry.other.first)?;
+        let inner = block_from(alloc, pages, left, entry.inner.first)?;
+        let other = block_from(alloc, pages, left, entry.other.first)?;
         stmts.push(statement_with(alloc, entry, inner, other)?)?;
         at = entry.next;
     }
@@ -61,15 +62,15 @@ fn block_from(
 /// The procedures, with their statements.
 pub(crate) fn procedures_from(
     alloc: Global,
-    places: &[TableSlot],
+    pages: &[Page],
     most: u32,
     heads: &[ProcHeader],
 ) -> Result<Items<Proc>, Memory>
-    ensures is { IfOk result (λ procs. procs ≡ program_from (entry_in places.now) most heads.now) }
+    ensures is { IfOk result (λ procs. procs ≡ program_from (entry_at pages.now) most heads.now) }
 {
     let mut procs = Items::with_capacity(alloc, heads.len())?;
     for head in heads {
-        let body = block_from(alloc, places, most, head.body.first)?;
+        let body = block_from(alloc, pages, most, head.body.first)?;
         procs.push(head.bare.with_body(body)?)?;
     }
     Ok(procs)

@@ -1,5 +1,5 @@
 //! Programs as tables of their statements.
-ghost use Rattle.std.specs.Prelude.{◌≡◌, ℕ, ◌<◌, ◌≤◌, [], List, length, false, IfOk, OnOk, OnErr, None};
+ghost use Rattle.std.specs.Prelude.{◌≡◌, ℕ, ◌<◌, ◌≤◌, [], List, length, false, IfOk, OnOk, None};
 ghost use Rattle.std.specs.List.{All};
 ghost use Rattle.std.specs.Option.{option_copied};
 ghost use Rattle.imp_syntax.specs.Plain.{Procedure, program_numbers};
@@ -9,11 +9,15 @@ ghost use Rattle.imp_check.specs.Programs.{AreNumbered, check_fault};
 ghost use Rattle.imp_check.specs.Slots.{routines_of};
 ghost use Rattle.imp_check.specs.Entries.{entries_of, entry_of, heads_of, sites_in};
 ghost use Rattle.imp_check.specs.Fine.{IsFine};
-ghost use Rattle.imp_check.specs.Tables.{entry_in};
 ghost use Rattle.imp_table.specs.Changes.{AreFalling, AreWithin, Makes, overlay};
+ghost use Rattle.imp_table.specs.Pages.{entry_at, HasPlace, HavePlaces, IsNeeded};
+ghost use Rattle.imp_table.specs.declared.change.Put.{Put};
 
 use crate::change::{Change, Put, exchange_list, list_or};
-use crate::places::{entry_in, make_room, put_all};
+use crate::needed::NeededPages;
+use crate::page::Page;
+use crate::pages::{drop_pages, entry_at, make_places, pages_of, take_at};
+use crate::places::put_all;
 use crate::rebuilt::procedures_from;
 use crate::view::View;
 use base_values::{Items, Memory, Text};
@@ -23,19 +27,21 @@ use imp_syntax::{ProcId, Program, StmtId};
 use std::alloc::Global;
 use std::marker::Model;
 
-/// A program without faults as the table of its statements by number, seen as its procedures and as the number below
-/// which the table has places.
+/// A program without faults as the table of its statements by number, seen as its procedures and as the numbers for which
+/// the table has places.
 #[derive(Drop)]
 pub struct Table {
     heads: Items<ProcHeader>,
-    places: Vec<TableSlot>,
+    pages: Vec<Page>,
+    /// With more pages than this the table is crowded. It is a hint: no answer rests on it.
+    due: usize,
     count: u32,
     sites: Items<Items<StmtId>>,
 }
 
 impl Model for Table {
-    ghost use Rattle.std.specs.Prelude.{length};
-    ghost use Rattle.imp_check.specs.Tables.{entry_in, AreOf};
+    ghost use Rattle.imp_check.specs.Tables.{AreOf};
+    ghost use Rattle.imp_table.specs.Pages.{entry_at, lengths};
     ghost use Rattle.imp_table.specs.Tabled.{Tabled, tabled_code};
     ghost use Rattle.imp_check.specs.Rebuilt.{program_by};
 
@@ -44,12 +50,12 @@ impl Model for Table {
     ghost coded = { tabled_code };
 
     ghost view = { λ a. record {
-      program = program_by (entry_in a.places.items) a.count a.heads;
-      room = length a.places.items;
+      program = program_by (entry_at a.pages.items) a.count a.heads;
+      places = lengths a.pages.items;
     } };
 
-    ghost invariant = { λ a. AreOf (program_by (entry_in a.places.items) a.count a.heads)
-        (entry_in a.places.items) a.count a.heads a.sites };
+    ghost invariant = { λ a. AreOf (program_by (entry_at a.pages.items) a.count a.heads)
+        (entry_at a.pages.items) a.count a.heads a.sites };
 }
 
 impl Table {
@@ -65,9 +71,12 @@ impl Table {
             count,
             sites,
         } = table_parts(alloc, program.procs())?;
+        let pages = pages_of(alloc, places)?;
+        let due = due_after(pages.len(), pages.len());
         Ok(Table {
             heads,
-            places,
+            pages,
+            due,
             count,
             sites,
         })
@@ -79,7 +88,7 @@ impl Table {
     pub fn entry(&self, id: StmtId) -> Option<&Entry>
         ensures is { option_copied result ≡ entry_of (entries_of self.now.program) id }
     {
-        entry_in(self.places.as_slice(), id.number())
+        entry_at(self.pages.as_slice(), id.number() as usize)
     }
 
     /// The procedures without their statements, in the order of the text. They have no fault, their numbers stand once,
@@ -91,14 +100,6 @@ impl Table {
         ensures fit { IsChecked (routines_of self.now.program) }
     {
         self.heads.as_slice()
-    }
-
-    /// The number below which the table has places. All its statements have numbers below it.
-    pub fn room(&self) -> usize
-        ensures is { result ≡ self.now.room }
-        ensures below { All (λ (n : ℕ). n < result) (program_numbers self.now.program) }
-    {
-        self.places.len()
     }
 
     /// The program as it is read. It takes constant time.
@@ -146,7 +147,7 @@ impl Table {
         ensures is { IfOk result (λ program. program ≡ self.now.program) }
     {
         let heads = self.heads.as_slice();
-        let procs = procedures_from(alloc, self.places.as_slice(), self.count + 1, heads)?;
+        let procs = procedures_from(alloc, self.pages.as_slice(), self.count + 1, heads)?;
         Program::new(alloc, procs)
     }
 
@@ -163,13 +164,30 @@ impl Table {
         routines_of(alloc, program.procs())
     }
 
-    /// Makes places below a number. When memory runs out the table keeps those that it has.
-    pub fn make_room(&mut self, below: u32) -> Result<(), Memory>
-        ensures room { OnOk result (below ≤ self.new.room) }
+    /// Makes the places that a change needs. When memory runs out the table keeps those that it has.
+    pub fn make_room(&mut self, alloc: Global, change: &Change) -> Result<(), Memory>
+        ensures places { OnOk result
+            (All (λ (p : Put). HasPlace self.new.places p.number) change.now.entries.items) }
+        ensures no_less { (n : ℕ) → HasPlace self.old.places n → HasPlace self.new.places n }
         ensures kept { self.new.program ≡ self.old.program }
-        ensures no_less { self.old.room ≤ self.new.room }
     {
-        make_room(&mut self.places, below as usize)
+        make_places(alloc, &mut self.pages, change.entries.as_slice())
+    }
+
+    /// Whether the table got so many pages since [`Table::drop_pages`] that it is time to call that again.
+    pub fn is_crowded(&self) -> bool {
+        self.due < self.pages.len()
+    }
+
+    /// Gives back the memory of the pages that are not needed and where nothing stands. It takes time linear in the pages
+    /// that there ever were and in the entries.
+    pub fn drop_pages(&mut self, alloc: Global, needed: &NeededPages)
+        ensures kept { self.new.program ≡ self.old.program }
+        ensures needed { (n : ℕ) → IsNeeded needed.now n → HasPlace self.old.places n →
+            HasPlace self.new.places n }
+    {
+        let left = drop_pages(alloc, &mut self.pages, needed.flags());
+        self.due = due_after(self.pages.len(), left);
     }
 
     /// Puts a change in, and leaves in its place the change back. It takes no memory and cannot fail.
@@ -177,13 +195,13 @@ impl Table {
         ghost program: { List Procedure }
         requires makes { Makes self.old.program change.old program }
         requires fine { IsFine program }
-        requires within { AreWithin self.old.room change.old.entries.items }
+        requires there { HavePlaces self.old.places change.old.entries.items }
         ensures is { self.new.program ≡ program }
-        ensures room { self.new.room ≡ self.old.room }
+        ensures places { self.new.places ≡ self.old.places }
         ensures back { Makes program change.new self.old.program }
-        ensures back_within { AreWithin self.old.room change.new.entries.items }
+        ensures back_there { HavePlaces self.old.places change.new.entries.items }
     {
-        put_all(&mut self.places, change.entries.as_mut_slice());
+        put_all(&mut self.pages, change.entries.as_mut_slice());
         std::mem::swap(&mut self.count, &mut change.count);
         exchange_list(&mut self.heads, &mut change.heads);
         exchange_list(&mut self.sites, &mut change.sites);
@@ -197,7 +215,7 @@ impl Table {
         ensures makes { IfOk result (λ change. Makes from.now.program change self.program) }
         ensures within { IfOk result (λ change. AreWithin below change.entries.items) }
     {
-        let entries = changed_places(alloc, from, self.places, below)?;
+        let entries = changed_places(alloc, from, self.pages, below)?;
         Ok(Change {
             entries,
             heads: Some(self.heads),
@@ -207,24 +225,24 @@ impl Table {
     }
 }
 
-/// What comes below a number where a table gets these places.
+/// What comes below a number where a table gets what stands on these pages.
 fn changed_places(
     alloc: Global,
     from: &Table,
-    mut places: Vec<TableSlot>,
+    mut pages: Vec<Page>,
     below: u32,
 ) -> Result<Vec<Put>, Memory>
     ensures comes { IfOk result (λ puts. (n : ℕ) → n < below →
         overlay puts.items (entry_of (entries_of from.now.program)) n ≡
-        entry_in places.items n) }
+        entry_at pages.items n) }
     ensures within { IfOk result (λ puts. AreWithin below puts.items) }
 {
-    make_room(&mut places, below as usize)?;
     let mut puts = Vec::new(alloc);
-    while let Some(entry) = places.pop() {
-        let number = places.len();
-        if number < below as usize && stands(from, number as u32, &entry) {
-            let number = number as u32;
+    let mut number = below;
+    while number > 0 {
+        number -= 1;
+        let entry = take_at(&mut pages, number as usize);
+        if stands(from, number, &entry) {
             puts.push(Put { number, entry })?;
         }
     }
@@ -237,4 +255,9 @@ fn stands(table: &Table, number: u32, place: &TableSlot) -> bool
         (entry_of (entries_of table.now.program) number ≡ None) }
 {
     place.entry().is_some() || table.entry(StmtId::new(number)).is_some()
+}
+
+/// How many pages a table may get after it had so many, of which so many were left.
+fn due_after(pages: usize, left: usize) -> usize {
+    pages.saturating_add(left).saturating_add(16)
 }

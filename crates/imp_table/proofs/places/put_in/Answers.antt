@@ -1,8 +1,8 @@
 use Rattle.std.proofs.Common.{◌≡◌, ◌<◌, ◌≤◌, ◌∙◌, sym, ap, length, slice_index_or, arith, subst}
-use Rattle.imp_check.specs.Tables.{entry_in}
-use Rattle.imp_table.specs.Changes.{overlay, AreWithin}
+use Rattle.imp_table.specs.Changes.{overlay}
+use Rattle.imp_table.specs.Pages.{entry_at, lengths, HasPlace, HavePlaces}
 use Rattle.imp_table.specs.declared.change.Put.{Put}
-use Rattle.imp_table.proofs.OverlayLemmas.{back_within, overlay_back, at_same, drop_more, as_long, overlay_step, back_step, all_back, all_in}
+use Rattle.imp_table.proofs.OverlayLemmas.{back_there, overlay_back, at_same, drop_more, as_long, overlay_step, back_step, all_back, all_in}
 use Rattle.imp_table.proofs.FallingLemmas.{falling_once}
 use Rattle.imp_table.proofs.places.put_in.Goals as goal
 
@@ -16,7 +16,7 @@ put_one-requires c =
     let k : i < length ys = c.loop-i-test.true in
     let l : i < length xs = omega (arith, k, inv.as_many) in
     let f : (slice_index_or xs i d).number ≡ (slice_index_or ys i d).number = ap (λ (z : Put). z.number) (at_same xs ys i d l k inv.rest) in
-    record { within = omega (arith, c.requires.within.below i d k, f, inv.as_long) }
+    record { there = subst (λ ls. HasPlace ls (slice_index_or xs i d).number) (sym inv.places) (subst (HasPlace (lengths c.args.pages.now)) (sym f) (c.requires.there.there i d k)) }
 
 pub loop-i-preserved : goal.loop-i-preserved
 loop-i-preserved c =
@@ -29,11 +29,11 @@ loop-i-preserved c =
     let l : i < length xs = omega (arith, k, inv.as_many) in
     let e = at_same xs ys i d l k inv.rest in
     record {
-      as_long = c.put_one.ensures.as_long ∙ inv.as_long;
+      places = c.put_one.ensures.places ∙ inv.places;
       as_many = as_long xs ys i c.put_one.new.put inv.as_many;
       rest = drop_more xs ys i c.put_one.new.put inv.rest;
-      back = back_step ys (entry_in c.args.places.now) i d (slice_index_or xs i d) k e (falling_once ys c.requires.within.falling) xs (entry_in c.loop-i.places) c.put_one.new.put l c.put_one.ensures.number c.put_one.ensures.entry inv.put inv.back;
-      put = overlay_step ys (entry_in c.args.places.now) i d (slice_index_or xs i d) k e (falling_once ys c.requires.within.falling) (entry_in c.loop-i.places) (entry_in c.put_one.new.places) c.put_one.ensures.is inv.put;
+      back = back_step ys (entry_at c.args.pages.now) i d (slice_index_or xs i d) k e (falling_once ys c.requires.there.falling) xs (entry_at c.loop-i.pages) c.put_one.new.put l c.put_one.ensures.number c.put_one.ensures.entry inv.put inv.back;
+      put = overlay_step ys (entry_at c.args.pages.now) i d (slice_index_or xs i d) k e (falling_once ys c.requires.there.falling) (entry_at c.loop-i.pages) (entry_at c.put_one.new.pages) c.put_one.ensures.is inv.put;
     }
 
 pub returns-clause-back : goal.returns-clause-back
@@ -42,13 +42,13 @@ returns-clause-back c =
     let ys = c.args.puts.now in
     let inv = c.loop-i.invariant in
     let h : length ys ≤ i = omega (arith, c.loop-i-test.false) in
-    let e = all_back ys c.loop-i.puts (entry_in c.args.places.now) i h inv.as_many inv.back in
-    λ m. ap (λ ps. overlay ps (entry_in c.loop-i.places) m) e ∙ overlay_back ys (entry_in c.args.places.now) (entry_in c.loop-i.places) (all_in ys (entry_in c.args.places.now) (entry_in c.loop-i.places) i h inv.put) m
+    let e = all_back ys c.loop-i.puts (entry_at c.args.pages.now) i h inv.as_many inv.back in
+    λ m. ap (λ ps. overlay ps (entry_at c.loop-i.pages) m) e ∙ overlay_back ys (entry_at c.args.pages.now) (entry_at c.loop-i.pages) (all_in ys (entry_at c.args.pages.now) (entry_at c.loop-i.pages) i h inv.put) m
 
-pub returns-clause-back_within : goal.returns-clause-back_within
-returns-clause-back_within c =
+pub returns-clause-back_there : goal.returns-clause-back_there
+returns-clause-back_there c =
     let i = c.loop-i.i in
     let ys = c.args.puts.now in
     let inv = c.loop-i.invariant in
     let h : length ys ≤ i = omega (arith, c.loop-i-test.false) in
-    subst (AreWithin (length c.args.places.now)) (sym (all_back ys c.loop-i.puts (entry_in c.args.places.now) i h inv.as_many inv.back)) (back_within (entry_in c.args.places.now) ys (length c.args.places.now) c.requires.within)
+    subst (HavePlaces (lengths c.args.pages.now)) (sym (all_back ys c.loop-i.puts (entry_at c.args.pages.now) i h inv.as_many inv.back)) (back_there (entry_at c.args.pages.now) ys (lengths c.args.pages.now) c.requires.there)

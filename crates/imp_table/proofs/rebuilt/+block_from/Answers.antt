@@ -1,12 +1,12 @@
 use Rattle.std.proofs.Common.{◌≡◌, ◌++◌, IfOk, None, append-nil, sym, ap, ◌∙◌, subst}
-use Rattle.imp_check.specs.Tables.{entry_in}
+use Rattle.imp_table.specs.Pages.{entry_at}
 use Rattle.imp_check.specs.Rebuilt.{next_in, block_from}
 use Rattle.imp_check.proofs.StepLemmas.{step_none, block_is_of}
 use Rattle.imp_table.proofs.rebuilt.+block_from.Goals as goal
 
 pub returns : goal.returns
 returns k c =
-    let at = entry_in c.args.places.now in
+    let at = entry_at c.args.pages.now in
     let a = c.next_in.ensures.is in
     let b = c.in_default.is in
     let d = c.in_default.ensures.is in

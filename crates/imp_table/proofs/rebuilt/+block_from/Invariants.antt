@@ -1,6 +1,6 @@
 use Rattle.std.proofs.Common.{◌≡◌, ◌++◌, ◌≤◌}
 use Rattle.imp_syntax.specs.Plain.{statements_of}
-use Rattle.imp_check.specs.Tables.{entry_in}
+use Rattle.imp_table.specs.Pages.{entry_at}
 use Rattle.imp_check.specs.Rebuilt.{block_from}
 use Rattle.imp_table.proofs.rebuilt.+block_from.Given as goal
 
@@ -11,7 +11,7 @@ decreases-block_from l = l.most
 abbrev pub invariant-loop-entry : goal.invariant-loop-entry
 invariant-loop-entry l = record {
   few : l.left ≤ l.most;
-  told : l.stmts ++ statements_of (block_from (entry_in l.places) l.left l.at) ≡ statements_of (block_from (entry_in l.places) l.most l.fn.first);
+  told : l.stmts ++ statements_of (block_from (entry_at l.pages) l.left l.at) ≡ statements_of (block_from (entry_at l.pages) l.most l.fn.first);
 }
 
 abbrev pub decreases-loop-entry : goal.decreases-loop-entry
