@@ -4,6 +4,7 @@ use Rattle.daig_graph.specs.declared.graph.Cell.{Cell}
 use Rattle.daig_graph.specs.declared.graph.Use.{Use}
 use Rattle.daig_graph.specs.Held.{Held, held, Puts}
 use Rattle.daig_graph.specs.Uses.{Links}
+use Rattle.daig_graph.specs.Buckets.{bucket_of}
 use Rattle.std.specs.FinMap.{get, insert}
 use Rattle.daig_graph.specs.Agrees.{Agrees, filled}
 use Rattle.daig_graph.proofs.Cases.{none-some}
@@ -20,7 +21,7 @@ module _ {V : Type 0} (cells new_cells : ℕ → Option (Cell V)) (keys new_keys
     pub absent : keys n.number ≡ None
     pub keyed : new_keys n.number ≡ Some key
     pub keys_same : (q : ℕ) → q ≢ n.number → new_keys q ≡ keys q
-    pub owns : Puts owned new_owned n.owner n.number n.own
+    pub owns : Puts owned new_owned (bucket_of n.owner) n.number n.own
     pub links : Links uses new_uses n.number n.inputs.items n.uses.items (length n.inputs.items)
     pub many : length n.uses.items ≡ length n.inputs.items
     pub inputs_there : (i x : ℕ) → slice_get n.inputs.items i ≡ Some x → (j : ℕ) × (keys x ≡ Some j)
@@ -62,11 +63,11 @@ module _ {V : Type 0} (cells new_cells : ℕ → Option (Cell V)) (keys new_keys
     owned_still : (p : ℕ) (e : ℕ × ℕ) → held owned p ≡ Some e → held new_owned p ≡ Some e
     owned_still p e h = f.owns.others p (λ same. none-some (sym f.owns.fresh ∙ ap (held owned) (sym same) ∙ h)) ∙ h
 
-    own_there : (k : ℕ) (c : Cell V) → new_cells k ≡ Some c → held new_owned c.own ≡ Some (c.owner, c.number)
+    own_there : (k : ℕ) (c : Cell V) → new_cells k ≡ Some c → held new_owned c.own ≡ Some (bucket_of c.owner, c.number)
     unfolding Was
     own_there k c e = elim (was k c e) [
-      | inl h ↦ ap (λ o. held new_owned o.own) (sym h.1) ∙ f.owns.here ∙ ap (λ o. Some (o.owner, o.number)) h.1
-      | inr h ↦ owned_still c.own (c.owner, c.number) (agrees.own_there k c h)
+      | inl h ↦ ap (λ o. held new_owned o.own) (sym h.1) ∙ f.owns.here ∙ ap (λ o. Some (bucket_of o.owner, o.number)) h.1
+      | inr h ↦ owned_still c.own (bucket_of c.owner, c.number) (agrees.own_there k c h)
     ]
 
     own_back : (p o m : ℕ) → held new_owned p ≡ Some (o, m) → (k : ℕ) × (c : Cell V) × (new_cells k ≡ Some c) × (c.number ≡ m) × (c.own ≡ p)

@@ -4,6 +4,7 @@ use Rattle.daig_graph.specs.declared.graph.Cell.{Cell}
 use Rattle.daig_graph.specs.declared.graph.Use.{Use}
 use Rattle.daig_graph.specs.Held.{Held, held, Takes}
 use Rattle.daig_graph.specs.Uses.{Unlinks}
+use Rattle.daig_graph.specs.Buckets.{bucket_of}
 use Rattle.std.specs.FinMap.{get, remove}
 use Rattle.daig_graph.specs.Agrees.{Agrees}
 use Rattle.daig_graph.proofs.Cases.{none-some}
@@ -50,7 +51,7 @@ module _ {V : Type 0} (cells new_cells : ℕ → Option (Cell V)) (keys new_keys
         let h = was k c e in
         m.keys_same c.number (λ same. left k c e (same_key k c h same)) ∙ agrees.key_back k c h
 
-    own_there : (k : ℕ) (c : Cell V) → new_cells k ≡ Some c → held new_owned c.own ≡ Some (c.owner, c.number)
+    own_there : (k : ℕ) (c : Cell V) → new_cells k ≡ Some c → held new_owned c.own ≡ Some (bucket_of c.owner, c.number)
     own_there k c e =
         let h = was k c e in
         let own = agrees.own_there k c h in

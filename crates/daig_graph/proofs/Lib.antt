@@ -12,5 +12,10 @@ pub mod KeySet
 pub mod AgreeingAlong
 pub mod CellFilled
 pub mod CellGone
+pub mod Filtering
 pub mod Owning
 pub mod Replacing
+pub mod Moving
+pub mod Changing
+pub mod Relabelling
+pub mod OtherNumbers

@@ -1,5 +1,5 @@
 -- What a graph holds.
-use Rattle.std.specs.Prelude.{◌≡◌, ◌≢◌, ℕ, List, Some, IsSome, slice_get}
+use Rattle.std.specs.Prelude.{◌≡◌, ◌≢◌, ℕ, Bool, false, nat_eq, List, Option, Some, None, IsSome, slice_get}
 use Rattle.std.specs.Ordering.{nat_cmp}
 use Rattle.std.specs.FinMap.{FinMap, get, insert}
 use Rattle.daig_graph.specs.declared.value.Value.{Value}
@@ -16,6 +16,11 @@ pub record Filled (V : Type 0) : Type 0 where
 pub record Cells (V : Type 0) : Type 0 where
   pub cells : FinMap nat_cmp (Filled V)
 
+-- whether there is a cell, and it belongs to a statement
+abbrev pub owned_by : {V : Type 0} → ℕ → Option (Filled V) → Bool
+owned_by n None = false
+owned_by n (Some f) = nat_eq f.owner n
+
 module _ {V : Type 0} (cells : FinMap nat_cmp (Filled V)) where
   -- x is the input of a cell at a place
   abbrev pub IsUse : ℕ → Use → Type 0
@@ -24,6 +29,10 @@ module _ {V : Type 0} (cells : FinMap nat_cmp (Filled V)) where
   -- a cell belongs to a statement
   abbrev pub IsOwned : ℕ → ℕ → Type 0
   IsOwned n x = (f : Filled V) × (get cells x ≡ Some f) × (f.owner ≡ n)
+
+  -- whether a cell belongs to a statement
+  abbrev pub is_owned : ℕ → ℕ → Bool
+  is_owned n x = owned_by n (get cells x)
 
   -- all of these are cells
   abbrev pub AreCells : List ℕ → Type 0

@@ -3,5 +3,8 @@ pub mod Linked
 pub mod Held
 pub mod Walks
 pub mod Cells
+pub mod Buckets
 pub mod Agrees
 pub mod Uses
+pub mod Numbers
+pub mod Renumbered

@@ -11,6 +11,7 @@ ghost use Rattle.daig_graph.specs.declared.value.Value.TheVariants.{State};
 use crate::graph::{Cell, Graph, Use};
 use crate::index::{Index, Link};
 use crate::inputs::Inputs;
+use crate::owned::bucket;
 use crate::pool::Lists;
 use crate::value::Value;
 use base_values::Memory;
@@ -33,8 +34,8 @@ impl<V> Graph<V> {
     }
 
     /// Fills a cell that is not there: its number, the statement that it belongs to, its value and its inputs. It takes
-    /// as many steps as the cell has inputs, and as many more as its number, or that of the statement, lies beyond all
-    /// before it.
+    /// as many steps as the cell has inputs, and as many more as its number, or the list of the statement, lies beyond
+    /// all before it.
     ///
     /// # Errors
     ///
@@ -56,18 +57,19 @@ impl<V> Graph<V> {
         ensures err { OnErr result (self.new.cells ≡ self.old.cells) }
     {
         let mut uses = inputs.blank_keys()?;
+        let list = bucket(owner);
         make_room(
             &mut self.cells,
             &mut self.keys,
             &mut self.owned,
             &mut self.uses,
             cell,
-            owner as usize,
+            list,
             inputs.len(),
         )?;
         let Inputs { cells: inputs } = inputs;
         link_inputs(&mut self.uses, cell, inputs.as_slice(), &mut uses);
-        let own = self.owned.push(owner as usize, cell);
+        let own = self.owned.push(list, cell);
         let key = self.cells.insert_reserved(Cell {
             number: cell,
             owner,
@@ -112,7 +114,8 @@ impl<V> Graph<V> {
     }
 }
 
-/// Room for a cell of a statement with so many inputs, and a place for its number. All that is held stays as it is.
+/// Room for a cell on a list with so many inputs, and places for its number and the list. All that is held stays as it
+/// is.
 #[inline]
 fn make_room<V>(
     cells: &mut Slab<Cell<V>>,
@@ -120,13 +123,13 @@ fn make_room<V>(
     owned: &mut Lists<usize>,
     uses: &mut Lists<Use>,
     cell: usize,
-    owner: usize,
+    list: usize,
     inputs: usize,
 ) -> Result<(), AllocError>
     ensures room { OnOk result (HasRoomFor cells.new 1) }
     ensures key { OnOk result (cell < length keys.new) }
     ensures owned_room { OnOk result (1 ≤ owned.new.room) }
-    ensures owner { OnOk result (owner < owned.new.places) }
+    ensures list { OnOk result (list < owned.new.places) }
     ensures uses_room { OnOk result (inputs ≤ uses.new.room) }
     ensures place { OnOk result (cell < uses.new.places) }
     ensures cells { cells.new ≡ record cells.old { capacity = cells.new.capacity } }
@@ -137,7 +140,7 @@ fn make_room<V>(
 {
     cells.reserve(1)?;
     keys.reserve(cell)?;
-    owned.reserve(1, owner)?;
+    owned.reserve(1, list)?;
     uses.reserve(inputs, cell)
 }
 

@@ -31,7 +31,7 @@ pub struct Graph<V> {
     pub(crate) cells: Slab<Cell<V>>,
     // the key of a cell, by its number
     pub(crate) keys: Index,
-    // the cells by their owners
+    // the cells by the buckets of their owners
     pub(crate) owned: Lists<usize>,
     // the uses by the cells that are used
     pub(crate) uses: Lists<Use>,

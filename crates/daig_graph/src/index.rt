@@ -62,7 +62,7 @@ impl Link {
 /// The keys of numbers. It takes memory in proportion to the greatest number that ever had a place.
 #[derive(Drop)]
 pub(crate) struct Index {
-    links: Vec<Link>,
+    pub(crate) links: Vec<Link>,
 }
 
 impl Model for Index {

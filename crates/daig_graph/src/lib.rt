@@ -11,8 +11,10 @@
 //! the indexes get places; reading takes constant time, and a list of dependents or of the cells of a statement is
 //! walked, not copied. Removing and reading take no memory. A list of inputs comes as [`Inputs`].
 //!
-//! The memory of the indexes is in proportion to the greatest number of a cell and of a statement, so numbers are to be
-//! given from 0 on.
+//! The memory of the indexes of cells is in proportion to the greatest number of a cell, so numbers are to be given from
+//! 0 on. [`Graph::renumber`] gives the cells other numbers, in the same order, so that those of cells that are gone need
+//! not be kept. Statements keep their numbers: the index of their lists has a bounded number of places, and statements
+//! whose numbers are far apart may share a list (`specs/Buckets.antt`).
 //!
 //! The crate knows neither names nor programs nor domains.
 #![tactic(auto)]
@@ -22,12 +24,15 @@ mod graph;
 mod index;
 mod inputs;
 mod lists;
+mod owned;
 mod pool;
 mod reading;
+mod renumbering;
 mod value;
 mod walk;
 
 pub use graph::{Graph, Use};
 pub use inputs::Inputs;
+pub use owned::OwnedCells;
 pub use value::{SharedChain, Value};
 pub use walk::Iter;

@@ -3,9 +3,10 @@ ghost use Rattle.std.specs.Prelude.{◌≡◌, ℕ, ◌↔◌, option_copied, op
 ghost use Rattle.std.specs.FinMap as map;
 ghost use Rattle.daig_graph.specs.Agrees.{filled};
 ghost use Rattle.daig_graph.specs.Held.{IsIn, IsOnce};
-ghost use Rattle.daig_graph.specs.Cells.{AreCells, IsOwned, IsUse};
+ghost use Rattle.daig_graph.specs.Cells.{AreCells, IsOwned, IsUse, is_owned};
 
 use crate::graph::{Cell, Graph, Use};
+use crate::owned::{OwnedCells, bucket};
 use crate::value::Value;
 use crate::walk::Iter;
 
@@ -45,13 +46,18 @@ impl<V> Graph<V> {
         self.uses.items(cell)
     }
 
-    /// The cells that belong to a statement, each once.
+    /// The cells that belong to a statement, each once. Going over them takes as many steps as there are cells on the
+    /// statement's list, which it may share.
     #[inline]
-    pub fn cells_of_statement(&self, statement: u32) -> Iter<'_, usize>
+    pub fn cells_of_statement(&self, statement: u32) -> OwnedCells<'_, V>
         ensures once { IsOnce result }
         ensures cells { (x : ℕ) → IsIn result x ↔ IsOwned self.now.cells statement x }
     {
-        self.owned.items(statement as usize)
+        OwnedCells {
+            graph: self,
+            statement,
+            shared: self.owned.items(bucket(statement)),
+        }
     }
 
     /// How many cells there are.
@@ -60,6 +66,17 @@ impl<V> Graph<V> {
         ensures count { result ≡ map.len self.now.cells }
     {
         self.cells.len()
+    }
+
+    /// Whether a cell belongs to a statement.
+    #[inline]
+    pub(crate) fn is_owned(&self, cell: usize, statement: u32) -> bool
+        ensures is { result ≡ is_owned self.now.cells statement cell }
+    {
+        match self.cell(cell) {
+            Some(found) => found.owner == statement,
+            None => false,
+        }
     }
 
     #[inline]

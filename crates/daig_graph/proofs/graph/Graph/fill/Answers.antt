@@ -1,6 +1,7 @@
 use Rattle.std.proofs.Common.{◌≡◌, ℕ, List, length, slice_get, sym, ap, ◌∙◌, subst}
 use Rattle.std.specs.FinMap.{insert, get as cell_at}
 use Rattle.slab.specs.Slab.{get}
+use Rattle.daig_graph.specs.Held.{Puts}
 use Rattle.daig_graph.specs.Uses.{Links}
 use Rattle.daig_graph.specs.Agrees.{Agrees}
 use Rattle.daig_graph.specs.Keys.{key_at}
@@ -10,6 +11,10 @@ use Rattle.daig_graph.proofs.CellFilled.{Fills, agrees-fill, map-fill}
 use Rattle.daig_graph.proofs.KeySet.{set-here, set-others}
 use Rattle.daig_graph.proofs.Maps.{cell_map}
 use Rattle.daig_graph.proofs.graph.Graph.fill.Goals as goal
+
+pub invariant_of-self : goal.invariant_of-self
+invariant_of-self g c =
+    agrees-reserved c.self.inside.cells c.make_room.new.cells c.self.inside.keys c.make_room.new.keys c.self.inside.owned c.make_room.new.owned c.self.inside.uses c.make_room.new.uses c.make_room.ensures.cells c.make_room.ensures.keys c.make_room.ensures.owned c.make_room.ensures.uses c.make_room.ensures.places c.self.invariant
 
 pub link_inputs-requires-clause-placed : goal.link_inputs-requires-clause-placed
 link_inputs-requires-clause-placed g c i x s =
@@ -41,7 +46,7 @@ fills g c = record {
   absent = keys-none _ _ _ _ (reserved g c) c.args.cell (ap (λ m. cell_at m c.args.cell) (cells-are g c) ∙ c.requires.absent);
   keyed = ap (λ l. key_at l c.args.cell) c.set.ensures.set ∙ set-here c.make_room.new.keys c.args.cell _ c.in_ok-make_room.ensures.key ∙ c.to.ensures.key;
   keys_same = λ q ne. ap (λ l. key_at l q) c.set.ensures.set ∙ set-others c.make_room.new.keys c.args.cell q _ ne;
-  owns = c.push-own.ensures.puts;
+  owns = let P : ℕ → Type 0 = λ list. Puts c.make_room.new.owned c.push-own.new.self list c.args.cell c.push-own.result in subst P c.bucket-list.ensures.is c.push-own.ensures.puts;
   links = linked g c;
   many = c.link_inputs.ensures.as_many ∙ ap length c.as_slice.ensures;
   inputs_there = λ i x s. cells-keyed _ _ _ _ (reserved g c) _ (cells-are g c) c.args.inputs c.requires.inputs i x (ap (λ l. slice_get l i) (sym c.inputs.view_is) ∙ s);
