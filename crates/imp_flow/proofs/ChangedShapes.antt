@@ -26,7 +26,8 @@ use Rattle.cell_rows.specs.Rows.{Row, One, Two, Fixed, Joins, Posts, Assumes, En
 use Rattle.imp_flow_rows.specs.declared.node.Leave.{Leave}
 use Rattle.imp_flow_rows.specs.Shapes.{Node, Shape, Act, If, While, Call}
 use Rattle.imp_flow_rows.specs.NodeRows.{breaks_of, fronts_of, joined_at, iterate_at, where_so, joins_at, behind_loop, post_by, enter_by, branch_by, fix_at}
-use Rattle.imp_flow.specs.Changed.{is_bare, same_leaves, same_rounds, same_shapes}
+use Rattle.imp_flow_rows.specs.Shapes.{is_bare}
+use Rattle.imp_flow.specs.Changed.{same_leaves, same_rounds, same_shapes}
 use Rattle.imp_flow.proofs.ChangedRows.{part, Kept, Lost, Keeps, kept_by, Verdict, no, verdict, and_then, or_else, told, mapped, mapped_no}
 use Rattle.imp_flow.proofs.ChangedLeaves.{SameLeaves, behind_kept, leap_kept}
 use Rattle.imp_flow.proofs.ChangedBreaks.{LostLeaves, post, exit, leap, told_leaves}

@@ -19,10 +19,11 @@ use Rattle.imp_slots.proofs.Distinct.{left_once, right_once}
 use Rattle.cell_rows.proofs.FlatOnce.{once_reversed}
 use Rattle.imp_flow_rows.specs.Shapes.{Node, Shape}
 use Rattle.imp_flow_rows.specs.Shapes as shape
+use Rattle.imp_flow_rows.specs.Shapes.{is_bare}
 use Rattle.imp_flow.specs.Nodes.{shape_of, node_in, block_nodes, nodes_of, node_of}
 use Rattle.imp_flow.specs.Plans.{Plan, thresholds_at, plan_nodes, node_row}
 use Rattle.imp_flow.specs.Owners.{owner}
-use Rattle.imp_flow.specs.Changed.{is_start, IsChanged, Stays, is_bare, same_shapes}
+use Rattle.imp_flow.specs.Changed.{is_start, IsChanged, Stays, same_shapes}
 use Rattle.imp_flow.proofs.Ties.{breaks_are, rows_tie}
 use Rattle.imp_flow.proofs.ChangedRows.{part, Kept, Lost, Verdict, mapped, mapped_no}
 use Rattle.imp_flow.proofs.ChangedShapes.{AreOnce, lone_lost, told_nodes}

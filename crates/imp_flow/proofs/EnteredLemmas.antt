@@ -17,9 +17,6 @@ use Rattle.imp_check.specs.Entries.{inside, inside_loop, entry_at, block_entries
 use Rattle.imp_check.specs.declared.entry.Context.{Context}
 use Rattle.imp_check.specs.declared.entry.Entry as known
 use Rattle.imp_check.specs.declared.entry.ProcHeader.{ProcHeader}
-use Rattle.imp_check.specs.declared.entry.SlotForm.TheVariants as form
-use Rattle.imp_slots.specs.declared.actions.SlotStmt.{SlotStmt}
-use Rattle.imp_flow.specs.Acts.{IsActOf}
 use Rattle.imp_check.specs.declared.entry.Which.TheVariants as which
 use Rattle.imp_check.proofs.RebuildLemmas.{In, in_left, in_right, Known, known_left, known_right, found, all_numbers}
 use Rattle.batch_meaning.specs.Places.{from, if_some, main_layout}
@@ -36,7 +33,7 @@ use Rattle.imp_flow_rows.specs.Shapes as shape
 use Rattle.imp_flow.specs.declared.steps.TargetStep.{TargetStep}
 use Rattle.imp_flow.specs.declared.steps.TargetStep.TheVariants.{Take}
 use Rattle.imp_flow.specs.Nodes.{leaving as leaves, body_end, callee_end, node_in, block_nodes, nodes_of, node_of}
-use Rattle.imp_flow_rows.specs.Entered.{Table, start_of, behind_or, front_in, leave_at, end_of, end_in, head_of as outer_of, loops_up, node_from, shape_from, known_in, node_by}
+use Rattle.imp_flow_rows.specs.Entered.{Table, start_of, behind_or, front_in, leave_at, end_of, end_in, head_of as outer_of, loops_up, node_from, known_in, node_by}
 use Rattle.imp_flow.specs.Reached.{into_loops}
 use Rattle.imp_flow.proofs.NumberLemmas.{all_numbers as all_nodes, found_there}
 use Rattle.imp_check.proofs.SlotLemmas.{routines_push}
@@ -283,16 +280,6 @@ node_found ps n e c h k =
     let back = reverse (routines_of ps) in
     let m = subst (λ rs. Member (node_by ps e) (nodes_of rs)) (append-nil back) (there_all ps (known_in ps) [] ps refl (all_known ps h) e f.0) in
     ap (node_of (nodes_of back)) (sym f.1) ∙ found_there (nodes_of back) (node_by ps e) (subst Distinct (sym (all_nodes back)) (once_reversed (routines_of ps) c.numbers_once)) m
-
--- The node of a simple statement.
-pub act_found : (ps : List Procedure) (n : ℕ) (e : known.Entry) (s : SlotStmt) → IsChecked (routines_of ps) → AreNumbered ps → entry_of (entries_of ps) n ≡ Some e → e.form ≡ form.Stmt s → IsActOf (nodes_of (reverse (routines_of ps))) n e s
-act_found ps n e s c h k same = record {
-  node = node_by ps e;
-  found = node_found ps n e c h k;
-  stmt = refl;
-  front = refl;
-  shape = ap (shape_from (known_in ps) (end_in ps e.context.proc) e) same;
-}
 
 pub node_gone : (ps : List Procedure) (n : ℕ) → AreNumbered ps → entry_of (entries_of ps) n ≡ None → node_of (nodes_of (reverse (routines_of ps))) n ≡ None
 node_gone ps n h k = ap (λ rs. node_of (nodes_of rs) n) (sym (append-nil (reverse (routines_of ps)))) ∙ gone_all ps (known_in ps) [] ps n refl (all_known ps h) k refl

@@ -1,22 +1,18 @@
 -- The row of an iterate by its statement's node.
-use Rattle.std.proofs.Common.{◌≡◌, ◌≢◌, ℕ, zero, suc, ◌-◌, List, [], ◌∷◌, reverse, Option, Some, None, refl, sym, ap, subst, ◌∙◌, arith}
+use Rattle.std.proofs.Common.{◌≡◌, ◌≢◌, ℕ, zero, suc, ◌-◌, List, [], ◌∷◌, reverse, Option, Some, None, refl, sym, ap, subst, arith}
 use Rattle.batch_meaning.specs.Places.{if_some, main_layout}
 use Rattle.std.specs.Option.{option_map}
 use Rattle.cell_names.specs.declared.frame.NameFrame.{NameFrame}
 use Rattle.cell_names.specs.declared.frame.NameFrame.TheVariants.{InCall, InLoop}
 use Rattle.cell_names.specs.declared.frame.Point.{Point}
-use Rattle.cell_names.specs.declared.frame.Point.TheVariants.{Entry, Body, Iterate, Post}
+use Rattle.cell_names.specs.declared.frame.Point.TheVariants.{Entry, Body, Iterate}
 use Rattle.cell_rows.specs.Rows.{Row, Init}
-use Rattle.imp_check.specs.declared.entry.Entry as known
-use Rattle.imp_slots.specs.declared.actions.SlotStmt.{SlotStmt}
-use Rattle.imp_flow_rows.specs.Entered.{front_point}
-use Rattle.imp_flow_rows.specs.Shapes.{Node, Act}
-use Rattle.imp_flow.specs.Acts.{IsActOf}
+use Rattle.imp_flow_rows.specs.Shapes.{Node}
 use Rattle.imp_flow.specs.Nodes.{node_of}
-use Rattle.imp_flow_rows.specs.NodeRows.{enter_at, turn_at, next_at, post_at, post_by}
+use Rattle.imp_flow_rows.specs.NodeRows.{enter_at, turn_at, next_at}
 use Rattle.imp_flow_rows.specs.declared.row.Row as declared
 use Rattle.imp_flow_rows.specs.Near.{last_frame, row_in}
-use Rattle.imp_flow.specs.Plans.{Plan, thresholds_at, plan_nodes, next_of, by_node, point_at, node_row}
+use Rattle.imp_flow.specs.Plans.{Plan, thresholds_at, plan_nodes, next_of, node_row}
 use Rattle.std.proofs.lemmas.Option.{same_Some}
 
 pub iterate_found : (plan : Plan) (w : List NameFrame) (n k : ℕ) (x : Node) → k ≢ 0 → node_of (plan_nodes plan) n ≡ Some x → next_at w plan.engine (thresholds_at plan x.place) (k - 1) x ≡ node_row plan w (Iterate n k)
@@ -31,10 +27,6 @@ nowhere = None
 pub iterate_gone : (plan : Plan) (w : List NameFrame) (n k : ℕ) → node_of (plan_nodes plan) n ≡ None → nowhere ≡ node_row plan w (Iterate n k)
 iterate_gone plan w n zero e = refl
 iterate_gone plan w n (suc k) e = sym (ap (λ o. if_some o (next_of plan w k)) e)
-
--- The row after a simple statement.
-pub act_row_found : (plan : Plan) (w : List NameFrame) (n : ℕ) (e : known.Entry) (s : SlotStmt) → IsActOf (plan_nodes plan) n e s → post_by w e.number (front_point e) (Act s) ≡ by_node plan n (point_at w (Post n))
-act_row_found plan w n e s a = (λ i. post_by w (sym a.stmt i) (sym a.front i) (sym a.shape i)) ∙ sym (ap (λ o. if_some o (post_at w)) a.found)
 
 -- The start of a body, by the last frame of its path.
 pub entry_found : (plan : Plan) (w : List NameFrame) (f : NameFrame) (n : ℕ) (x : Node) → f ≡ InCall n → node_of (plan_nodes plan) n ≡ Some x → enter_at w x ≡ node_row plan (f ∷ w) Entry

@@ -23,13 +23,14 @@ use Rattle.imp_slots.proofs.Distinct.{right_once}
 use Rattle.cell_rows.proofs.FlatOnce.{flat_once}
 use Rattle.imp_flow_rows.specs.Shapes.{Node}
 use Rattle.imp_flow_rows.specs.Shapes as shape
+use Rattle.imp_flow_rows.specs.Shapes.{callee_at, is_while}
 use Rattle.imp_flow.specs.declared.steps.TargetStep.{TargetStep}
 use Rattle.imp_flow.specs.declared.steps.TargetStep.TheVariants.{Go}
 use Rattle.imp_flow.specs.declared.steps.Target.{Target}
 use Rattle.imp_flow.specs.declared.ways.Reached.{Reached}
 use Rattle.imp_flow.specs.Nodes.{shape_of, node_in, node_of, body_end}
 use Rattle.imp_flow.specs.Plans.{Plan}
-use Rattle.imp_flow.specs.Reached.{step_of, target_of, into_loops, if_in, callee_at, is_while, reached, node_in_place, way_into, way_along, ending_at, target_from, target_along}
+use Rattle.imp_flow.specs.Reached.{step_of, target_of, into_loops, if_in, reached, node_in_place, way_into, way_along, ending_at, target_from, target_along}
 use Rattle.imp_flow.proofs.Ties.{flat_node, nodes_are, Stands, all_stand, find_node}
 use Rattle.cell_rows.proofs.Ways.{flat_behind}
 use Rattle.std.proofs.lemmas.Option.{same_Some}

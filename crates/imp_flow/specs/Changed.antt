@@ -96,8 +96,3 @@ module _ (engine : LoopOptions) (thresholds others : List ℤ) where
 abbrev pub is_looping : Shape → Bool
 is_looping (While g p ls) = true
 is_looping _ = false
-
--- no point of a statement with this shape has a row
-abbrev pub is_bare : Shape → Bool
-is_bare (Call i c None) = true
-is_bare _ = false

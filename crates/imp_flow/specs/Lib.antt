@@ -1,5 +1,4 @@
 pub mod Nodes
-pub mod Acts
 pub mod Plans
 pub mod PlanCode
 pub mod Reached

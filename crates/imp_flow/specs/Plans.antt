@@ -1,5 +1,5 @@
 -- A program's rows by its nodes.
-use Rattle.std.specs.Prelude.{ℕ, ℤ, List, reverse, Option, None, true, false}
+use Rattle.std.specs.Prelude.{ℕ, ℤ, List, reverse, Option}
 use Rattle.imp_slots.specs.Plain.{Routine}
 use Rattle.batch_meaning.specs.Batch.{LoopOptions}
 use Rattle.batch_meaning.specs.Places.{if_some, main_layout}
@@ -7,7 +7,6 @@ use Rattle.call_contexts.specs.Settings.{setting_of}
 use Rattle.call_contexts.specs.Settings as settings
 use Rattle.cell_names.specs.declared.frame.NameFrame.{NameFrame}
 use Rattle.cell_names.specs.declared.frame.Point.{Point}
-use Rattle.cell_names.specs.declared.frame.Point.TheVariants.{Entry, Then, Else, Body, Post, Iterate, Fix, Exit, Leap}
 use Rattle.cell_rows.specs.Rows.{Row, Init}
 use Rattle.cell_rows.specs.Flat.{RowsAt, row_by}
 use Rattle.imp_flow_rows.specs.Shapes.{Node}
@@ -32,18 +31,6 @@ loops_at plan place = settings.loops_at (setting_of plan.engine plan.program) pl
 
 abbrev pub plan_nodes : Plan → List Node
 plan_nodes plan = nodes_of (reverse plan.program)
-
--- the row of a point of a statement, except its iterates
-abbrev pub point_at : List NameFrame → Point → Node → Option Row
-point_at w Entry x = None
-point_at w Body x = None
-point_at w (Then n) x = branch_at w true x
-point_at w (Else n) x = branch_at w false x
-point_at w (Post n) x = post_at w x
-point_at w (Iterate n k) x = None
-point_at w (Fix n) x = fix_at w x
-point_at w (Exit n) x = exit_at w x
-point_at w (Leap n k) x = leap_at w k x
 
 module _ (plan : Plan) where
   abbrev pub by_node : (n : ℕ) → (Node → Option Row) → Option Row

@@ -1,5 +1,5 @@
 -- Targets by a program's nodes.
-use Rattle.std.specs.Prelude.{ℕ, ◌-◌, List, [], ◌∷◌, ◌++◌, length, map, Option, Some, None, Bool, true, false, if◌then◌else◌, ◌==◌, slice_get}
+use Rattle.std.specs.Prelude.{ℕ, ◌-◌, List, [], ◌∷◌, ◌++◌, length, map, Option, Some, None, if◌then◌else◌, ◌==◌, slice_get}
 use Rattle.std.specs.Str.{bytes_eq}
 use Rattle.imp_syntax.specs.declared.edit.Location.{Location}
 use Rattle.imp_syntax.specs.declared.edit.Location.TheVariants.{Before, After, Head, End}
@@ -9,7 +9,7 @@ use Rattle.cell_names.specs.declared.frame.Point.TheVariants.{Entry, Post, Fix}
 use Rattle.cell_rows.specs.Rows.{last_point}
 use Rattle.cell_rows.specs.Targets.{to_point}
 use Rattle.cell_rows.specs.Targets as plain
-use Rattle.imp_flow_rows.specs.Shapes.{Node, Shape, Act, If, While, Call}
+use Rattle.imp_flow_rows.specs.Shapes.{Node, callee_at, is_while}
 use Rattle.imp_flow_rows.specs.declared.node.Node as whole
 use Rattle.imp_flow_rows.specs.Entered.{loops_around}
 use Rattle.imp_flow.specs.declared.steps.TargetStep.{TargetStep}
@@ -43,20 +43,6 @@ into_loops ns = map Take ns
 -- a statement, if it stands in the procedure at a place
 abbrev pub if_in : (place : ℕ) → Node → Option Node
 if_in place x = if x.place == place then Some x else None
-
--- the callee of a call, where such a procedure stands before
-abbrev pub callee_at : Shape → Option ℕ
-callee_at (Act s) = None
-callee_at (If g t e) = None
-callee_at (While g end ls) = None
-callee_at (Call i q None) = None
-callee_at (Call i q (Some end)) = Some q
-
-abbrev pub is_while : Shape → Bool
-is_while (Act s) = false
-is_while (If g t e) = false
-is_while (While g end ls) = true
-is_while (Call i q end) = false
 
 -- the loops around a location in its procedure, outermost first, and its point
 abbrev pub loops_of : Option whole.Node → List ℕ

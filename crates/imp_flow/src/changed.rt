@@ -1,9 +1,9 @@
 //! Whether a statement keeps its rows in another program.
 ghost use Rattle.std.specs.Prelude.{◌≡◌, ◌+◌, ◌<◌, drop, length, ◌&&◌, MatchBool, Some};
 ghost use Rattle.imp_slots.specs.Fits.{IsChecked};
-ghost use Rattle.imp_flow_rows.specs.Entered.{leaves_now, shape_now};
+ghost use Rattle.imp_flow_rows.specs.Entered.{leaves_now, node_now};
 ghost use Rattle.imp_flow_rows.specs.Shapes as plain;
-ghost use Rattle.imp_flow.specs.Changed.{IsTold, IsChanged, Stays, is_bare, same_leaves, same_thresholds, same_rounds, same_shapes};
+ghost use Rattle.imp_flow.specs.Changed.{IsTold, IsChanged, Stays, same_leaves, same_thresholds, same_rounds, same_shapes};
 ghost use Rattle.imp_flow.specs.Nodes.{node_of};
 ghost use Rattle.imp_flow.specs.Plans.{thresholds_at, plan_nodes};
 
@@ -83,8 +83,8 @@ pub(crate) fn pair_at(old: &Flow<'_>, new: &Flow<'_>, pair: ProcPair, stmt: Stmt
     };
     match new.node(stmt) {
         None => pair,
-        Some(other) if pair.place == node.place && pair.other == other.place => pair,
-        Some(other) => pair_of(old, new, node.place, other.place),
+        Some(other) if pair.place == node.place() && pair.other == other.place() => pair,
+        Some(other) => pair_of(old, new, node.place(), other.place()),
     }
 }
 
@@ -97,12 +97,13 @@ fn same_thresholds(
     other: &Node<'_>,
 ) -> bool
     requires told { IsTold old.now new.now pair }
-    ensures is { result ≡ same_thresholds old.now new.now node.now.place other.now.place }
+    ensures is { result ≡ same_thresholds old.now new.now (node_now node.now).place
+        (node_now other.now).place }
 {
-    if pair.place == node.place && pair.other == other.place {
+    if pair.place == node.place() && pair.other == other.place() {
         pair.is_same
     } else {
-        old.thresholds(node.place) == new.thresholds(other.place)
+        old.thresholds(node.place()) == new.thresholds(other.place())
     }
 }
 
@@ -123,11 +124,12 @@ fn same_shapes(
     other: &Node<'_>,
 ) -> bool
     requires told { IsTold old.now new.now pair }
-    ensures is { result ≡ same_shapes old.now.engine (thresholds_at old.now node.now.place)
-        (thresholds_at new.now other.now.place) (shape_now node.now.shape)
-        (shape_now other.now.shape) }
+    ensures is { result ≡ same_shapes old.now.engine
+        (thresholds_at old.now (node_now node.now).place)
+        (thresholds_at new.now (node_now other.now).place) (node_now node.now).shape
+        (node_now other.now).shape }
 {
-    match (&node.shape, &other.shape) {
+    match (&node.shape(), &other.shape()) {
         (Shape::Act(a), Shape::Act(b)) => *a == *b,
         (Shape::If(a, then, els), Shape::If(b, other_then, other_els)) => {
             *a == *b && *then == *other_then && *els == *other_els
@@ -149,13 +151,6 @@ fn same_shapes(
     }
 }
 
-/// Whether no point of a statement with this shape has a row.
-fn is_bare(shape: &Shape<'_>) -> bool
-    ensures is { result ≡ is_bare (shape_now shape.now) }
-{
-    matches!(shape, Shape::Call(_, _, None))
-}
-
 /// Whether each point of a statement keeps its row.
 pub(crate) fn stays(old: &Flow<'_>, new: &Flow<'_>, pair: ProcPair, stmt: StmtId) -> bool
     requires one { old.now.engine ≡ new.now.engine }
@@ -167,11 +162,15 @@ pub(crate) fn stays(old: &Flow<'_>, new: &Flow<'_>, pair: ProcPair, stmt: StmtId
     let Some(node) = old.node(stmt) else {
         return true;
     };
-    if is_bare(&node.shape) {
+    if node.is_bare() {
         return true;
     }
     match new.node(stmt) {
         None => false,
-        Some(other) => node.front == other.front && same_shapes(old, new, pair, &node, &other),
+        Some(other) => {
+            let before = node.front();
+            let other_before = other.front();
+            before == other_before && same_shapes(old, new, pair, &node, &other)
+        }
     }
 }

@@ -1,24 +1,24 @@
 //! The flow of a program.
-ghost use Rattle.std.specs.Prelude.{ℕ, ◌≡◌, ◌+◌, option_map, IfOk, Some, List, ◌∷◌, length, reverse};
+ghost use Rattle.std.specs.Prelude.{true, false, ◌≡◌, option_map, Some, List, ◌∷◌, reverse};
 ghost use Rattle.imp_slots.specs.Fits.{IsChecked};
 ghost use Rattle.imp_check.specs.Slots.{routines_of};
 ghost use Rattle.batch_meaning.specs.Places.{main_layout};
 ghost use Rattle.call_contexts.specs.Settings.{setting_of};
-ghost use Rattle.cell_names.specs.declared.frame.Point.TheVariants.{Entry, Body, Iterate, Post};
+ghost use Rattle.cell_names.specs.declared.frame.Point.TheVariants.{Entry, Body, Iterate};
 ghost use Rattle.cell_rows.specs.Rows.{Init};
 ghost use Rattle.cell_rows.specs.Flat.{flat_row};
 ghost use Rattle.imp_flow_rows.specs.Entered.{node_now};
 ghost use Rattle.imp_flow_rows.specs.Near.{PathFrame, last_frame, row_in};
+ghost use Rattle.imp_flow_rows.specs.NodeRows.{branch_at, post_at, fix_at, exit_at, leap_at};
 ghost use Rattle.imp_flow.specs.Nodes.{node_of};
-ghost use Rattle.imp_flow.specs.Plans.{loops_at, thresholds_at, plan_nodes, plan_of, by_node, point_at, node_row};
+ghost use Rattle.imp_flow.specs.Plans.{loops_at, thresholds_at, plan_nodes, plan_of, by_node, node_row};
 
-use crate::nodes::{act_of, node_of};
+use crate::nodes::node_of;
 use call_contexts::{Setting, main_place};
 use cell_names::{NameFrame, Point};
 use imp_chains::Widening;
 use imp_flow_rows::{
-    Node, Row, act_row, branch_row, enter_row, exit_row, fix_row, leap_row, next_row, post_row,
-    turn_row,
+    Node, Row, branch_row, enter_row, exit_row, fix_row, leap_row, next_row, post_row, turn_row,
 };
 use imp_slots::Layout;
 use imp_syntax::{ProcId, StmtId};
@@ -178,6 +178,7 @@ impl<'a> Flow<'a> {
         }
     }
 
+    /// An iterate of a loop.
     #[tactic(auto, using(crate::proofs::FlowLemmas::iterate_found, crate::proofs::FlowLemmas::iterate_gone))]
     #[inline]
     fn iterate_row(&self, stmt: StmtId, index: u32) -> Option<Row<'_>>
@@ -190,41 +191,93 @@ impl<'a> Flow<'a> {
         match self.node(stmt) {
             None => None,
             Some(node) => {
-                let thresholds = self.thresholds(node.place);
+                let thresholds = self.thresholds(node.place());
                 next_row(&node, thresholds, self.budget(), self.widening(), index - 1)
             }
         }
     }
 
-    /// After a statement: of a simple one at once, and of another by its node.
+    /// The start of a block of an if: the first where `sense`.
     #[inline]
-    fn behind_row(&self, stmt: StmtId) -> Option<Row<'_>>
+    fn branch_row(&self, stmt: StmtId, sense: bool) -> Option<Row<'_>>
         ensures is { (w : List PathFrame) → option_map (row_in w) result ≡
-            by_node self.now stmt (point_at w (Post stmt)) }
+            by_node self.now stmt (branch_at w sense) }
     {
-        match act_of(&self.prog, stmt) {
-            Some((entry, act)) => Some(act_row(entry, act)),
-            None => self.stmt_row(Point::Post(stmt), stmt),
+        match self.node(stmt) {
+            None => None,
+            Some(node) => branch_row(&node, sense),
         }
     }
 
-    /// The row of a statement's point, except an iterate.
+    /// The start of the first block of an if.
     #[inline]
-    fn stmt_row(&self, point: Point, stmt: StmtId) -> Option<Row<'_>>
+    fn then_row(&self, stmt: StmtId) -> Option<Row<'_>>
         ensures is { (w : List PathFrame) → option_map (row_in w) result ≡
-            by_node self.now stmt (point_at w point) }
+            by_node self.now stmt (branch_at w true) }
     {
-        let Some(node) = self.node(stmt) else {
-            return None;
-        };
-        match point {
-            Point::Then(_) => branch_row(&node, true),
-            Point::Else(_) => branch_row(&node, false),
-            Point::Post(_) => post_row(&node),
-            Point::Fix(_) => fix_row(&node),
-            Point::Exit(_) => exit_row(&node),
-            Point::Leap(_, last) => leap_row(&node, last),
-            _ => None,
+        // in a variable, so that the rows of other points are copied once less
+        let row = self.branch_row(stmt, true);
+        row
+    }
+
+    /// The start of the second block of an if.
+    #[inline]
+    fn else_row(&self, stmt: StmtId) -> Option<Row<'_>>
+        ensures is { (w : List PathFrame) → option_map (row_in w) result ≡
+            by_node self.now stmt (branch_at w false) }
+    {
+        // as in `then_row`
+        let row = self.branch_row(stmt, false);
+        row
+    }
+
+    /// After a statement.
+    #[inline]
+    fn post_row(&self, stmt: StmtId) -> Option<Row<'_>>
+        ensures is { (w : List PathFrame) → option_map (row_in w) result ≡
+            by_node self.now stmt (post_at w) }
+    {
+        match self.node(stmt) {
+            None => None,
+            Some(node) => post_row(&node),
+        }
+    }
+
+    /// Where the iterates of a loop stop.
+    #[inline]
+    fn fix_row(&self, stmt: StmtId) -> Option<Row<'_>>
+        ensures is { (w : List PathFrame) → option_map (row_in w) result ≡
+            by_node self.now stmt (fix_at w) }
+    {
+        match self.node(stmt) {
+            None => None,
+            Some(node) => fix_row(&node),
+        }
+    }
+
+    /// After a loop with breaks, by its condition alone.
+    fn exit_row(&self, stmt: StmtId) -> Option<Row<'_>>
+        ensures is { (w : List PathFrame) → option_map (row_in w) result ≡
+            by_node self.now stmt (exit_at w) }
+    {
+        match self.node(stmt) {
+            None => None,
+            Some(node) => exit_row(&node),
+        }
+    }
+
+    /// After a loop with its breaks up to this one.
+    fn leap_row(&self, stmt: StmtId, last: StmtId) -> Option<Row<'_>>
+        ensures is { (w : List PathFrame) → option_map (row_in w) result ≡
+            by_node self.now stmt (leap_at w last) }
+    {
+        match self.node(stmt) {
+            None => None,
+            Some(node) => {
+                // as in `then_row`
+                let row = leap_row(&node, last);
+                row
+            }
         }
     }
 
@@ -237,12 +290,12 @@ impl<'a> Flow<'a> {
             Point::Entry => self.first_row(frame),
             Point::Body => self.turn_row(frame),
             Point::Iterate(stmt, index) => self.iterate_row(stmt, index),
-            Point::Then(stmt) => self.stmt_row(point, stmt),
-            Point::Else(stmt) => self.stmt_row(point, stmt),
-            Point::Post(stmt) => self.behind_row(stmt),
-            Point::Fix(stmt) => self.stmt_row(point, stmt),
-            Point::Exit(stmt) => self.stmt_row(point, stmt),
-            Point::Leap(stmt, _) => self.stmt_row(point, stmt),
+            Point::Then(stmt) => self.then_row(stmt),
+            Point::Else(stmt) => self.else_row(stmt),
+            Point::Post(stmt) => self.post_row(stmt),
+            Point::Fix(stmt) => self.fix_row(stmt),
+            Point::Exit(stmt) => self.exit_row(stmt),
+            Point::Leap(stmt, last) => self.leap_row(stmt, last),
         }
     }
 

@@ -1,16 +1,13 @@
 //! The statements of a program as nodes of its flow, and the loops around them.
-ghost use Rattle.std.specs.Prelude.{◌≡◌, ◌++◌, reverse, option_map, IfSome, OnOk};
+ghost use Rattle.std.specs.Prelude.{◌≡◌, ◌++◌, reverse, option_map, OnOk};
 ghost use Rattle.imp_check.specs.Slots.{routines_of};
 ghost use Rattle.imp_flow_rows.specs.Entered.{known_in, head_of, loops_up, loops_around, node_now};
 ghost use Rattle.imp_flow.specs.Nodes.{nodes_of, node_of};
-ghost use Rattle.imp_flow.specs.Acts.{IsActOf};
 ghost use Rattle.imp_flow.specs.Reached.{into_loops};
 
 use crate::steps::TargetStep;
 use base_values::{Items, Memory};
-use imp_check::{Entry, SlotForm};
 use imp_flow_rows::Node;
-use imp_slots::SlotStmt;
 use imp_syntax::StmtId;
 use imp_table::View;
 
@@ -68,21 +65,6 @@ pub(crate) fn node_of<'a>(prog: &'a View<'a>, stmt: StmtId) -> Option<Node<'a>>
     prog.procs();
     match prog.entry(stmt) {
         None => None,
-        Some(entry) => Some(Node::of(prog, entry)),
-    }
-}
-
-/// The simple statement of a number, with what is known of it; `None` where no simple statement has the number.
-#[tactic(auto, using(crate::proofs::EnteredLemmas::act_found))]
-#[inline]
-pub(crate) fn act_of<'a>(prog: &'a View<'a>, stmt: StmtId) -> Option<(&'a Entry, &'a SlotStmt)>
-    ensures is { IfSome result (λ r. IsActOf (nodes_of (reverse (routines_of prog.now))) stmt
-        r.0.now r.1.now) }
-{
-    prog.procs();
-    let entry = prog.entry(stmt)?;
-    match &entry.form {
-        SlotForm::Stmt(act) => Some((entry, act)),
-        _ => None,
+        Some(known) => Some(Node { prog, known }),
     }
 }

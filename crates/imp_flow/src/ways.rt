@@ -6,8 +6,8 @@ ghost use Rattle.imp_slots.specs.Fits.{IsChecked};
 ghost use Rattle.imp_words.specs.declared.refusal.QueryRefusal.{QueryRefusal};
 ghost use Rattle.batch_meaning.specs.Answers.{In, Misses, procedure_of};
 ghost use Rattle.cell_rows.specs.Targets.{target, targets};
-ghost use Rattle.imp_flow_rows.specs.Entered.{node_now, shape_now};
-ghost use Rattle.imp_flow.specs.Reached.{target_of, those_there, is_while, into_loops, loops_of, ending_of, reached, node_in_place, way_into, way_along, ending_at, target_from};
+ghost use Rattle.imp_flow_rows.specs.Entered.{node_now};
+ghost use Rattle.imp_flow.specs.Reached.{target_of, those_there, into_loops, loops_of, ending_of, reached, node_in_place, way_into, way_along, ending_at, target_from};
 
 use crate::flow::Flow;
 use crate::nodes::enter_loops_around;
@@ -15,7 +15,7 @@ use crate::steps::{Target, TargetStep};
 use base_values::{Items, Memory, Text};
 use call_contexts::main_place;
 use cell_names::Point;
-use imp_flow_rows::{Node, Shape, behind_or};
+use imp_flow_rows::{Node, behind_or};
 use imp_syntax::{Chain, Location, ProcId, StmtId};
 use std::alloc::Global;
 
@@ -49,7 +49,7 @@ fn node_in_place<'a>(flow: &'a Flow<'_>, place: ProcId, stmt: StmtId) -> Option<
     ensures is { option_map node_now result ≡ node_in_place flow.now place stmt }
 {
     match flow.node(stmt) {
-        Some(node) if node.place == place => Some(node),
+        Some(node) if node.place() == place => Some(node),
         _ => None,
     }
 }
@@ -73,17 +73,15 @@ fn enter_call(flow: &Flow<'_>, caller: Reached, site: StmtId) -> Result<Option<R
     let Some(node) = node_in_place(flow, place, site) else {
         return Ok(None);
     };
-    match &node.shape {
-        Shape::Call(_, callee, Some(_)) => {
-            enter_loops_around(&node, &mut steps)?;
-            steps.push(TargetStep::Go(site))?;
-            Ok(Some(Reached {
-                steps,
-                place: *callee,
-            }))
-        }
-        _ => Ok(None),
-    }
+    let Some(callee) = node.callee() else {
+        return Ok(None);
+    };
+    enter_loops_around(&node, &mut steps)?;
+    steps.push(TargetStep::Go(site))?;
+    Ok(Some(Reached {
+        steps,
+        place: callee,
+    }))
 }
 
 /// From main into the last procedure of a chain, which has the outermost call first.
@@ -108,7 +106,7 @@ fn before<'a>(flow: &'a Flow<'_>, place: ProcId, stmt: StmtId) -> Option<Ending<
     match node_in_place(flow, place, stmt) {
         None => None,
         Some(node) => {
-            let point = node.front;
+            let point = node.front();
             let around = Some(node);
             Some(Ending { around, point })
         }
@@ -128,19 +126,12 @@ fn after<'a>(flow: &'a Flow<'_>, place: ProcId, stmt: StmtId) -> Option<Ending<'
     }
 }
 
-/// Whether a statement is a loop.
-fn is_loop(shape: &Shape<'_>) -> bool
-    ensures is { result ≡ is_while (shape_now shape.now) }
-{
-    matches!(shape, Shape::While(_, _, _))
-}
-
 /// At the head of a loop: the fixed point of its iterates.
 fn head<'a>(flow: &'a Flow<'_>, place: ProcId, stmt: StmtId) -> Option<Ending<'a>>
     ensures is { option_map ending_of result ≡ ending_at flow.now (Location.Head stmt) place }
 {
     match node_in_place(flow, place, stmt) {
-        Some(node) if is_loop(&node.shape) => Some(Ending {
+        Some(node) if node.is_loop() => Some(Ending {
             around: Some(node),
             point: Point::Fix(stmt),
         }),

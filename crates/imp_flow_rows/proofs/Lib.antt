@@ -1,1 +1,2 @@
 pub mod LeaveLemmas
+pub mod RowLemmas

@@ -53,6 +53,10 @@ front_in (Some x) = front_point x
 abbrev pub leave_at : Table → ℕ → Leave
 leave_at at n = record { stmt = n; front = front_in (at n) }
 
+-- the breaks that leave a loop
+abbrev pub leaves_by : Table → known.Entry → List Leave
+leaves_by at x = map (leave_at at) x.breaks
+
 -- the last point of the body of a procedure, if there is one, and of one before a place
 abbrev pub end_by : Option BlockEnds → Option Point
 end_by None = None
@@ -73,7 +77,7 @@ branching at x g (tree.Simple n a) = if_by x g
 branching at x g (tree.Break n) = if_by x g
 branching at x g (tree.Call n y q es) = if_by x g
 branching at x g (tree.If n c t e) = if_by x g
-branching at x g (tree.While n c b) = shape.While g (behind_or Body x.inner.last) (map (leave_at at) x.breaks)
+branching at x g (tree.While n c b) = shape.While g (behind_or Body x.inner.last) (leaves_by at x)
 
 -- the shape of a statement, where the last points of procedures are these
 abbrev pub shape_from : Table → (ends : ℕ → Option Point) → known.Entry → SlotForm → Shape
@@ -115,4 +119,4 @@ abbrev pub loops_around : whole.Node → List ℕ
 loops_around x = loops_up (known_in x.prog.now) x.known.now.context.depth x.known.now.context.head
 
 abbrev pub node_now : whole.Node → Node
-node_now x = record { stmt = x.stmt; place = x.place; loops = loops_around x; front = x.front; shape = shape_now x.shape }
+node_now x = node_by x.prog.now x.known.now

@@ -7,10 +7,12 @@ use Rattle.batch_meaning.specs.Places.{if_some}
 use Rattle.cell_names.specs.declared.frame.NameFrame.{NameFrame}
 use Rattle.cell_names.specs.declared.frame.NameFrame.TheVariants.{InCall, InLoop}
 use Rattle.cell_names.specs.declared.frame.Point.{Point}
-use Rattle.cell_names.specs.declared.frame.Point.TheVariants.{Iterate, Fix, Exit, Leap}
+use Rattle.cell_names.specs.declared.frame.Point.TheVariants.{Body, Iterate, Fix, Exit, Leap}
 use Rattle.cell_rows.specs.Names.{name, place_of, item}
 use Rattle.cell_rows.specs.Rows.{Posts, Assumes, Enters, Exits, JoinsBoth, Leaves, Row, One, Two, Fixed, Joins, next_operation, sites_of}
+use Rattle.imp_check.specs.declared.entry.Entry as known
 use Rattle.imp_flow_rows.specs.declared.node.Leave.{Leave}
+use Rattle.imp_flow_rows.specs.Entered.{Table, behind_or, leaves_by}
 use Rattle.imp_flow_rows.specs.Shapes.{Node, Shape, Act, If, While, Call}
 
 abbrev pub breaks_of : List Leave → List ℕ
@@ -44,6 +46,17 @@ looping (Act s) = None
 looping (If g t e) = None
 looping (While g end ls) = Some (record { guard = g; end = end; leaves = ls })
 looping (Call i q end) = None
+
+-- the same of what is known of a while
+abbrev pub looping_by : Table → known.Entry → Guard → Looping
+looping_by at x g = record { guard = g; end = behind_or Body x.inner.last; leaves = leaves_by at x }
+
+-- the condition of an if, of a shape, if it is one
+abbrev pub choosing : Shape → Option Guard
+choosing (Act s) = None
+choosing (If g t e) = Some g
+choosing (While g end ls) = None
+choosing (Call i q end) = None
 
 module _ (w : List NameFrame) where
   -- after the loop n with its first breaks, and the break i

@@ -1,6 +1,9 @@
 //! Statements as nodes of the flow, read off the table of statements.
-ghost use Rattle.std.specs.Prelude.{◌≡◌, ◌<◌, length, slice_get, Some};
-ghost use Rattle.imp_flow_rows.specs.Entered.{known_in, start_of, behind_or, front_point, front_in, end_in, branching, shape_from, node_by, leaves_now, shape_now, node_now};
+ghost use Rattle.std.specs.Prelude.{ℕ, ◌≡◌, ◌<◌, Option, length, slice_get, option_map, Some};
+ghost use Rattle.cell_names.specs.declared.frame.Point.TheVariants.{Body, Then, Else};
+ghost use Rattle.imp_flow_rows.specs.Entered.{Table, known_in, start_of, behind_or, front_point, front_in, leaves_by, end_in, branching, shape_from, leaves_now, shape_now, node_now};
+ghost use Rattle.imp_flow_rows.specs.Shapes.{callee_at, is_while, is_bare};
+ghost use Rattle.imp_flow_rows.specs.NodeRows.{looping, choosing, looping_by};
 
 use cell_names::Point;
 use imp_check::{Around, Entry, SlotForm, Which};
@@ -35,7 +38,7 @@ pub enum Shape<'a> {
     Call(&'a SlotCall, ProcId, Option<Point>),
 }
 
-/// A statement, and where it stands. It is read off the table when it is asked for, in constant time, and takes no
+/// A statement, and where it stands. Each part is read off the table when it is asked for, in constant time and without
 /// memory.
 #[derive(Clone, Copy, Drop)]
 pub struct Node<'a> {
@@ -43,12 +46,6 @@ pub struct Node<'a> {
     pub prog: &'a View<'a>,
     /// What is known of it.
     pub known: &'a Entry,
-    pub stmt: StmtId,
-    /// Its procedure.
-    pub place: ProcId,
-    /// The point before it.
-    pub front: Point,
-    pub shape: Shape<'a>,
 }
 
 /// The point at which a block begins.
@@ -121,7 +118,7 @@ impl<'a> Leaves<'a> {
 
 /// The last point of the body of a procedure that stands before another one.
 #[inline]
-fn end_in(prog: &View<'_>, place: ProcId, callee: ProcId) -> Option<Point>
+pub(crate) fn end_in(prog: &View<'_>, place: ProcId, callee: ProcId) -> Option<Point>
     ensures is { result ≡ end_in prog.now place callee }
 {
     if callee.place() >= place.place() {
@@ -133,53 +130,161 @@ fn end_in(prog: &View<'_>, place: ProcId, callee: ProcId) -> Option<Point>
     }
 }
 
+/// The breaks that leave a loop.
+#[inline]
+pub(crate) fn leaves_of<'a>(prog: &'a View<'a>, entry: &'a Entry) -> Leaves<'a>
+    ensures is { leaves_now result ≡ leaves_by (known_in prog.now) entry.now }
+{
+    let breaks = entry.breaks.as_slice();
+    Leaves { prog, breaks }
+}
+
+/// The last point of the body of a while.
+#[inline]
+pub(crate) fn round_end(entry: &Entry) -> Point
+    ensures is { result ≡ behind_or Body entry.now.inner.last }
+{
+    behind_or(Point::Body, entry.inner.last)
+}
+
+/// The last point of the first block of an if.
+#[inline]
+pub(crate) fn then_end(entry: &Entry) -> Point
+    ensures is { result ≡ behind_or (Then entry.now.number) entry.now.inner.last }
+{
+    behind_or(Point::Then(entry.number), entry.inner.last)
+}
+
+/// The last point of the second block of an if.
+#[inline]
+pub(crate) fn else_end(entry: &Entry) -> Point
+    ensures is { result ≡ behind_or (Else entry.now.number) entry.now.other.last }
+{
+    behind_or(Point::Else(entry.number), entry.other.last)
+}
+
+/// The condition of a while, `None` of any other statement.
+#[inline]
+pub(crate) fn loop_cond(entry: &Entry) -> Option<&SlotCond>
+    ensures is { (at : Table) (ends : ℕ → Option Point) → option_map (λ c. looping_by at entry.now
+        c.now) result ≡ looping (shape_from at ends entry.now entry.now.form) }
+{
+    match &entry.form {
+        SlotForm::Cond(cond) => match entry.part.node() {
+            StmtNode::While(_, _) => Some(cond),
+            _ => None,
+        },
+        _ => None,
+    }
+}
+
+/// The condition of an if, `None` of any other statement.
+#[inline]
+pub(crate) fn if_cond(entry: &Entry) -> Option<&SlotCond>
+    ensures is { (at : Table) (ends : ℕ → Option Point) → option_map (λ c. c.now) result ≡
+        choosing (shape_from at ends entry.now entry.now.form) }
+{
+    match &entry.form {
+        SlotForm::Cond(cond) => match entry.part.node() {
+            StmtNode::While(_, _) => None,
+            _ => Some(cond),
+        },
+        _ => None,
+    }
+}
+
 /// What a statement with a condition does to the flow.
 #[inline]
 fn branching<'a>(prog: &'a View<'a>, entry: &'a Entry, cond: &'a SlotCond) -> Shape<'a>
     ensures is { shape_now result ≡ branching (known_in prog.now) entry.now cond.now
         entry.now.part }
 {
-    let last = entry.inner.last;
     match entry.part.node() {
-        StmtNode::While(_, _) => {
-            let breaks = entry.breaks.as_slice();
-            Shape::While(cond, behind_or(Point::Body, last), Leaves { prog, breaks })
-        }
-        _ => {
-            let then = behind_or(Point::Then(entry.number), last);
-            let els = behind_or(Point::Else(entry.number), entry.other.last);
-            Shape::If(cond, then, els)
-        }
-    }
-}
-
-#[inline]
-fn shape_of<'a>(prog: &'a View<'a>, entry: &'a Entry) -> Shape<'a>
-    ensures is { shape_now result ≡ shape_from (known_in prog.now)
-        (end_in prog.now entry.now.context.proc) entry.now entry.now.form }
-{
-    match &entry.form {
-        SlotForm::Stmt(stmt) => Shape::Act(stmt),
-        SlotForm::Cond(cond) => branching(prog, entry, cond),
-        SlotForm::Call(call, callee) => {
-            Shape::Call(call, *callee, end_in(prog, entry.context.proc, *callee))
-        }
+        StmtNode::While(_, _) => Shape::While(cond, round_end(entry), leaves_of(prog, entry)),
+        _ => Shape::If(cond, then_end(entry), else_end(entry)),
     }
 }
 
 impl<'a> Node<'a> {
-    /// A statement of which this is known.
+    /// Its number.
     #[inline]
-    pub fn of(prog: &'a View<'a>, entry: &'a Entry) -> Node<'a>
-        ensures is { node_now result ≡ node_by prog.now entry.now }
+    pub fn stmt(&self) -> StmtId
+        ensures is { result ≡ (node_now self.now).stmt }
     {
-        Node {
-            prog,
-            known: entry,
-            stmt: entry.number,
-            place: entry.context.proc,
-            front: front_of(entry),
-            shape: shape_of(prog, entry),
+        self.known.number
+    }
+
+    /// Its procedure.
+    #[inline]
+    pub fn place(&self) -> ProcId
+        ensures is { result ≡ (node_now self.now).place }
+    {
+        self.known.context.proc
+    }
+
+    /// The point before it.
+    #[inline]
+    pub fn front(&self) -> Point
+        ensures is { result ≡ (node_now self.now).front }
+    {
+        front_of(self.known)
+    }
+
+    /// Whether it is a loop.
+    #[tactic(auto, using(crate::proofs::RowLemmas::while_loops))]
+    pub fn is_loop(&self) -> bool
+        ensures is { result ≡ is_while (node_now self.now).shape }
+    {
+        match loop_cond(self.known) {
+            Some(_) => true,
+            None => false,
+        }
+    }
+
+    /// The callee of a call, where such a procedure stands before.
+    #[tactic(auto, using(crate::proofs::RowLemmas::calls_none))]
+    pub fn callee(&self) -> Option<ProcId>
+        ensures is { result ≡ callee_at (node_now self.now).shape }
+    {
+        match &self.known.form {
+            SlotForm::Call(_, callee) => {
+                match end_in(self.prog, self.known.context.proc, *callee) {
+                    Some(_) => Some(*callee),
+                    None => None,
+                }
+            }
+            _ => None,
+        }
+    }
+
+    /// Whether none of its points has a row: a call of a procedure that does not stand before.
+    #[tactic(auto, using(crate::proofs::RowLemmas::bare_never))]
+    pub fn is_bare(&self) -> bool
+        ensures is { result ≡ is_bare (node_now self.now).shape }
+    {
+        match &self.known.form {
+            SlotForm::Call(_, callee) => {
+                match end_in(self.prog, self.known.context.proc, *callee) {
+                    Some(_) => false,
+                    None => true,
+                }
+            }
+            _ => false,
+        }
+    }
+
+    /// What it does to the flow.
+    pub fn shape(&self) -> Shape<'a>
+        ensures is { shape_now result ≡ (node_now self.now).shape }
+    {
+        let prog = self.prog;
+        let entry = self.known;
+        match &entry.form {
+            SlotForm::Stmt(stmt) => Shape::Act(stmt),
+            SlotForm::Cond(cond) => branching(prog, entry, cond),
+            SlotForm::Call(call, callee) => {
+                Shape::Call(call, *callee, end_in(prog, entry.context.proc, *callee))
+            }
         }
     }
 }

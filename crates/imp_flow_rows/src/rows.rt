@@ -1,20 +1,23 @@
 //! The rows of a statement's points.
-ghost use Rattle.std.specs.Prelude.{◌≡◌, ◌≤◌, ◌<◌, Some, length, option_map, IfSome, List, ◌∷◌};
+ghost use Rattle.std.specs.Prelude.{ℕ, ◌≡◌, ◌≤◌, ◌<◌, Some, length, option_map, IfSome, List, ◌∷◌};
 ghost use Rattle.imp_flow_rows.specs.Near.{PathFrame};
 ghost use Rattle.cell_rows.specs.Names.{place_of};
-ghost use Rattle.imp_flow_rows.specs.Entered.{front_point, leaves_now, node_now};
+ghost use Rattle.imp_flow_rows.specs.Entered.{known_in, front_point, branching, leaves_now, node_now};
 ghost use Rattle.imp_flow_rows.specs.Near.{row_in};
 ghost use Rattle.imp_flow_rows.specs.Shapes as plain;
 ghost use Rattle.imp_flow_rows.specs.NodeRows.{iterate_at, joined_at, breaks_of, joins_at, behind_loop, post_at, post_by, enter_at, branch_at, turn_at, next_at, fix_at, exit_at, leap_at};
 
 use crate::input::Input;
-use crate::node::{Leaves, Node, Shape, front_of};
+use crate::node::{
+    Leaves, Node, else_end, end_in, front_of, if_cond, leaves_of, loop_cond, round_end, then_end,
+};
 use crate::row::{Binary, Row, Unary, iterate_at};
 use cell_names::{NameFrame, Point};
 use imp_chains::Widening;
-use imp_check::Entry;
-use imp_slots::{SlotCond, SlotStmt};
-use imp_syntax::StmtId;
+use imp_check::{Entry, SlotForm};
+use imp_slots::{SlotCall, SlotCond};
+use imp_syntax::{StmtId, StmtNode};
+use imp_table::View;
 
 /// The point after a loop with its first breaks.
 #[tactic(auto, using(crate::proofs::LeaveLemmas::joined_last))]
@@ -52,7 +55,40 @@ fn behind_loop<'a>(head: StmtId, cond: &'a SlotCond, leaves: &Leaves<'_>) -> Opt
     if count == 0 {
         Some(Row::One(Unary::Assume(cond, false), Input::here(Point::Fix(head))))
     } else {
-        joins_row(false, head, leaves, count - 1)
+        // in a variable, so that the row of a loop without breaks is copied once less
+        let row = joins_row(false, head, leaves, count - 1);
+        row
+    }
+}
+
+/// After a statement with a condition.
+#[inline]
+fn behind_branching<'a>(prog: &'a View<'a>, entry: &'a Entry, cond: &'a SlotCond) -> Option<Row<'a>>
+    ensures is { (w : List PathFrame) → option_map (row_in w) result ≡ post_by w entry.now.number
+        (front_point entry.now) (branching (known_in prog.now) entry.now cond.now entry.now.part) }
+{
+    match entry.part.node() {
+        StmtNode::While(_, _) => behind_loop(entry.number, cond, &leaves_of(prog, entry)),
+        _ => Some(Row::Two(
+            Binary::Join,
+            Input::here(then_end(entry)),
+            Input::here(else_end(entry)),
+        )),
+    }
+}
+
+/// After a call: back from the callee, where its body ends at this point.
+#[inline]
+fn behind_call<'a>(entry: &Entry, call: &'a SlotCall, end: Option<Point>) -> Option<Row<'a>>
+    ensures is { (w : List PathFrame) (q : ℕ) → option_map (row_in w) result ≡
+        post_by w entry.now.number (front_point entry.now) (plain.Call call.now q end) }
+{
+    match end {
+        None => None,
+        Some(end) => {
+            let done = Input::inside(NameFrame::InCall(entry.number), end);
+            Some(Row::Two(Binary::Leave(call), Input::here(front_of(entry)), done))
+        }
     }
 }
 
@@ -62,60 +98,44 @@ pub fn post_row<'a>(node: &Node<'a>) -> Option<Row<'a>>
     ensures is { (w : List PathFrame) → option_map (row_in w) result ≡
         post_at w (node_now node.now) }
 {
-    match &node.shape {
-        Shape::Act(stmt) => Some(Row::One(Unary::Post(*stmt), Input::here(node.front))),
-        Shape::If(_, then, els) => Some(Row::Two(
-            Binary::Join,
-            Input::here(*then),
-            Input::here(*els),
-        )),
-        Shape::While(cond, _, leaves) => behind_loop(node.stmt, *cond, leaves),
-        Shape::Call(call, _, end) => match end {
-            None => None,
-            Some(end) => {
-                let done = Input::inside(NameFrame::InCall(node.stmt), *end);
-                Some(Row::Two(Binary::Leave(*call), Input::here(node.front), done))
-            }
-        },
+    let prog = node.prog;
+    let entry = node.known;
+    match &entry.form {
+        SlotForm::Stmt(stmt) => Some(Row::One(Unary::Post(stmt), Input::here(front_of(entry)))),
+        SlotForm::Cond(cond) => behind_branching(prog, entry, cond),
+        SlotForm::Call(call, callee) => {
+            behind_call(entry, call, end_in(prog, entry.context.proc, *callee))
+        }
     }
 }
 
-/// After a simple statement of which this is known.
-#[inline]
-pub fn act_row<'a>(entry: &Entry, stmt: &'a SlotStmt) -> Row<'a>
-    ensures is { (w : List PathFrame) → Some (row_in w result) ≡
-        post_by w entry.now.number (front_point entry.now) (plain.Act stmt.now) }
-{
-    Row::One(Unary::Post(stmt), Input::here(front_of(entry)))
-}
-
 /// Into the procedure that a statement calls.
+#[tactic(auto, using(crate::proofs::RowLemmas::enters_none))]
 #[inline]
 pub fn enter_row<'a>(node: &Node<'a>) -> Option<Row<'a>>
     ensures is { (f : PathFrame) (w : List PathFrame) → option_map (row_in (f ∷ w)) result ≡
         enter_at w (node_now node.now) }
 {
-    match &node.shape {
-        Shape::Call(call, _, Some(_)) => Some(Row::One(
-            Unary::Enter(*call),
-            Input::out(node.front),
-        )),
+    let entry = node.known;
+    match &entry.form {
+        SlotForm::Call(call, callee) => match end_in(node.prog, entry.context.proc, *callee) {
+            Some(_) => Some(Row::One(Unary::Enter(call), Input::out(front_of(entry)))),
+            None => None,
+        },
         _ => None,
     }
 }
 
 /// Into a block of an if: the first where `sense`.
+#[tactic(auto, using(crate::proofs::RowLemmas::branch_chosen))]
 #[inline]
 pub fn branch_row<'a>(node: &Node<'a>, sense: bool) -> Option<Row<'a>>
     ensures is { (w : List PathFrame) → option_map (row_in w) result ≡
         branch_at w sense (node_now node.now) }
 {
-    match &node.shape {
-        Shape::If(cond, _, _) => Some(Row::One(
-            Unary::Assume(*cond, sense),
-            Input::here(node.front),
-        )),
-        _ => None,
+    match if_cond(node.known) {
+        Some(cond) => Some(Row::One(Unary::Assume(cond, sense), Input::here(node.front()))),
+        None => None,
     }
 }
 
@@ -125,10 +145,10 @@ pub fn turn_row<'a>(node: &Node<'a>, budget: u32, widening: Widening, index: u32
     ensures is { (f : PathFrame) (w : List PathFrame) → option_map (row_in (f ∷ w)) result ≡
         turn_at w (record { budget = budget; widening = widening }) index (node_now node.now) }
 {
-    match &node.shape {
-        Shape::While(cond, _, _) if index < budget => {
-            let from = iterate_at(node.stmt, node.front, index);
-            Some(Row::One(Unary::Assume(*cond, true), Input::out(from)))
+    match loop_cond(node.known) {
+        Some(cond) if index < budget => {
+            let from = iterate_at(node.stmt(), node.front(), index);
+            Some(Row::One(Unary::Assume(cond, true), Input::out(from)))
         }
         _ => None,
     }
@@ -147,15 +167,16 @@ pub fn next_row<'a>(
         next_at w (record { budget = budget; widening = widening }) thresholds.now index
         (node_now node.now) }
 {
-    match &node.shape {
-        Shape::While(_, end, _) if index < budget => {
+    match loop_cond(node.known) {
+        Some(_) if index < budget => {
             let operation = if index < widening.delay {
                 Binary::Join
             } else {
                 Binary::Widen(thresholds)
             };
-            let from = iterate_at(node.stmt, node.front, index);
-            let round = Input::inside(NameFrame::InLoop(node.stmt, index), *end);
+            let from = iterate_at(node.stmt(), node.front(), index);
+            let frame = NameFrame::InLoop(node.stmt(), index);
+            let round = Input::inside(frame, round_end(node.known));
             Some(Row::Two(operation, Input::here(from), round))
         }
         _ => None,
@@ -168,9 +189,9 @@ pub fn fix_row<'a>(node: &Node<'a>) -> Option<Row<'a>>
     ensures is { (w : List PathFrame) → option_map (row_in w) result ≡
         fix_at w (node_now node.now) }
 {
-    match &node.shape {
-        Shape::While(_, _, _) => Some(Row::Fixed(node.stmt, node.front)),
-        _ => None,
+    match loop_cond(node.known) {
+        Some(_) => Some(Row::Fixed(node.stmt(), node.front())),
+        None => None,
     }
 }
 
@@ -180,10 +201,10 @@ pub fn exit_row<'a>(node: &Node<'a>) -> Option<Row<'a>>
     ensures is { (w : List PathFrame) → option_map (row_in w) result ≡
         exit_at w (node_now node.now) }
 {
-    match &node.shape {
-        Shape::While(cond, _, leaves) if leaves.len() > 0 => Some(Row::One(
-            Unary::Exit(*cond),
-            Input::here(Point::Fix(node.stmt)),
+    match loop_cond(node.known) {
+        Some(cond) if leaves_of(node.prog, node.known).len() > 0 => Some(Row::One(
+            Unary::Exit(cond),
+            Input::here(Point::Fix(node.stmt())),
         )),
         _ => None,
     }
@@ -208,14 +229,15 @@ pub fn leap_row<'a>(node: &Node<'a>, stmt: StmtId) -> Option<Row<'a>>
     ensures is { (w : List PathFrame) → option_map (row_in w) result ≡
         leap_at w stmt (node_now node.now) }
 {
-    match &node.shape {
-        Shape::While(_, _, leaves) => {
+    match loop_cond(node.known) {
+        Some(_) => {
+            let leaves = leaves_of(node.prog, node.known);
             let count = leaves.len();
-            match place_of(leaves, stmt) {
-                Some(place) if place + 1 < count => joins_row(true, node.stmt, leaves, place),
+            match place_of(&leaves, stmt) {
+                Some(place) if place + 1 < count => joins_row(true, node.stmt(), &leaves, place),
                 _ => None,
             }
         }
-        _ => None,
+        None => None,
     }
 }

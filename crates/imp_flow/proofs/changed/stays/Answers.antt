@@ -1,5 +1,6 @@
-use Rattle.std.proofs.Common.{◌&&◌, MatchBool, sym, ap, subst, ◌∙◌}
+use Rattle.std.proofs.Common.{◌≡◌, ◌&&◌, MatchBool, sym, ap, subst, ◌∙◌}
 use Rattle.std.specs.Option.{option_map}
+use Rattle.cell_names.specs.contracts.frame.PointPartialEq.TheImpl as points
 use Rattle.imp_flow_rows.specs.Entered.{node_now}
 use Rattle.imp_flow.specs.Plans.{thresholds_at}
 use Rattle.imp_flow.specs.Changed.{Stays, IsChanged, same_shapes}
@@ -30,10 +31,11 @@ returns-then-eq c =
     let e = sym c.in-Some.ensures.is in
     let f = sym c.in-Some-node.ensures.is in
     let v = told_found old new c.requires.one n x y e f (sym c.is_bare.ensures.is ∙ c.if-is_bare.false) (found_fine old n x c.requires.old e) (found_fine new n y c.requires.new f) in
+    let before : points.ghosts.eq x.front y.front ≡ points.ghosts.eq c.front-before.result c.front-other_before.result = λ i. points.ghosts.eq (sym c.front-before.ensures.is i) (sym c.front-other_before.ensures.is i) in
     record {
       is =
           subst (λ b. MatchBool b (Stays old new n) (IsChanged old new n))
-          (ap (λ b. b && same_shapes old.engine (thresholds_at old x.place) (thresholds_at new y.place) x.shape y.shape) (sym c.eq.ensures ∙ c.if-eq.true) ∙ sym c.same_shapes.ensures.is)
+          (ap (λ b. b && same_shapes old.engine (thresholds_at old x.place) (thresholds_at new y.place) x.shape y.shape) (before ∙ sym c.eq.ensures ∙ c.if-eq.true) ∙ sym c.same_shapes.ensures.is)
           (by_verdict v);
     }
 
@@ -47,9 +49,10 @@ returns-else-eq c =
     let e = sym c.in-Some.ensures.is in
     let f = sym c.in-Some-node.ensures.is in
     let v = told_found old new c.requires.one n x y e f (sym c.is_bare.ensures.is ∙ c.if-is_bare.false) (found_fine old n x c.requires.old e) (found_fine new n y c.requires.new f) in
+    let before : points.ghosts.eq x.front y.front ≡ points.ghosts.eq c.front-before.result c.front-other_before.result = λ i. points.ghosts.eq (sym c.front-before.ensures.is i) (sym c.front-other_before.ensures.is i) in
     record {
       is =
           subst (λ b. MatchBool b (Stays old new n) (IsChanged old new n))
-          (ap (λ b. b && same_shapes old.engine (thresholds_at old x.place) (thresholds_at new y.place) x.shape y.shape) (sym c.eq.ensures ∙ c.if-eq.false) ∙ sym c.if-eq.false)
+          (ap (λ b. b && same_shapes old.engine (thresholds_at old x.place) (thresholds_at new y.place) x.shape y.shape) (before ∙ sym c.eq.ensures ∙ c.if-eq.false) ∙ sym c.if-eq.false)
           (by_verdict v);
     }
