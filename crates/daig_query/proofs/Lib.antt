@@ -30,3 +30,5 @@ pub mod Beginning
 pub mod Rest
 pub mod Sweeping
 pub mod Sweeps
+pub mod Renaming
+pub mod Renames

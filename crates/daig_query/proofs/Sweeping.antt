@@ -92,18 +92,20 @@ pub leaves-over : (cells : Cells) (count first marks : ℕ) → Leaves cells cou
 leaves-over cells count first marks l = record { rest = l.rest; others = λ n h. l.others n (omega (arith, h)); few = l.few }
 
 -- one cell less, one mark more
-pub leaves-on : (cells : Cells) (count first marks more : ℕ) (h : Held) → Leaves cells count first marks → held_by cells count ≡ Some h → more ≤ marks + 1 → Leaves cells (count + 1) first more
-leaves-on cells count first marks more h l holds few =
-    let f = holder cells count h holds in
+pub leaves-cell : (cells : Cells) (count first marks more : ℕ) (f : Filled Held) → Leaves cells count first marks → get cells count ≡ Some f → more ≤ marks + 1 → Leaves cells (count + 1) first more
+leaves-cell cells count first marks more f l at few =
     let m = remove l.rest count in
-    let here : get l.rest count ≡ Some f.0 = l.others count (omega arith) ∙ f.1 in
-    let whole : l.rest ≡ insert m count f.0 = insert-is m l.rest count f.0 here (λ q ne. sym (get-remove-other l.rest count q ne)) in
-    let length_is : len l.rest ≡ len m + 1 = ap len whole ∙ len-insert nat_cmp_total m count f.0 ∙ ap (λ o. cond (is_some o) (len m) (len m + 1)) (get-remove-here l.rest count) in
+    let here : get l.rest count ≡ Some f = l.others count (omega arith) ∙ at in
+    let whole : l.rest ≡ insert m count f = insert-is m l.rest count f here (λ q ne. sym (get-remove-other l.rest count q ne)) in
+    let length_is : len l.rest ≡ len m + 1 = ap len whole ∙ len-insert nat_cmp_total m count f ∙ ap (λ o. cond (is_some o) (len m) (len m + 1)) (get-remove-here l.rest count) in
     record {
       rest = m;
       others = λ n h. get-remove-other l.rest count n (λ e. omega (arith, h, e)) ∙ l.others n (omega (arith, h));
       few = omega (arith, l.few, length_is, few);
     }
+
+pub leaves-on : (cells : Cells) (count first marks more : ℕ) (h : Held) → Leaves cells count first marks → held_by cells count ≡ Some h → more ≤ marks + 1 → Leaves cells (count + 1) first more
+leaves-on cells count first marks more h l holds few = let f = holder cells count h holds in leaves-cell cells count first marks more f.0 l f.1 few
 
 pub leaves-few : (cells : Cells) (count first marks : ℕ) → Leaves cells count first marks → marks ≤ first + len cells
 leaves-few cells count first marks l = omega (arith, l.few)

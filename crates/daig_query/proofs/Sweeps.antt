@@ -28,6 +28,7 @@ use Rattle.daig_query.specs.Claims.{Lessens}
 use Rattle.daig_query.specs.Swept.{held_by, most_held, renumbered, renumbered_value, AreKnown, AreMarked, AreRenumbered, FillsFew, IsBounded, IsInTables, IsWithin, StaysRight, Swept}
 use Rattle.daig_query.proofs.Growing.{few_more, few_same, keeps_same}
 use Rattle.std.proofs.lemmas.Bool.{cases_lt}
+use Rattle.base_values.proofs.Lists.{get_some}
 use Rattle.std.proofs.lemmas.List.{length-map}
 use Rattle.std.proofs.lemmas.Option.{same_Some, slice_get_within}
 use Rattle.daig_query.proofs.Sweeping.{holder}
@@ -72,6 +73,28 @@ module _ {S : Type 0} where
 moved : (number : ℕ → ℕ) (o : Option (Filled Held)) (f : Filled Held) → option_map (renumbered number) o ≡ Some f → (e : Filled Held) × (o ≡ Some e) × (renumbered number e ≡ f)
 moved number None f h = absurd cc
 moved number (Some e) f h = (e, refl, same_Some (renumbered number e) f h)
+
+-- and each state stands in the new table
+module _ {S : Type 0} (old new : Store S) (swept : Swept old new) (held : IsInTables old) where
+  swept-known : (n : ℕ) (h : Held) (e : Filled Held) → get old.graph.cells n ≡ Some e → (v : Value Held) → e.value ≡ v → renumbered_value swept.number v ≡ State h → h.state < length new.states
+  swept-known n h e at (State k) is same =
+      let holds : held_by old.graph.cells n ≡ Some k = ap (λ o. state_in (option_map (λ (f : Filled Held). f.value) o)) at ∙ ap (λ v. state_in (Some v)) is in
+      let s = get_some old.states k.state (held.known n k holds) in
+      let there = slice_get_within new.states (swept.number k.state) s.0 (swept.states n k holds ∙ s.1) in
+      let number : swept.number k.state ≡ h.state = ap (λ (j : Held). j.state) (same_Some _ _ (ap (λ v. state_in (Some v)) same)) in
+      subst (λ m. m < length new.states) number there
+  swept-known n h e at (Over m chain) is same = absurd cc
+
+  pub swept-in-tables : IsInTables new
+  swept-in-tables = record {
+    named = λ n f e.
+        let m = moved swept.number (get old.graph.cells n) f (sym (swept.cells n) ∙ e) in
+        subst (λ (k : Known). n < length k.names) (sym swept.names) (held.named n m.0 m.1);
+    known = λ n h e.
+        let f = holder new.graph.cells n h e in
+        let m = moved swept.number (get old.graph.cells n) f.0 (sym (swept.cells n) ∙ f.1) in
+        swept-known n h m.0 m.1 m.0.value refl (ap (λ (f : Filled Held). f.value) m.2 ∙ f.2);
+  }
 
 module _ {S : Type 0} (dom : Operations S) (plan : Plan) (old new : Store S) (swept : Swept old new) (right : IsRight dom plan old) where
   value-stays : (n : ℕ) (f : Filled Held) (c : Cell S) → get old.graph.cells n ≡ Some f → (v : Value Held) → f.value ≡ v → IsValue old.states v c → IsValue new.states (renumbered_value swept.number v) c

@@ -11,4 +11,5 @@ pub mod Filled
 pub mod Turned
 pub mod Answered
 pub mod Swept
+pub mod Renamed
 pub mod Claims

@@ -32,6 +32,8 @@ pub struct Engine<D: Domain> {
     pub(crate) store: Store<D::State>,
     // how many states are kept beside four for each cell, before a sweep
     pub(crate) spare: usize,
+    // for new tables of names
+    pub(crate) alloc: Global,
 }
 
 impl<D: Domain + Drop> Engine<D> {
@@ -60,6 +62,7 @@ impl<D: Domain + Drop> Engine<D> {
             domain,
             store,
             spare,
+            alloc,
         })
     }
 }

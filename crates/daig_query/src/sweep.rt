@@ -37,7 +37,7 @@ impl<D: Domain> Engine<D> {
 }
 
 /// So many states and operations are kept at most.
-fn most_kept(graph: &Graph<Held>, spare: usize) -> usize
+pub(crate) fn most_kept(graph: &Graph<Held>, spare: usize) -> usize
     ensures most { result ≤ 4 * len graph.now.cells + spare }
 {
     graph.kept_count().saturating_mul(4).saturating_add(spare)

@@ -17,3 +17,4 @@ pub mod Reported
 pub mod Standing
 pub mod Reporting
 pub mod Swept
+pub mod GivenBack

@@ -1,10 +1,12 @@
 -- Moves to other programs.
 use Rattle.std.proofs.Common.{◌≡◌, ℕ, ◌<◌, ◌≤◌, Bool, true, false, Err, List, [], ◌∷◌, map, take, filter, length, inl, inr, refl, sym, ap, subst, ◌∙◌, arith}
+use Rattle.std.specs.List.{All}
 use Rattle.imp_syntax.specs.Plain.{Procedure}
 use Rattle.imp_syntax.specs.declared.edit.Edit.{Edit}
 use Rattle.imp_check.specs.Fine.{IsFine}
 use Rattle.imp_check.specs.Slots.{routines_of}
-use Rattle.imp_table.specs.Changes.{AreWithin, Makes}
+use Rattle.imp_table.specs.Changes.{AreFalling, Makes}
+use Rattle.imp_table.specs.Pages.{HasPlace, HavePlaces}
 use Rattle.imp_table.specs.declared.change.Change.{Change}
 use Rattle.imp_table.specs.declared.change.Put.{Put}
 use Rattle.imp_edit.specs.Edited.{edited, next_after}
@@ -55,15 +57,15 @@ both_ways false true f g = absurd (let e = g refl in cc)
 both_ways false false f g = refl
 
 -- a change that makes a program leads to it
-pub leads_to : (room : ℕ) (ps : List Procedure) (c : Change) (qs : List Procedure) → Makes ps c qs → IsFine qs → AreWithin room c.entries.items → Leads room ps c
-leads_to room ps c qs makes fine within =
+pub leads_to : (places : List ℕ) (ps : List Procedure) (c : Change) (qs : List Procedure) → Makes ps c qs → IsFine qs → HavePlaces places c.entries.items → Leads places ps c
+leads_to places ps c qs makes fine there =
     let e = after_is ps c qs makes fine in
-    record { makes = subst (λ (zs : List Procedure). Makes ps c zs) (sym e) makes; fine = subst IsFine (sym e) fine; within = within }
+    record { makes = subst (λ (zs : List Procedure). Makes ps c zs) (sym e) makes; fine = subst IsFine (sym e) fine; there = there }
 
 -- and so does the nearest one of a history
-pub leads_first : (room : ℕ) (ps : List Procedure) (c : Change) (side : List (List Procedure)) → LeadsOn room ps c side → Leads room ps c
-leads_first room ps c [] h = absurd h
-leads_first room ps c (qs ∷ more) h = leads_to room ps c qs h.makes h.fine h.within
+pub leads_first : (places : List ℕ) (ps : List Procedure) (c : Change) (side : List (List Procedure)) → LeadsOn places ps c side → Leads places ps c
+leads_first places ps c [] h = absurd h
+leads_first places ps c (qs ∷ more) h = leads_to places ps c qs h.makes h.fine h.there
 
 module _ {S : Type 0} (dom : Operations S) where
   -- Cells that are planned are taken away.
@@ -186,28 +188,24 @@ module _ {S : Type 0} (dom : Operations S) where
           ∙ ap (λ side. on_to dom side m) (future_is ∙ ap (λ (z : Machine). z.future) h.is)
           ) (moved_holds store new_store old new new.history.now (old.history.now ∷ old.history.past) new.history.future old.next r t leave a.0.after m h)
 
--- the numbers of a change are places of a longer table
-pub within_more : (n m : ℕ) (puts : List Put) → n ≤ m → AreWithin n puts → AreWithin m puts
-within_more n m puts h w = record { falling = w.falling; below = λ i d l. (let b = w.below i d l in omega arith) }
-
--- An edit is worked out over a table of the present program, which then gets room.
-module _ (ed : Edit) (room later : ℕ) (now t : List Procedure) (change : Change) (same : t ≡ now) (makes : Makes t change (edited ed t)) (fine : IsFine (edited ed t)) (within : AreWithin later change.entries.items) (more : later ≤ room) where
+-- An edit is worked out over a table of the present program, which then gets places for it.
+module _ (ed : Edit) (places : List ℕ) (now t : List Procedure) (change : Change) (same : t ≡ now) (makes : Makes t change (edited ed t)) (fine : IsFine (edited ed t)) (falling : AreFalling change.entries.items) (there : All (λ (p : Put). HasPlace places p.number) change.entries.items) where
   makes_now : Makes now change (edited ed now)
   makes_now = subst (λ (z : List Procedure). Makes z change (edited ed z)) same makes
 
   fine_now : IsFine (edited ed now)
   fine_now = subst (λ (z : List Procedure). IsFine (edited ed z)) same fine
 
-  pub plan_leads : Leads room now change
-  plan_leads = leads_to room now change (edited ed now) makes_now fine_now (within_more later room change.entries.items more within)
+  pub plan_leads : Leads places now change
+  plan_leads = leads_to places now change (edited ed now) makes_now fine_now (record { falling = falling; there = there })
 
   pub plan_after : changed_program now change ≡ edited ed now
   plan_after = after_is now change (edited ed now) makes_now fine_now
 
 -- The nearest change leads to a move to the nearest program.
-pub moving_first : {S : Type 0} (store : Store S) (e : LoopOptions) (room : ℕ) (now : List Procedure) (c : Change) (side : List (List Procedure)) (m : Moving) → LeadsOn room now c side → IsMoving store e now (changed_program now c) m → IsMovingTo store e now side m
-moving_first store e room now c [] m h i = absurd h
-moving_first store e room now c (qs ∷ more) m h i = subst (λ (z : List Procedure). IsMoving store e now z m) (after_is now c qs h.makes h.fine) i
+pub moving_first : {S : Type 0} (store : Store S) (e : LoopOptions) (places : List ℕ) (now : List Procedure) (c : Change) (side : List (List Procedure)) (m : Moving) → LeadsOn places now c side → IsMoving store e now (changed_program now c) m → IsMovingTo store e now side m
+moving_first store e places now c [] m h i = absurd h
+moving_first store e places now c (qs ∷ more) m h i = subst (λ (z : List Procedure). IsMoving store e now z m) (after_is now c qs h.makes h.fine) i
 
 -- There is one.
 pub moving_some : {S : Type 0} (store : Store S) (e : LoopOptions) (old : List Procedure) (side : List (List Procedure)) (m : Moving) → IsMovingTo store e old side m → 0 < length side

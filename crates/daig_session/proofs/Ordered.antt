@@ -66,6 +66,6 @@ order_like old new o now past future setting next are = record {
   are_open = are;
 }
 
--- the same except room
+-- the same except which places the table has
 pub same_order : (old new : Book) → IsInOrder old → IsSame old new → IsInOrder new
 same_order old new o t = order_like old new o t.now t.past_is t.future_is t.setting t.next_is (subst AreOpen (sym t.tickets_are) o.are_open)

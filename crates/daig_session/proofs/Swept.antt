@@ -1,11 +1,11 @@
 -- A sweep changes nothing of what a session stands for.
-use Rattle.std.proofs.Common.{◌≡◌, ℕ, ◌-◌, sym, ap, subst, ◌∙◌}
+use Rattle.std.proofs.Common.{◌≡◌, ◌-◌, sym, ap, subst, ◌∙◌}
 use Rattle.std.specs.FinMap.{len}
 use Rattle.domain_laws.specs.Operations.{Operations}
 use Rattle.imp_flow.specs.Plans.{Plan}
-use Rattle.cell_names.specs.Paths.{CellName}
 use Rattle.daig_query.specs.declared.store.Store.{Store}
 use Rattle.daig_query.specs.Filled.{cells_added}
+use Rattle.daig_query.specs.Renamed.{Renames}
 use Rattle.daig_query.specs.Swept.{StaysRight, Swept}
 use Rattle.daig_query.proofs.Sweeps.{swept-kept, swept-lasts}
 use Rattle.daig_machine.specs.Machine.{Machine}
@@ -34,6 +34,13 @@ module _ {S : Type 0} (dom : Operations S) (old new : Store S) (swept : Swept ol
     right = stays to l.right;
     names = λ x. (λ t. (l.names x).0 (sym (swept-kept old new swept x) ∙ t), λ k. swept-kept old new swept x ∙ (l.names x).1 k);
   }
+
+-- and what is left after a move is left where its names are swept
+pub renamed-leaves : {S : Type 0} (dom : Operations S) (old new : Store S) → Renames old new → (before : Store S) (from to : Plan) → StaysRight dom old new → Leaves dom from to before old → Leaves dom from to before new
+renamed-leaves dom old new renames before from to stays l = record {
+  right = stays to l.right;
+  names = λ x. (λ t. (l.names x).0 (sym (renames.kept x) ∙ t), λ k. renames.kept x ∙ (l.names x).1 k);
+}
 
 -- A session after a sweep of its engine, which keeps its domain.
 module _ {S : Type 0} (dom after : Operations S) (same : after ≡ dom) (old new : Store S) (swept : Swept old new) (book : Book) where

@@ -1,4 +1,4 @@
--- What is the same except room.
+-- What is the same except which places the table has.
 use Rattle.std.proofs.Common.{◌≡◌, sym, subst, ◌∙◌}
 use Rattle.domain_laws.specs.Operations.{Operations}
 use Rattle.edit_keeps.specs.Apart.{flow_of}

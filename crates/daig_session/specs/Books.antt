@@ -95,7 +95,7 @@ pub record IsWithout (place : ℕ) (old new : Book) : Type 0 where
   pub cost : new.cost ≡ old.cost
   pub left : (o : OpenTicket Going) → slice_get old.tickets.open_ones.items place ≡ Some o → new.tickets.open_ones.items ≡ slice_set old.tickets.open_ones.items place (anew o)
 
--- The same except room.
+-- The same except which places the table has.
 pub record IsSame (old new : Book) : Type 0 where
   pub now : new.history.now ≡ old.history.now
   pub past_is : new.history.past ≡ old.history.past

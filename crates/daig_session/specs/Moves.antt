@@ -44,7 +44,7 @@ IsMovingTo store engine old (p ∷ ps) m = IsMoving store engine old p m
 
 -- The change leads to the first of these programs; there is none where there are no programs.
 abbrev pub IsNearest : {R : Type 0} → Book → Option R → (change_at : R → Change) → (side : List (List Procedure)) → Type 0
-IsNearest book change change_at side = MatchOption change (side ≡ []) (λ c. LeadsOn book.history.room book.history.now (change_at c) side)
+IsNearest book change change_at side = MatchOption change (side ≡ []) (λ c. LeadsOn book.history.places book.history.now (change_at c) side)
 
 -- What is left are the kept names, and all is right for the new program.
 pub record Leaves {S : Type 0} (dom : Operations S) (old new : Plan) (before changed_program : Store S) : Type 0 where
@@ -53,7 +53,7 @@ pub record Leaves {S : Type 0} (dom : Operations S) (old new : Plan) (before cha
 
 -- All that an accepted edit needs is there.
 pub record IsPlanned {S : Type 0} (store : Store S) (book : Book) (e : Edit) (p : Planned) : Type 0 where
-  pub leads : Leads book.history.room book.history.now p.edited.change
+  pub leads : Leads book.history.places book.history.now p.edited.change
   pub makes : changed_program book.history.now p.edited.change ≡ edited e book.history.now
   pub continues : Continues e book.next
   pub next : p.edited.next ≡ next_after e book.next

@@ -70,7 +70,7 @@ impl Book {
 
     /// Puts a change in, with the setting of the program that it makes and the next number.
     pub(crate) fn remember(&mut self, change: Change, next: u32, setting: Setting)
-        requires leads { Leads self.old.history.room self.old.history.now change }
+        requires leads { Leads self.old.history.places self.old.history.now change }
         requires set { setting ≡ setting_of self.old.setting.engine
             (routines_of (changed_program self.old.history.now change)) }
         ensures turned { IsTurned self.old (changed_program self.old.history.now change)

@@ -27,7 +27,7 @@ pub struct Planned {
 }
 
 impl<D: Domain> Session<D> {
-    /// Works out an edit beside what stands: nothing is changed except room.
+    /// Works out an edit beside what stands: nothing is changed except which places the table has.
     fn planned(&mut self, alloc: Global, edit: &Edit) -> Result<Planned, EditError>
         requires ready { IsReadyBy D.operations self.old }
         requires continues { Continues edit.now self.old.book.next }
@@ -40,7 +40,7 @@ impl<D: Domain> Session<D> {
             (edit_refusal edit.now self.old.book.history.now self.old.book.next)) }
     {
         let edited = apply(alloc, self.book.history.table(), edit, self.book.next)?;
-        self.book.history.make_room(edited.next)?;
+        self.book.history.make_room(alloc, &edited.change)?;
         let moving = planned_move(
             alloc,
             &self.engine,
@@ -136,8 +136,8 @@ impl<D: Domain> Prepared<'_, D, Planned> {
         self.planned.edited.next
     }
 
-    /// Makes the edit: of the kept cells those are kept that it leaves, and all tickets begin anew. It takes no memory and
-    /// cannot fail.
+    /// Makes the edit: of the kept cells those are kept that it leaves, and all tickets begin anew. It cannot fail: it takes
+    /// memory for new tables of names alone, and keeps the old ones where there is none.
     pub fn commit(self)
         requires ready { IsReadyBy D.operations self.session.now }
         requires planned { (e : AnyEdit) × IsPlanned self.session.now.engine.store

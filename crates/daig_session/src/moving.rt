@@ -39,7 +39,7 @@ fn emptied<D: Domain>(
 ) -> Result<RemovalOrder, Memory>
     requires right { IsRight (D.operations engine.now.domain)
         (flow_of setting.now.engine table.now.program) engine.now.store }
-    requires leads { Leads table.now.room table.now.program change.now }
+    requires leads { Leads table.now.places table.now.program change.now }
     requires set { setting.now ≡ setting_of setting.now.engine (routines_of table.now.program) }
     requires set_other { other.now ≡ setting_of setting.now.engine
         (routines_of (changed_program table.now.program change.now)) }
@@ -75,7 +75,7 @@ pub(crate) fn planned_move<D: Domain>(
 ) -> Result<Moving, Memory>
     requires right { IsRight (D.operations engine.now.domain)
         (flow_of setting.now.engine table.now.program) engine.now.store }
-    requires leads { Leads table.now.room table.now.program change.now }
+    requires leads { Leads table.now.places table.now.program change.now }
     requires set { setting.now ≡ setting_of setting.now.engine (routines_of table.now.program) }
     ensures moving { IfOk result (IsMoving engine.now.store setting.now.engine table.now.program
         (changed_program table.now.program change.now)) }
@@ -88,8 +88,9 @@ pub(crate) fn planned_move<D: Domain>(
     })
 }
 
-/// Takes the planned cells away, and gives back the states that no cell holds any more, where they are many: what is left
-/// is right for the program that is moved to.
+/// Takes the planned cells away, and gives back the states that no cell holds any more and the names that have no cell any
+/// more, where they are many: what is left is right for the program that is moved to. Cells may get other numbers, which
+/// no ticket holds, as each begins anew after a move.
 pub(crate) fn leave<D: Domain>(engine: &mut Engine<D>, plan: RemovalOrder)
     requires order { IsOrder engine.old.store.graph.cells plan }
     requires held { IsInTables engine.old.store }
@@ -104,4 +105,5 @@ pub(crate) fn leave<D: Domain>(engine: &mut Engine<D>, plan: RemovalOrder)
 {
     engine.empty(plan);
     engine.sweep();
+    let _ = engine.sweep_names();
 }

@@ -2,8 +2,8 @@
 //!
 //! [`answer_line`] writes what the machine of `serve_answers` replies (`line_turn`), and the session then stands for the
 //! machine after it. On a line that fills no cells the reply is made first, and the session is changed only then by what
-//! takes no memory: so after memory ran out it is as it was. On a question, a report or a step some of what is missing may
-//! be filled.
+//! cannot fail: so after memory ran out it is as it was. On a question, a report or a step some of what is missing may be
+//! filled.
 #![tactic(auto)]
 
 mod answer;

@@ -30,13 +30,15 @@ pub(crate) enum Line<'a> {
     Replace(u32, &'a str),
 }
 
-/// A program, how its loops are interpreted, and how many results of operations are remembered.
+/// A program, how its loops are interpreted, how many results of operations are remembered, and whether all that no cell
+/// needs is given back before each line.
 #[derive(Clone, Copy)]
 pub(crate) struct Setup<'a> {
     pub(crate) text: &'a str,
     pub(crate) budget: u32,
     pub(crate) thresholds: bool,
     pub(crate) memo: usize,
+    pub(crate) gives_back: bool,
 }
 
 /// A session with a program.
@@ -48,7 +50,7 @@ fn started<D: Domain + Drop>(alloc: Global, domain: D, setup: Setup<'_>) -> Resu
         return Err("no memo".into());
     }
     let table = table_of(alloc, setup.text)?;
-    let next = next_of(&table)?;
+    let next = next_of(alloc, &table)?;
     let widening = Widening {
         delay: 0,
         thresholds: setup.thresholds,
@@ -88,11 +90,32 @@ fn play<D: Domain, L: Ledger>(
     }
 }
 
+/// What a line tells; before it all that no cell needs is given back, if wanted.
+fn play_next<D: Domain, L: Ledger>(
+    alloc: Global,
+    session: &mut Session<D>,
+    line: Line<'_>,
+    gives_back: bool,
+    steps: &mut Steps<L>,
+) -> Result<String, Fail>
+    requires ready { IsReady (D.operations session.old.engine.domain) session.old.engine.store
+        session.old.book }
+    ensures ready { IfOk result (λ _. IsReady (D.operations session.new.engine.domain)
+        session.new.engine.store session.new.book) }
+{
+    if !gives_back {
+        return play(alloc, session, line, steps);
+    }
+    session.give_back()?;
+    play(alloc, session, line, steps)
+}
+
 /// What the lines tell, one after another.
 fn lines<D: Domain, L: Ledger>(
     alloc: Global,
     session: &mut Session<D>,
     script: &[Line<'_>],
+    gives_back: bool,
     steps: &mut Steps<L>,
 ) -> Result<String, Fail>
     requires ready { IsReady (D.operations session.old.engine.domain) session.old.engine.store
@@ -100,7 +123,7 @@ fn lines<D: Domain, L: Ledger>(
 {
     let mut all = String::new(alloc);
     for next in script {
-        let told = play(alloc, session, *next, steps)?;
+        let told = play_next(alloc, session, *next, gives_back, steps)?;
         all.push_str(&told)?;
         all.push_str("; ")?;
     }
@@ -113,6 +136,7 @@ fn counted<D: Domain, L: Ledger>(
     blank: Blank,
     session: &mut Session<D>,
     script: &[Line<'_>],
+    gives_back: bool,
 ) -> Result<String, Fail>
     requires name { blank.name ≡ L.name }
     requires parts { blank.parts ≡ L.parts }
@@ -121,7 +145,7 @@ fn counted<D: Domain, L: Ledger>(
         session.old.book }
 {
     let mut steps = Steps::<L>::new(blank);
-    lines(alloc, session, script, &mut steps)
+    lines(alloc, session, script, gives_back, &mut steps)
 }
 
 /// What a script tells of a program, over a domain.
@@ -132,5 +156,6 @@ pub(crate) fn told<D: Domain + Drop>(
     script: &[Line<'_>],
 ) -> Result<String, Fail> {
     let mut session = started(alloc, domain, setup)?;
-    counted::<D, Brand>(alloc, Blank::new(1), &mut session, script)
+    let blank = Blank::new(1);
+    counted::<D, Brand>(alloc, blank, &mut session, script, setup.gives_back)
 }

@@ -1,23 +1,39 @@
-use Rattle.std.proofs.Common.{sym, subst}
+use Rattle.std.proofs.Common.{sym, subst, ◌∙◌}
 use Rattle.edit_keeps.specs.Apart.{flow_of}
 use Rattle.daig_query.specs.Swept.{most_held, IsWithin, StaysRight}
-use Rattle.daig_query.proofs.Sweeps.{lessens-in-tables, swept-bounded}
+use Rattle.daig_query.proofs.Renames.{renames-within}
+use Rattle.daig_query.proofs.Sweeps.{lessens-in-tables, swept-bounded, swept-in-tables}
 use Rattle.daig_session.proofs.Moved.{leaves}
-use Rattle.daig_session.proofs.Swept.{swept-leaves}
+use Rattle.daig_session.proofs.Swept.{renamed-leaves, swept-leaves}
 use Rattle.daig_session.proofs.moving.leave.Goals as goal
 
 pub sweep-requires : goal.sweep-requires
 sweep-requires g c = record { held = lessens-in-tables c.args.engine.now.store c.empty.new.self.store c.empty.ensures.lessens c.requires.held }
 
+pub sweep_names-requires : goal.sweep_names-requires
+sweep_names-requires g c =
+    let mid = c.empty.new.self.store in
+    record { held = swept-in-tables mid c.sweep.new.self.store c.sweep.ensures.swept (lessens-in-tables c.args.engine.now.store mid c.empty.ensures.lessens c.requires.held) }
+
 pub returns-clause-leaves : goal.returns-clause-leaves
 returns-clause-leaves g c = λ e old new apart right empties.
     let ops = g.D.Domain.operations in
     let dom = ops c.args.engine.now.domain in
+    let before = c.args.engine.now.store in
     let mid = c.empty.new.self.store in
-    let after = c.sweep.new.self.store in
-    let left = leaves dom e old new c.args.engine.now.store mid c.args.plan apart right empties c.empty.ensures.lessens c.empty.ensures.removes in
-    let stays = subst (λ d. StaysRight (ops d) mid after) c.empty.ensures.domain c.sweep.ensures.right in
-    swept-leaves dom mid after c.sweep.ensures.swept c.args.engine.now.store (flow_of e old) (flow_of e new) stays left
+    let swept = c.sweep.new.self.store in
+    let named = c.sweep_names.new.self.store in
+    let from = flow_of e old in
+    let to = flow_of e new in
+    let left = leaves dom e old new before mid c.args.plan apart right empties c.empty.ensures.lessens c.empty.ensures.removes in
+    let stays = subst (λ d. StaysRight (ops d) mid swept) c.empty.ensures.domain c.sweep.ensures.right in
+    let stays_named = subst (λ d. StaysRight (ops d) swept named) (c.sweep.ensures.domain ∙ c.empty.ensures.domain) c.sweep_names.ensures.right in
+    renamed-leaves dom swept named c.sweep_names.ensures.renames before from to stays_named (swept-leaves dom mid swept c.sweep.ensures.swept before from to stays left)
 
 pub returns-clause-bounded : goal.returns-clause-bounded
-returns-clause-bounded g c = swept-bounded c.sweep.new.self.spare c.sweep.new.self.store (subst (λ n. IsWithin (most_held n c.sweep.new.self.store) c.sweep.new.self.store) (sym c.sweep.ensures.spare) c.sweep.ensures.bounded)
+returns-clause-bounded g c =
+    let swept = c.sweep.new.self.store in
+    let named = c.sweep_names.new.self.store in
+    let spare = c.sweep_names.new.self.spare in
+    let bounded = subst (λ n. IsWithin (most_held n swept) swept) (sym (c.sweep_names.ensures.spare ∙ c.sweep.ensures.spare)) c.sweep.ensures.bounded in
+    swept-bounded spare named (renames-within swept named c.sweep_names.ensures.renames spare bounded)

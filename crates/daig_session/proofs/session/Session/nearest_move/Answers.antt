@@ -18,9 +18,9 @@ pub planned_move-requires-clause-leads : goal.planned_move-requires-clause-leads
 planned_move-requires-clause-leads g c =
     let b = c.args.self.now.book in
     let h = b.history in
-    let near : LeadsOn h.room h.now c.in-Some.change.now c.requires.leads.0 = subst (λ o. IsNearest b o (λ c. c.now) c.requires.leads.0) c.in-Some.is c.requires.leads.1 in
-    subst (λ r. Leads r c.table-table.result.now.program c.in-Some.change.now) (sym c.table-table.ensures.room) (
-    subst (λ (p : List Procedure). Leads h.room p c.in-Some.change.now) (sym c.table-table.ensures.is) (leads_first h.room h.now c.in-Some.change.now c.requires.leads.0 near))
+    let near : LeadsOn h.places h.now c.in-Some.change.now c.requires.leads.0 = subst (λ o. IsNearest b o (λ c. c.now) c.requires.leads.0) c.in-Some.is c.requires.leads.1 in
+    subst (λ r. Leads r c.table-table.result.now.program c.in-Some.change.now) (sym c.table-table.ensures.places) (
+    subst (λ (p : List Procedure). Leads h.places p c.in-Some.change.now) (sym c.table-table.ensures.is) (leads_first h.places h.now c.in-Some.change.now c.requires.leads.0 near))
 
 pub planned_move-requires-clause-set : goal.planned_move-requires-clause-set
 planned_move-requires-clause-set g c =
@@ -31,6 +31,6 @@ pub returns-clause-moving : goal.returns-clause-moving
 returns-clause-moving g c = λ side is.
     let s = c.args.self.now in
     let h = s.book.history in
-    let near : LeadsOn h.room h.now c.in-Some.change.now side = subst (λ o. IsNearest s.book o (λ c. c.now) side) c.in-Some.is is in
-    moving_first s.engine.store s.book.setting.engine h.room h.now c.in-Some.change.now side c.in_ok-moving.moving near (
+    let near : LeadsOn h.places h.now c.in-Some.change.now side = subst (λ o. IsNearest s.book o (λ c. c.now) side) c.in-Some.is is in
+    moving_first s.engine.store s.book.setting.engine h.places h.now c.in-Some.change.now side c.in_ok-moving.moving near (
     subst (λ (p : List Procedure). IsMoving s.engine.store s.book.setting.engine p (changed_program p c.in-Some.change.now) c.in_ok-moving.moving) c.table-table.ensures.is c.in_ok-moving.ensures.moving)

@@ -28,9 +28,9 @@ pub planned_move-requires-clause-leads : goal.planned_move-requires-clause-leads
 planned_move-requires-clause-leads g c =
     let e = c.in_ok-edited.edited in
     let h = c.make_room.new.self in
-    let leads = plan_leads c.args.edit.now h.room e.next h.now c.table.result.now.program e.change (c.table.ensures.is ∙ sym c.make_room.ensures.now) c.in_ok-edited.ensures.makes c.in_ok-edited.ensures.fine c.in_ok-edited.ensures.within c.in_ok-make_room.ensures.room in
-    subst (λ r. Leads r c.table-2.result.now.program e.change) (sym c.table-2.ensures.room) (
-    subst (λ (p : List Procedure). Leads h.room p e.change) (sym c.table-2.ensures.is) leads)
+    let leads = plan_leads c.args.edit.now h.places h.now c.table.result.now.program e.change (c.table.ensures.is ∙ sym c.make_room.ensures.now) c.in_ok-edited.ensures.makes c.in_ok-edited.ensures.fine c.in_ok-edited.ensures.within.falling c.in_ok-make_room.ensures.places in
+    subst (λ r. Leads r c.table-2.result.now.program e.change) (sym c.table-2.ensures.places) (
+    subst (λ (p : List Procedure). Leads h.places p e.change) (sym c.table-2.ensures.is) leads)
 
 pub planned_move-requires-clause-set : goal.planned_move-requires-clause-set
 planned_move-requires-clause-set g c =
@@ -45,9 +45,9 @@ returns-clause-planned g c =
     let ed = c.args.edit.now in
     let same = c.table.ensures.is ∙ sym c.make_room.ensures.now in
     let accepted = subst (λ (p : List Procedure). edit_refusal ed p s.book.next ≡ None) c.table.ensures.is c.in_ok-edited.ensures.accepted in
-    let is = plan_after ed h.room e.next h.now c.table.result.now.program e.change same c.in_ok-edited.ensures.makes c.in_ok-edited.ensures.fine c.in_ok-edited.ensures.within c.in_ok-make_room.ensures.room in
+    let is = plan_after ed h.places h.now c.table.result.now.program e.change same c.in_ok-edited.ensures.makes c.in_ok-edited.ensures.fine c.in_ok-edited.ensures.within.falling c.in_ok-make_room.ensures.places in
     record {
-      leads = plan_leads ed h.room e.next h.now c.table.result.now.program e.change same c.in_ok-edited.ensures.makes c.in_ok-edited.ensures.fine c.in_ok-edited.ensures.within c.in_ok-make_room.ensures.room;
+      leads = plan_leads ed h.places h.now c.table.result.now.program e.change same c.in_ok-edited.ensures.makes c.in_ok-edited.ensures.fine c.in_ok-edited.ensures.within.falling c.in_ok-make_room.ensures.places;
       makes = is;
       continues = c.requires.continues;
       next = c.in_ok-edited.ensures.numbers;

@@ -1,0 +1,37 @@
+//! Giving back at once what no kept cell needs, for `stays` of `give_back`.
+ghost use Rattle.std.specs.Prelude.{◌≡◌, ◌≤◌, length, OnErr, OnOk};
+ghost use Rattle.std.specs.FinMap.{len};
+ghost use Rattle.daig_query.specs.Swept.{IsWithin};
+ghost use Rattle.daig_session.specs.Sessions.{IsReadyBy, FromEach};
+
+use crate::session::Session;
+use base_values::Memory;
+use domain_laws::Domain;
+
+impl<D: Domain> Session<D> {
+    /// Gives back all states and names that no kept cell needs, and all operations, however few they are; what was
+    /// remembered is forgotten. The session stands for the same machine: the same cells are kept, and each later call
+    /// answers and fills what it would have. Open tickets stay open; each looks anew for what it misses, since cells get
+    /// other numbers.
+    ///
+    /// It takes as many steps as there are names and states, and as the paths of the cells have frames.
+    ///
+    /// # Errors
+    ///
+    /// [`Memory`] when memory runs out. The names alone are not given back then.
+    pub fn give_back(&mut self) -> Result<(), Memory>
+        requires ready { IsReadyBy D.operations self.old }
+        ensures ready { IsReadyBy D.operations self.new }
+        ensures domain { self.new.engine.domain ≡ self.old.engine.domain }
+        ensures spare { self.new.engine.spare ≡ self.old.engine.spare }
+        ensures within { IsWithin (len self.new.engine.store.graph.cells) self.new.engine.store }
+        ensures few { OnOk result (length self.new.engine.store.names.names ≤
+            len self.new.engine.store.graph.cells) }
+        ensures err { OnErr result (self.new.engine.store.names ≡ self.old.engine.store.names) }
+        ensures next_ticket { self.new.book.tickets.next ≡ self.old.book.tickets.next }
+        ensures stays { FromEach D.operations self.old self.new (λ _ m stands. stands m) }
+    {
+        self.book.tickets.begin_anew();
+        self.engine.give_back()
+    }
+}
