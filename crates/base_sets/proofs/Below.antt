@@ -1,17 +1,17 @@
 -- The numbers whose bits are set, as a rising list.
-use Rattle.std.proofs.Common.{◌≡◌, ◌≢◌, ◌↔◌, ◌⊎◌, ℕ, zero, suc, ◌+◌, ◌*◌, ◌/◌, ◌%◌, ◌<◌, ◌≤◌, ◌^◌, List, [], ◌∷◌, ◌++◌, length, Bool, true, false, if◌then◌else◌, nat_eq, nat_lt, get_or, bit_and, Contains, refl, sym, ap, subst, ◌∙◌, inl, inr, arith}
+use Rattle.std.proofs.Common.{◌≡◌, ◌≢◌, ℕ, zero, suc, ◌+◌, ◌*◌, ◌-◌, ◌/◌, ◌%◌, ◌<◌, ◌≤◌, ◌^◌, All, List, [], ◌∷◌, ◌++◌, length, Bool, true, false, if◌then◌else◌, nat_eq, nat_lt, get_or, bit_and, Contains, refl, sym, ap, subst, ◌∙◌, inl, inr, arith}
 use Rattle.std.specs.Int.{bit_at}
 use Rattle.std.specs.Bool.{Decides}
-use Rattle.std.proofs.lemmas.Nat.Bits.{shr_and_one, bit_at-zero}
+use Rattle.std.proofs.lemmas.Nat.Bits.{shr_and_one, bit_at-zero, bit_at_ones}
 use Rattle.std.proofs.lemmas.List.{get_or_default}
 use Rattle.std.proofs.lemmas.Bool.{cases_eq}
 use Rattle.std.proofs.lemmas.Bool.Decides.{nat_tests}
 use Rattle.base_values.proofs.Cases.{by_bool, equal_test}
 use Rattle.base_values.proofs.Members.{Member, here, there, in_left, in_right, either, contains_of, member_of}
 use Rattle.base_sets.specs.Bits.{HasBit, SameWords, has_bit, numbers_below, numbers_in, with_bit}
-use Rattle.base_sets.specs.Sets.{Puts}
+use Rattle.base_sets.specs.Sets.{Puts, Strict}
 use Rattle.base_sets.proofs.Bits.{bit_here, bit_same, past_bits, tests_bit}
-use Rattle.base_sets.proofs.Rising.{Strict, cases, in_put, put, put_only, stays_put, strict_put, strict_same}
+use Rattle.base_sets.proofs.Rising.{cases, in_put, put, put_only, stays_put, strict_put, strict_same}
 
 -- the test of a bit
 bit_test : (words : List ℕ) (n : ℕ) → has_bit words n ≡ true → HasBit words n
@@ -170,10 +170,22 @@ zero_word words place e =
     let same : 0 ≡ 1 = sym z ∙ o in
     absurd (omega (arith, same)))
 
+-- the test of a bit of a word
+pub tested_bit : (words : List ℕ) (place bit : ℕ) → bit < 64 → bit_and (get_or words place 0 / 2 ^ bit) 1 ≡ 1 → HasBit words (64 * place + bit)
+tested_bit words place bit l t = has_of words place bit l (sym (shr_and_one (get_or words place 0) bit) ∙ t)
+
+-- a word that has all its bits set
+pub full_bit : (words : List ℕ) (place bit : ℕ) → bit < 64 → get_or words place 0 ≡ 2 ^ 64 - 1 → bit_and (get_or words place 0 / 2 ^ bit) 1 ≡ 1
+full_bit words place bit l e = shr_and_one (get_or words place 0) bit ∙ ap (λ w. bit_at w bit) e ∙ bit_at_ones 64 bit l
+
+-- what holds of all the numbers holds of one
+pub number_keeps : (P : ℕ → Type 0) (words : List ℕ) (n : ℕ) → All P (numbers_in words) → HasBit words n → P n
+number_keeps P words n a h = let c = has_number words n h in subst P c.2 (a c.0 n c.1)
+
 pub next_bit : (words now new : List ℕ) (place bit : ℕ) → bit < 64 → bit_and (get_or words place 0 / 2 ^ bit) 1 ≡ 1 → now ≡ numbers_below words (64 * place + bit) → new ≡ now ++ (64 * place + bit) ∷ [] →
     new ≡ numbers_below words (64 * place + (bit + 1))
 next_bit words now new place bit l t e j =
-    let h = has_of words place bit l (sym (shr_and_one (get_or words place 0) bit) ∙ t) in
+    let h = tested_bit words place bit l t in
     let more : suc (64 * place + bit) ≡ 64 * place + (bit + 1) = omega arith in
     j ∙ ap (λ xs. xs ++ (64 * place + bit) ∷ []) e ∙ sym (with_one words (64 * place + bit) h) ∙ ap (numbers_below words) more
 
@@ -181,18 +193,6 @@ pub next_none : (words now : List ℕ) (place bit : ℕ) → bit < 64 → (bit_a
 next_none words now place bit l t e =
     let more : suc (64 * place + bit) ≡ 64 * place + (bit + 1) = omega arith in
     e ∙ sym (without_one words (64 * place + bit) (λ h. t (shr_and_one (get_or words place 0) bit ∙ of_has words place bit l h))) ∙ ap (numbers_below words) more
-
-pub first_bit : (words now : List ℕ) (place : ℕ) → now ≡ numbers_below words (64 * place) → now ≡ numbers_below words (64 * place + 0)
-first_bit words now place e = let same : 64 * place ≡ 64 * place + 0 = omega arith in e ∙ ap (numbers_below words) same
-
-pub last_bit : (words now : List ℕ) (place bit : ℕ) → bit ≡ 64 → now ≡ numbers_below words (64 * place + bit) → now ≡ numbers_below words (64 * (place + 1))
-last_bit words now place bit l e = let same : 64 * place + bit ≡ 64 * (place + 1) = omega (arith, l) in e ∙ ap (numbers_below words) same
-
-pub no_words : (words now : List ℕ) → now ≡ [] → now ≡ numbers_below words (64 * 0)
-no_words words now e = e
-
-pub all_words : (words now : List ℕ) (place : ℕ) → place ≡ length words → now ≡ numbers_below words (64 * place) → now ≡ numbers_in words
-all_words words now place l e = e ∙ ap (λ k. numbers_below words (64 * k)) l
 
 -- the test of a number
 pub has_by : (words numbers : List ℕ) (n word : ℕ) → n / 64 < length words → word ≡ get_or words (n / 64) word → numbers_in words ≡ numbers → Decides (nat_eq (bit_and (word / 2 ^ (n % 64)) 1) 1) (Contains numbers n)

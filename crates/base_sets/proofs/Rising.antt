@@ -5,6 +5,7 @@ use Rattle.std.proofs.Common.{Ordering, Less, Equal, Greater}
 use Rattle.std.specs.Ordering.{nat_cmp, MatchOrdering, match_ordering}
 use Rattle.std.specs.Cmp.{ranked}
 use Rattle.base_values.proofs.Members.{Member, here, there}
+use Rattle.base_sets.specs.Sets.{Above, Strict}
 
 abbrev pub put : List ℕ → ℕ → List ℕ
 put = insert_key nat_cmp
@@ -61,13 +62,6 @@ put_only (k ∷ ks) n i m = go (nat_cmp n k) m (put_only ks n i)
     go Greater m f = more m f
 
 -- Strictly rising lists.
-abbrev pub Above : ℕ → List ℕ → Type 0
-Above n ks = (k : ℕ) → Member k ks → n < k
-
-abbrev pub Strict : List ℕ → Type 0
-Strict [] = Unit {0}
-Strict (k ∷ ks) = Above k ks × Strict ks
-
 pub strict_put : (ks : List ℕ) (n : ℕ) → Strict ks → Strict (put ks n)
 strict_put [] n s = ((λ k m. elim m [ ]), tt)
 strict_put (k ∷ ks) n s = go (nat_cmp n k) (ranked n k (nat_cmp n k) refl) (strict_put ks n s.1)

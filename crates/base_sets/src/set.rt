@@ -1,10 +1,10 @@
 //! Sets of numbers.
-ghost use Rattle.std.specs.Prelude.{◌≡◌, ◌+◌, ◌*◌, ◌/◌, ◌<◌, ◌≤◌, ◌^◌, [], length, Contains, IfOk, OnOk, OnErr};
+ghost use Rattle.std.specs.Prelude.{◌≡◌, ◌+◌, ◌*◌, ◌/◌, ◌<◌, ◌≤◌, ◌^◌, [], length, Contains, OnOk, OnErr};
 ghost use Rattle.std.specs.Bool.{Decides};
 ghost use Rattle.std.specs.BTreeSet.{insert_key};
 ghost use Rattle.std.specs.Ordering.{nat_cmp};
-ghost use Rattle.base_sets.specs.Bits.{SameWords, numbers_below, with_bit};
-ghost use Rattle.base_sets.specs.Sets.{Puts};
+ghost use Rattle.base_sets.specs.Bits.{SameWords, numbers_in, with_bit};
+ghost use Rattle.base_sets.specs.Sets.{Puts, Strict};
 
 use base_values::Memory;
 use std::alloc::{AllocError, Global};
@@ -41,7 +41,7 @@ impl NumberSet {
 
     /// Whether a number is there.
     #[tactic(auto, using(crate::proofs::Bits::tests_bit, crate::proofs::Bits::past_bits))]
-    #[inline]
+    #[inline(always)]
     pub fn has(&self, number: usize) -> bool
         ensures there { Decides result (Contains self.now number) }
     {
@@ -54,7 +54,7 @@ impl NumberSet {
     }
 
     /// Puts a number among the others, at its place.
-    #[inline]
+    #[inline(always)]
     pub fn add(&mut self, number: usize) -> Result<(), Memory>
         ensures puts { OnOk result (Puts self.old self.new number) }
         ensures inserts { OnOk result (self.new ≡ insert_key nat_cmp self.old number) }
@@ -65,23 +65,25 @@ impl NumberSet {
         Ok(())
     }
 
-    /// The numbers, rising. It takes time in proportion to the greatest of them: a step for each 64 numbers of which none
-    /// is there.
-    pub fn rising(&self, alloc: Global) -> Result<Vec<usize>, Memory>
-        ensures are { IfOk result (λ numbers. numbers.items ≡ self.now) }
+    /// The numbers rise, each once.
+    pub fn numbers_rise(&self)
+        ensures rise { Strict self.now }
     {
-        let mut numbers = Vec::new(alloc);
-        let words = self.words.as_slice();
-        for place in 0..words.len() {
-            push_word(words, place, &mut numbers)?;
-        }
-        Ok(numbers)
+        let _words = &self.words;
+    }
+
+    /// The words of bits: bit k of word w is set where 64 w + k is one of the numbers.
+    #[inline(always)]
+    pub fn words(&self) -> &[u64]
+        ensures few { length result.now ≤ 2 ^ 58 }
+        ensures bits { numbers_in result.now ≡ self.now }
+    {
+        self.words.as_slice()
     }
 }
 
 /// A word for the bit of a number.
-#[tactic(auto, using(crate::proofs::Bits::same_words))]
-#[inline]
+#[inline(always)]
 fn reserve(words: &mut Vec<u64>, number: usize) -> Result<(), AllocError>
     requires few { length words.old.items ≤ 2 ^ 58 }
     ensures few { length words.new.items ≤ 2 ^ 58 }
@@ -89,38 +91,34 @@ fn reserve(words: &mut Vec<u64>, number: usize) -> Result<(), AllocError>
     ensures same { OnOk result (SameWords words.old.items words.new.items) }
     ensures err { OnErr result (words.new.items ≡ words.old.items) }
 {
-    let word = number / 64;
-    if words.len() <= word {
-        words.resize(word + 1, 0)?;
+    if words.len() <= number / 64 {
+        return grow(words, number);
     }
     Ok(())
 }
 
+/// More words, up to the one for the bit of a number.
+#[tactic(auto, using(crate::proofs::Bits::same_words))]
+#[cold]
+#[inline(never)]
+fn grow(words: &mut Vec<u64>, number: usize) -> Result<(), AllocError>
+    requires past { length words.old.items ≤ number / 64 }
+    ensures few { length words.old.items ≤ 2 ^ 58 → length words.new.items ≤ 2 ^ 58 }
+    ensures word { OnOk result (number / 64 < length words.new.items) }
+    ensures same { OnOk result (SameWords words.old.items words.new.items) }
+    ensures err { OnErr result (words.new.items ≡ words.old.items) }
+{
+    let word = number / 64;
+    words.resize(word + 1, 0)?;
+    Ok(())
+}
+
 /// Sets the bit of a number.
-#[inline]
+#[inline(always)]
 fn set_bit(words: &mut Vec<u64>, number: usize)
     requires word { number / 64 < length words.old.items }
     ensures sets { words.new.items ≡ with_bit words.old.items number }
 {
     let word = number / 64;
     words[word] = words[word] | (1u64 << (number % 64));
-}
-
-/// Adds the numbers of a word.
-fn push_word(words: &[u64], place: usize, numbers: &mut Vec<usize>) -> Result<(), Memory>
-    requires there { place < length words.now }
-    requires few { length words.now ≤ 2 ^ 58 }
-    requires below { numbers.old.items ≡ numbers_below words.now (64 * place) }
-    ensures below { OnOk result (numbers.new.items ≡ numbers_below words.now (64 * (place + 1))) }
-{
-    let word = words[place];
-    if word == 0 {
-        return Ok(());
-    }
-    for bit in 0..64usize {
-        if (word >> bit) & 1 == 1 {
-            numbers.push(64 * place + bit)?;
-        }
-    }
-    Ok(())
 }

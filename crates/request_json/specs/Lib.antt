@@ -4,3 +4,4 @@ pub mod Names
 pub mod Requests
 pub mod Replies
 pub mod Pieces
+pub mod Heads

@@ -20,6 +20,7 @@
 mod error;
 mod escapes;
 mod fields;
+mod ids;
 mod names;
 mod numbers;
 mod places;
@@ -31,7 +32,8 @@ mod writing;
 pub use error::ReadError;
 pub use escapes::{put_number, put_quoted};
 pub use fields::{ids_at, number_at, text_at};
+pub use ids::put_ids;
 pub use reading::{json_of, read_request};
 pub use reply::{ProgramFault, Refusal, Reply};
 pub use request::{Query, Request};
-pub use writing::{put_ids, reply_line};
+pub use writing::reply_line;

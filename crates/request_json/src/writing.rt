@@ -6,6 +6,7 @@ ghost use Rattle.request_json.specs.Replies.{reply_text, object_of, reply_fields
 ghost use Rattle.request_json.specs.Pieces.{fields_text};
 
 use crate::escapes::{put_number, put_quoted};
+use crate::ids::put_ids;
 use crate::reply::{ProgramFault, Refusal, Reply};
 use base_values::Memory;
 use imp_syntax::{Chain, StmtId};
@@ -110,35 +111,6 @@ fn put_text_behind(line: &mut Vec<u8>, words: &[u8], text: &[u8]) -> Result<(), 
 {
     line.extend_from_slice(words)?;
     put_quoted(line, text)
-}
-
-/// Adds numbers, each after a comma, and the bracket that closes their list.
-fn put_more_ids(line: &mut Vec<u8>, ids: &[StmtId]) -> Result<(), Memory>
-    ensures list { OnOk result (line.new.items ≡ line.old.items ++ items_text true
-        (items_of count ids.now)) }
-{
-    for id in ids {
-        put_number_behind(line, b",", u64::from(id.number()))?;
-    }
-    line.push(b']')?;
-    Ok(())
-}
-
-/// Adds a list of numbers of statements, as JSON has it. It takes time linear in the list, and fails for want of
-/// memory alone.
-#[tactic(auto, using(crate::proofs::WritingLemmas::list_text))]
-pub fn put_ids(line: &mut Vec<u8>, ids: &[StmtId]) -> Result<(), Memory>
-    ensures list { OnOk result (line.new.items ≡ line.old.items
-        ++ compact_text (list_of count ids.now)) }
-{
-    match ids {
-        [] => line.extend_from_slice(b"[]")?,
-        [first, rest @ ..] => {
-            put_number_behind(line, b"[", u64::from(first.number()))?;
-            put_more_ids(line, rest)?;
-        }
-    }
-    Ok(())
 }
 
 /// Adds the check of a statement, with a comma after each field.

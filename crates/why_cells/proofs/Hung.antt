@@ -1,9 +1,8 @@
 -- What cells tell of the statements that their names hang on.
-use Rattle.std.proofs.Common.{◌≡◌, ◌≢◌, ◌↔◌, ◌⊎◌, ℕ, ◌≤◌, ◌+◌, List, [], ◌∷◌, ◌++◌, take, length, reverse, Option, Some, None, IsSome, Bool, true, false, not, if◌then◌else◌, slice_get, Contains, inl, inr, refl, sym, ap, subst, ◌∙◌, append_assoc, append-nil, arith}
+use Rattle.std.proofs.Common.{◌≡◌, ◌↔◌, ◌⊎◌, ℕ, suc, ◌≤◌, ◌+◌, List, [], ◌∷◌, ◌++◌, take, length, map, reverse, Option, Some, None, IsSome, Bool, true, false, not, if◌then◌else◌, slice_get, Contains, inl, inr, refl, sym, ap, subst, ◌∙◌, append_assoc, append-nil, take_all, take-take, arith}
 use Rattle.std.specs.FinMap.{get}
 use Rattle.std.proofs.lemmas.Bool.{cases_eq}
 use Rattle.std.proofs.lemmas.Option.{slice_get-get_or, slice_get_within, same_Some}
-use Rattle.std.proofs.Math.Seq.{take-length}
 use Rattle.imp_slots.specs.Plain.{Effect, DoBreak, Does}
 use Rattle.base_values.proofs.Lists.{take_item}
 use Rattle.base_values.proofs.Members.{Member, here, in_left, in_right, either, contains_of, member_of}
@@ -12,7 +11,6 @@ use Rattle.base_sets.specs.Sets.{Puts}
 use Rattle.domain_laws.specs.Operations.{Operations}
 use Rattle.batch_meaning.specs.Values as plain
 use Rattle.daig_demands.specs.Stops.{state_of}
-use Rattle.cell_names.specs.declared.frame.NameFrame.{NameFrame}
 use Rattle.cell_names.specs.Paths.{CellName}
 use Rattle.cell_rows.specs.Cells.{Cell}
 use Rattle.cell_rows.specs.Rows.{Posts, Assumes, Enters, Exits, Row, Init, One, Two, Fixed, Joins}
@@ -28,25 +26,12 @@ use Rattle.daig_query.specs.Right.{found, IsRight}
 use Rattle.daig_query.proofs.Found.{stored, is_there}
 use Rattle.daig_query.proofs.Reading.{value_of}
 use Rattle.why_slice.specs.Upstream.{all_hung, hung_on, is_live, listed, matters, statement_of_name}
-use Rattle.why_slice.proofs.Staying.{input_alone}
-use Rattle.why_cells.specs.Told.{hangs, is_effect, is_effect_at, IsCellAt, SameItems}
+use Rattle.why_slice.proofs.Staying.{input_alone, input_none}
+use Rattle.why_cells.specs.Told.{hangs, is_effect, IsCellAt, SameItems, Takes}
 
 -- lists with an item more, or none
 pub record Grows (old new : List ℕ) (o : Option ℕ) : Type 0 where
   pub is : (m : ℕ) → Contains new m ↔ (Contains old m ⊎ (o ≡ Some m))
-
-pub grows_push : (old new : List ℕ) (o : Option ℕ) (k : ℕ) → o ≡ Some k → new ≡ old ++ k ∷ [] → Grows old new o
-grows_push old new o k e j = record { is = λ m. (λ c. into m (member_of m new c), λ h. from m h) }
-  where
-    last : (m : ℕ) → Member m (k ∷ []) → o ≡ Some m
-    last m a = elim (cases m k [] a) [ inl q ↦ e ∙ ap Some (sym q) | inr n ↦ elim n [ ] ]
-
-    into : (m : ℕ) → Member m new → Contains old m ⊎ (o ≡ Some m)
-    into m a = elim (either m old (k ∷ []) (subst (Member m) j a)) [ inl l ↦ inl (contains_of m old l) | inr r ↦ inr (last m r) ]
-
-    from : (m : ℕ) → Contains old m ⊎ (o ≡ Some m) → Contains new m
-    from m (inl c) = contains_of m new (subst (Member m) (sym j) (in_left (k ∷ []) (member_of m old c)))
-    from m (inr q) = contains_of m new (subst (Member m) (sym j) (in_right old (subst (λ z. Member m (z ∷ [])) (same_Some m k (sym q ∙ e)) here)))
 
 pub grows_put : (old new : List ℕ) (o : Option ℕ) (k : ℕ) → o ≡ Some k → Puts old new k → Grows old new o
 grows_put old new o k e p = record { is = λ m. (λ c. into m c, λ h. from m h) }
@@ -60,6 +45,24 @@ grows_put old new o k e p = record { is = λ m. (λ c. into m c, λ h. from m h)
 
 pub grows_none : (old new : List ℕ) (o : Option ℕ) → ((n : ℕ) → o ≡ Some n → ⊥) → new ≡ old → Grows old new o
 grows_none old new o f e = subst (λ xs. Grows old xs o) (sym e) (record { is = λ m. (λ c. inl c, λ h. elim h [ inl c ↦ c | inr q ↦ absurd (f m q) ]) })
+
+-- the names of the cells in front
+numbers_front : (names : List CellName) (cells new : List ℕ) (xs : List CellName) → ((j n : ℕ) → slice_get cells j ≡ Some n → slice_get new j ≡ Some n) → AreNumbers names new xs → AreNumbers names cells (take (length cells) xs)
+numbers_front names [] new xs keeps a = refl
+numbers_front names (c ∷ cells) [] xs keeps a = let e = keeps 0 c refl in absurd cc
+numbers_front names (c ∷ cells) (m ∷ ns) [] keeps a = absurd cc
+numbers_front names (c ∷ cells) (m ∷ ns) (x ∷ xs) keeps a =
+    let same : m ≡ c = same_Some m c (keeps 0 c refl) in
+    let first : slice_get names m ≡ Some x = cc in
+    let rest : AreNumbers names ns xs = cc in
+    ap (λ o. o ∷ map (slice_get names) cells) (subst (λ k. slice_get names k ≡ Some x) same first) ∙ ap (λ os. Some x ∷ os) (numbers_front names cells ns xs (λ j n e. keeps (suc j) n e) rest)
+
+-- old items, and those that are told of another name
+pub takes : (told new more : List ℕ) (o : Option ℕ) → Grows told new o → ((n : ℕ) → o ≡ Some n → Contains more n) → ((n : ℕ) → Contains more n → (o ≡ Some n) ⊎ Contains told n) → Takes told more new
+takes told new more o g only each n = (
+  λ c. elim ((g.is n).0 c) [ inl a ↦ inl a | inr e ↦ inr (only n e) ],
+  λ h. (g.is n).1 (elim h [ inl a ↦ inl a | inr m ↦ elim (each n m) [ inl e ↦ inr e | inr c ↦ inl c ] ]),
+)
 
 module _ {S : Type 0} (dom : Operations S) where
   pub live_some : (v : plain.Value S) (s : S) → state_of v ≡ Some s → is_live dom v ≡ not (dom.dead s)
@@ -93,22 +96,47 @@ module _ {S : Type 0} (dom : Operations S) where
   effect_of (Joins stays l n w p) e = absurd cc
 
   module _ (plan : Plan) (store : Store S) (right : IsRight dom plan store) where
-    -- a name that has a number, which is that of a cell
-    pub named_cell : (n : ℕ) (x : CellName) → slice_get store.names.names n ≡ Some x → IsSome (get store.graph.cells n) → IsCellAt store n x
-    named_cell n x e s = let f = is_there dom plan store right n s in record { named = e; cell = f.0; there = f.1 }
-
     inputs_are : (x a : CellName) (e : Effect) → flat_row plan.engine (reverse plan.program) x.path x.point ≡ Some (One (Posts (Does e)) a) → inputs dom plan x ≡ a ∷ []
     unfolding inputs
     inputs_are x a e h = input_alone dom plan.engine plan.program same_name x a e h
 
-    -- what a row after a simple statement hangs on: what its first input's cell holds
-    pub effect_matters : (cell n : ℕ) (x : CellName) (r : Row) → (c : IsCellAt store cell x) → flat_row plan.engine (reverse plan.program) x.path x.point ≡ Some r → is_effect r ≡ true → slice_get c.cell.inputs 0 ≡ Some n → IsSome (get store.graph.cells n) →
-        (v : plain.Value S) × (value_in store n ≡ Some v) × (is_live dom v ≡ matters dom (found dom plan) r)
-    effect_matters cell n x r c row effect first there =
+    no_inputs : (x : CellName) → flat_row plan.engine (reverse plan.program) x.path x.point ≡ None → inputs dom plan x ≡ []
+    unfolding inputs
+    no_inputs x h = input_none dom plan.engine plan.program same_name x h
+
+    -- a cell holds a value
+    pub holds_value : (n : ℕ) → IsSome (get store.graph.cells n) → (v : plain.Value S) × (value_in store n ≡ Some v)
+    holds_value n there =
+        let f = is_there dom plan store right n there in
+        let x = right.cells n f.0 f.1 in
+        ((found dom plan x.0).value, value_of dom plan store right n x.0 f.0 x.1 f.1)
+
+    -- the inputs of a cell have the numbers of its name's inputs
+    named_inputs : (cell : ℕ) (x : CellName) (ns : List ℕ) → IsCellAt store cell x ns → AreNumbers store.names.names ns (inputs dom plan x)
+    named_inputs cell x ns c = subst (λ ks. AreNumbers store.names.names ks (inputs dom plan x)) c.cell.2 (stored dom plan store right cell x c.cell.0 c.named c.cell.1).inputs
+
+    -- a cell of a name without a row has no input
+    pub row_there : (cell n : ℕ) (x : CellName) (ns : List ℕ) → IsCellAt store cell x ns → flat_row plan.engine (reverse plan.program) x.path x.point ≡ None → slice_get ns 0 ≡ Some n → ⊥
+    row_there cell n x ns c row first =
+        let are : AreNumbers store.names.names ns [] = subst (AreNumbers store.names.names ns) (no_inputs x row) (named_inputs cell x ns c) in
+        let p = numbers_get store.names.names ns [] are 0 n first in
+        let q = p.1 in
+        cc
+
+    -- the one input of a cell after a simple statement
+    effect_input : (cell : ℕ) (x : CellName) (r : Row) (ns : List ℕ) → IsCellAt store cell x ns → flat_row plan.engine (reverse plan.program) x.path x.point ≡ Some r → (e : is_effect r ≡ true) →
+        (p : ℕ) × (slice_get ns 0 ≡ Some p) × (slice_get store.names.names p ≡ Some (effect_of r e).1)
+    effect_input cell x r ns c row effect =
         let e = effect_of r effect in
-        let i = inputs_are x e.1 e.0 (row ∙ ap Some e.2) in
-        let are : AreNumbers store.names.names c.cell.inputs (e.1 ∷ []) = subst (AreNumbers store.names.names c.cell.inputs) i (stored dom plan store right cell x c.cell c.named c.there).inputs in
-        let p = numbers_of store.names.names c.cell.inputs (e.1 ∷ []) are 0 e.1 refl in
+        let are : AreNumbers store.names.names ns (e.1 ∷ []) = subst (AreNumbers store.names.names ns) (inputs_are x e.1 e.0 (row ∙ ap Some e.2)) (named_inputs cell x ns c) in
+        numbers_of store.names.names ns (e.1 ∷ []) are 0 e.1 refl
+
+    -- what a row after a simple statement hangs on: what its first input's cell holds
+    pub effect_matters : (cell n : ℕ) (x : CellName) (r : Row) (ns : List ℕ) → IsCellAt store cell x ns → flat_row plan.engine (reverse plan.program) x.path x.point ≡ Some r → is_effect r ≡ true → slice_get ns 0 ≡ Some n → IsSome (get store.graph.cells n) →
+        (v : plain.Value S) × (value_in store n ≡ Some v) × (is_live dom v ≡ matters dom (found dom plan) r)
+    effect_matters cell n x r ns c row effect first there =
+        let e = effect_of r effect in
+        let p = effect_input cell x r ns c row effect in
         let same : p.0 ≡ n = same_Some p.0 n (sym p.1 ∙ first) in
         let f = is_there dom plan store right n there in
         let named : slice_get store.names.names n ≡ Some e.1 = subst (λ m. slice_get store.names.names m ≡ Some e.1) same p.2 in (
@@ -117,17 +145,11 @@ module _ {S : Type 0} (dom : Operations S) where
           sym (ap (matters dom (found dom plan)) e.2),
         )
 
-    pub effect_first : (cell : ℕ) (x : CellName) (r : Row) → (c : IsCellAt store cell x) → flat_row plan.engine (reverse plan.program) x.path x.point ≡ Some r → is_effect r ≡ true → slice_get c.cell.inputs 0 ≡ None → ⊥
-    effect_first cell x r c row effect none =
-        let e = effect_of r effect in
-        let i = inputs_are x e.1 e.0 (row ∙ ap Some e.2) in
-        let are : AreNumbers store.names.names c.cell.inputs (e.1 ∷ []) = subst (AreNumbers store.names.names c.cell.inputs) i (stored dom plan store right cell x c.cell c.named c.there).inputs in
-        let p = numbers_of store.names.names c.cell.inputs (e.1 ∷ []) are 0 e.1 refl in
+    pub effect_first : (cell : ℕ) (x : CellName) (r : Row) (ns : List ℕ) → IsCellAt store cell x ns → flat_row plan.engine (reverse plan.program) x.path x.point ≡ Some r → is_effect r ≡ true → slice_get ns 0 ≡ None → ⊥
+    effect_first cell x r ns c row effect none =
+        let p = effect_input cell x r ns c row effect in
         let q = sym none ∙ p.1 in
         cc
-
-    pub other_matters : (r : Row) → is_effect r ≡ false → true ≡ matters dom (found dom plan) r
-    other_matters r e = sym (matters_other (found dom plan) r e)
 
     abbrev hung : CellName → Option Row → List ℕ
     hung = hung_on dom plan.engine plan.program same_name
@@ -156,22 +178,27 @@ module _ {S : Type 0} (dom : Operations S) where
     abbrev row_at : CellName → Option Row
     row_at x = flat_row plan.engine (reverse plan.program) x.path x.point
 
-    -- whether a name hangs on its statement, by its row
-    pub effect_row : (x : CellName) → is_effect_at (row_at x) ≡ true → (r : Row) × (row_at x ≡ Some r) × (is_effect r ≡ true)
-    effect_row x e = go (row_at x) refl e
+    -- whether a name hangs on its statement, by whether a live state stands in front
+    pub hangs_front : (x : CellName) (b : Bool) → b ≡ true → ((r : Row) → row_at x ≡ Some r → is_effect r ≡ true → b ≡ matters dom (found dom plan) r) → (row_at x ≡ None → b ≡ false) → true ≡ hangs dom (found dom plan) (row_at x)
+    hangs_front x b t f g = go (row_at x) refl
       where
-        go : (o : Option Row) → row_at x ≡ o → is_effect_at o ≡ true → (r : Row) × (row_at x ≡ Some r) × (is_effect r ≡ true)
-        go None h e = absurd cc
-        go (Some r) h e = (r, h, e)
+        by : (r : Row) → row_at x ≡ Some r → (e : Bool) → is_effect r ≡ e → true ≡ matters dom (found dom plan) r
+        by r h true e = sym t ∙ f r h e
+        by r h false e = sym (matters_other (found dom plan) r e)
 
-    pub hangs_live : (x : CellName) (b : Bool) → is_effect_at (row_at x) ≡ true → ((r : Row) → row_at x ≡ Some r → is_effect r ≡ true → b ≡ matters dom (found dom plan) r) → b ≡ hangs dom (found dom plan) (row_at x)
-    hangs_live x b e f = let r = effect_row x e in f r.0 r.1 r.2 ∙ sym (ap (hangs dom (found dom plan)) r.1)
+        go : (o : Option Row) → row_at x ≡ o → true ≡ hangs dom (found dom plan) (row_at x)
+        go None h = let e = sym t ∙ g h in absurd cc
+        go (Some r) h = by r h (is_effect r) refl ∙ sym (ap (hangs dom (found dom plan)) h)
 
     pub hangs_none : (x : CellName) → None ≡ row_at x → false ≡ hangs dom (found dom plan) (row_at x)
     hangs_none x e = ap (hangs dom (found dom plan)) e
 
-    pub hangs_some : (x : CellName) (r : Row) (b : Bool) → row_at x ≡ Some r → b ≡ matters dom (found dom plan) r → b ≡ hangs dom (found dom plan) (row_at x)
-    hangs_some x r b e m = m ∙ sym (ap (hangs dom (found dom plan)) e)
+    pub hangs_some : (x : CellName) (r : Row) (b e : Bool) → row_at x ≡ Some r → b ≡ false → (is_effect r ≡ true → b ≡ matters dom (found dom plan) r) → e ≡ is_effect r → not e ≡ hangs dom (found dom plan) (row_at x)
+    hangs_some x r b e h t f s = by (is_effect r) refl ∙ sym (ap (hangs dom (found dom plan)) h)
+      where
+        by : (d : Bool) → is_effect r ≡ d → not e ≡ matters dom (found dom plan) r
+        by true k = ap not (s ∙ k) ∙ sym t ∙ f k
+        by false k = ap not (s ∙ k) ∙ sym (matters_other (found dom plan) r k)
 
     -- what is told of a cell, by its name
     pub told_only : (cell : ℕ) (x y : CellName) (o : Option ℕ) (b : Bool) (n : ℕ) → slice_get store.names.names cell ≡ Some y → slice_get store.names.names cell ≡ Some x →
@@ -192,49 +219,50 @@ module _ {S : Type 0} (dom : Operations S) where
       let h = hung_on dom plan.engine plan.program same_name x (flat_row plan.engine (reverse plan.program) x.path x.point) in
       ap (λ ns. h ++ ns) (all_hung_both plan xs ys) ∙ sym (append_assoc h (all_hung dom plan.engine plan.program same_name xs) (all_hung dom plan.engine plan.program same_name ys))
 
-  abbrev hung_row : Plan → CellName → List ℕ
+  abbrev pub hung_row : Plan → CellName → List ℕ
   hung_row plan x = hung_on dom plan.engine plan.program same_name x (flat_row plan.engine (reverse plan.program) x.path x.point)
 
-  pub record Hung (plan : Plan) (names : List CellName) (cells : List ℕ) (i : ℕ) (told out : List ℕ) : Type 0 where
-    pub same : SameItems told out
-    pub are : (xs : List CellName) → AreNumbers names cells xs → SameItems out (all_hung dom plan.engine plan.program same_name (take i xs))
+  pub record Hung (plan : Plan) (names : List CellName) (cells : List ℕ) (i : ℕ) (told : List ℕ) : Type 0 where
+    pub are : (xs : List CellName) → AreNumbers names cells xs → SameItems told (all_hung dom plan.engine plan.program same_name (take i xs))
 
-  pub hung_first : (plan : Plan) (names : List CellName) (cells told out : List ℕ) → told ≡ [] → out ≡ [] → Hung plan names cells 0 told out
-  hung_first plan names cells told out e j = record {
-    same = λ n. (λ c. subst (λ xs. Contains xs n) (e ∙ sym j) c, λ c. subst (λ xs. Contains xs n) (j ∙ sym e) c);
-    are = λ xs a n. (λ c. subst (λ xs. Contains xs n) j c, λ c. subst (λ xs. Contains xs n) (sym j) c);
+  pub hung_first : (plan : Plan) (names : List CellName) (cells told : List ℕ) → told ≡ [] → Hung plan names cells 0 told
+  hung_first plan names cells told e = record {
+    are = λ xs a n. (λ c. subst (λ xs. Contains xs n) e c, λ c. subst (λ xs. Contains xs n) (sym e) c);
   }
 
-  -- more items, and those of another name
-  same_more : (out new told front more : List ℕ) (o : Option ℕ) → Grows out new o → SameItems told out → SameItems out front →
-      ((n : ℕ) → o ≡ Some n → Contains more n) → ((n : ℕ) → Contains more n → (o ≡ Some n) ⊎ Contains told n) → SameItems new (front ++ more)
-  same_more out new told front more o g s h only each n = (λ c. into ((g.is n).0 c), λ c. from (either n front more (member_of n (front ++ more) c)))
+  -- the same items as those of some names, and those of another name
+  same_more : (told new front more : List ℕ) → Takes told more new → SameItems told front → SameItems new (front ++ more)
+  same_more told new front more t h n = (λ c. into ((t n).0 c), λ c. from (either n front more (member_of n (front ++ more) c)))
     where
-      into : Contains out n ⊎ (o ≡ Some n) → Contains (front ++ more) n
+      into : Contains told n ⊎ Contains more n → Contains (front ++ more) n
       into (inl c) = contains_of n (front ++ more) (in_left more (member_of n front ((h n).0 c)))
-      into (inr e) = contains_of n (front ++ more) (in_right front (member_of n more (only n e)))
+      into (inr c) = contains_of n (front ++ more) (in_right front (member_of n more c))
 
       from : Member n front ⊎ Member n more → Contains new n
-      from (inl m) = (g.is n).1 (inl ((h n).1 (contains_of n front m)))
-      from (inr m) = (g.is n).1 (elim (each n (contains_of n more m)) [ inl e ↦ inr e | inr c ↦ inl ((s n).0 c) ])
+      from (inl m) = (t n).1 (inl ((h n).1 (contains_of n front m)))
+      from (inr m) = (t n).1 (inr (contains_of n more m))
 
-  pub hung_next : (plan : Plan) (names : List CellName) (cells told more out new : List ℕ) (i n : ℕ) (o : Option ℕ) → slice_get cells i ≡ Some n → Hung plan names cells i told out → Grows told more o → Grows out new o →
-      ((x : CellName) (k : ℕ) → slice_get names n ≡ Some x → o ≡ Some k → Contains (hung_row plan x) k) → ((x : CellName) (k : ℕ) → slice_get names n ≡ Some x → Contains (hung_row plan x) k → (o ≡ Some k) ⊎ Contains told k) →
-      Hung plan names cells (i + 1) more new
-  hung_next plan names cells told more out new i n o at h g j only each = record {
-    same = λ k. (λ c. (j.is k).1 (elim ((g.is k).0 c) [ inl a ↦ inl ((h.same k).0 a) | inr e ↦ inr e ]), λ c. (g.is k).1 (elim ((j.is k).0 c) [ inl a ↦ inl ((h.same k).1 a) | inr e ↦ inr e ]));
+  pub hung_next : (plan : Plan) (names : List CellName) (cells told more : List ℕ) (i n : ℕ) → slice_get cells i ≡ Some n → Hung plan names cells i told → ((x : CellName) → slice_get names n ≡ Some x → Takes told (hung_row plan x) more) →
+      Hung plan names cells (i + 1) more
+  hung_next plan names cells told more i n at h tells = record {
     are = λ xs a.
         let p = numbers_get names cells xs a i n at in
         let l = slice_get_within xs i p.0 p.1 in
         let t : take (i + 1) xs ≡ take i xs ++ p.0 ∷ [] = take_item xs i p.0 l (same_Some _ _ (sym p.1 ∙ slice_get-get_or xs i p.0 l)) in
         let front = all_hung dom plan.engine plan.program same_name (take i xs) in
-        subst (SameItems new)
+        subst (SameItems more)
         (ap (λ ns. front ++ ns) (sym (append-nil (hung_row plan p.0))) ∙ sym (ap (all_hung dom plan.engine plan.program same_name) t ∙ all_hung_both plan (take i xs) (p.0 ∷ [])))
-        (same_more out new told front (hung_row plan p.0) o j h.same (h.are xs a) (λ k e. only p.0 k p.2 e) (λ k c. each p.0 k p.2 c));
+        (same_more told more front (hung_row plan p.0) (tells p.0 p.2) (h.are xs a));
   }
 
-  pub hung_all : (plan : Plan) (names : List CellName) (cells told out : List ℕ) (i : ℕ) (xs : List CellName) → length cells ≤ i → i ≤ length cells → Hung plan names cells i told out → AreNumbers names cells xs →
-      SameItems out (all_hung dom plan.engine plan.program same_name xs)
-  hung_all plan names cells told out i xs u l h a =
-      let e : i ≡ length cells = omega (arith, u, l) in
-      subst (SameItems out) (ap (all_hung dom plan.engine plan.program same_name) (ap (λ k. take k xs) (e ∙ numbers_length names cells xs a) ∙ take-length xs)) (h.are xs a)
+  -- cells more, behind those that are there
+  pub hung_grows : (plan : Plan) (names : List CellName) (cells new told : List ℕ) (i : ℕ) → i ≤ length cells → ((j n : ℕ) → slice_get cells j ≡ Some n → slice_get new j ≡ Some n) → Hung plan names cells i told → Hung plan names new i told
+  hung_grows plan names cells new told i l keeps h = record {
+    are = λ xs a.
+        subst (λ ys. SameItems told (all_hung dom plan.engine plan.program same_name ys)) (take-take i (length cells) xs l) (h.are (take (length cells) xs) (numbers_front names cells new xs keeps a));
+  }
+
+  pub hung_all : (plan : Plan) (names : List CellName) (cells told : List ℕ) (i : ℕ) (xs : List CellName) → length cells ≤ i → Hung plan names cells i told → AreNumbers names cells xs → SameItems told (all_hung dom plan.engine plan.program same_name xs)
+  hung_all plan names cells told i xs u h a =
+      let e = numbers_length names cells xs a in
+      subst (SameItems told) (ap (all_hung dom plan.engine plan.program same_name) (take_all i xs (omega (arith, u, e)))) (h.are xs a)

@@ -1,5 +1,5 @@
 mod Gathers
-mod Simple
 mod Ways
 mod Hung
 mod Sliced
+mod Walking

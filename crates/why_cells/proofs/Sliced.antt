@@ -186,12 +186,6 @@ module _ {S : Type 0} (dom : Operations S) (plan : Plan) (ts : List Target) (sto
         (p.0, p.2, leads z.0 p.0 f.0 z.2 f.1 (q.0, p.1))
 
     module _ (keys : List ℕ) (reached : AreReached store.graph.cells seeds keys) where
-      pub keys_there : AreCells store.graph.cells keys
-      keys_there i n e =
-          let z = reached_needed n ((reached n).0 (i, e)) in
-          let f = there_of n z.0 z.2 z.1 in
-          is_filled n f.0 f.1
-
       pub keys_named : (xs : List CellName) × AreNumbers store.names.names keys xs
       keys_named = names_for store.names.names keys (λ n m. let z = reached_needed n ((reached n).0 m) in (z.0, z.1))
 

@@ -1,32 +1,27 @@
 //! The statements that the names of cells hang on.
-ghost use Rattle.std.specs.Prelude.{◌≡◌, ◌<◌, ◌⊎◌, ℕ, List, ◌∷◌, length, true, Contains, Some, None, slice_get, IfOk, IfSome, IsSome, option_map, reverse};
-ghost use Rattle.std.specs.FinMap as map;
-ghost use Rattle.cell_names.specs.declared.frame.Point.TheVariants.{Entry, Body, Post};
+ghost use Rattle.std.specs.Prelude.{◌≡◌, ◌<◌, ◌⊎◌, ℕ, List, ◌∷◌, length, true, false, Contains, Some, None, slice_get, OnOk, option_map, reverse};
+ghost use Rattle.cell_names.specs.declared.frame.Point.TheVariants.{Entry, Body};
 ghost use Rattle.cell_names.specs.Paths.{CellName, name_in, path_at};
 ghost use Rattle.cell_rows.specs.Rows.{Row as PlainRow};
 ghost use Rattle.cell_rows.specs.Flat.{flat_row};
+ghost use Rattle.imp_flow.specs.Plans.{Plan};
 ghost use Rattle.imp_flow_rows.specs.Near.{PathFrame, last_frame, row_in};
-ghost use Rattle.daig_graph.specs.Cells.{AreCells, Filled};
+ghost use Rattle.daig_graph.specs.Cells.{AreCells};
 ghost use Rattle.batch_meaning.specs.Values.{Value as PlainValue};
 ghost use Rattle.daig_query.specs.Answered.{value_in};
-ghost use Rattle.cell_graph.specs.Named.{AreNumbers};
 ghost use Rattle.cell_graph.specs.Same.{same_name};
 ghost use Rattle.daig_query.specs.Right.{found, IsRight};
-ghost use Rattle.why_slice.specs.Upstream.{all_hung, hung_on, is_live, listed, matters, statement_of_name};
-ghost use Rattle.why_cells.specs.Told.{hangs, is_effect, is_effect_at, is_simple, IsCellAt, SameItems};
+ghost use Rattle.why_slice.specs.Upstream.{hung_on, is_live, matters, statement_of_name};
+ghost use Rattle.why_cells.specs.Told.{hangs, is_effect, HasInputs, IsCellAt, Takes};
 
-use base_sets::NumberSet;
 use base_values::Memory;
 use cell_names::{Name, NameFrame, Names, PathId, Point};
-use daig_graph::Graph;
 use daig_query::Engine;
 use domain_laws::Domain;
-use imp_check::SlotForm;
 use imp_flow::Flow;
 use imp_flow_rows::{Row, Unary};
 use imp_slots::SlotStmt;
-use imp_syntax::StmtId;
-use std::alloc::Global;
+use why_slice::StatementSet;
 
 /// The last frame of a path.
 fn last_frame(names: &Names, path: PathId) -> Option<NameFrame>
@@ -80,6 +75,7 @@ fn looped_by(frame: Option<NameFrame>) -> Option<u32>
 }
 
 /// The statement that a name names.
+#[inline(always)]
 fn pointed(names: &Names, name: &Name) -> Option<u32>
     requires there { name.now.path < length names.now.paths }
     ensures is { result ≡ statement_of_name (path_at names.now.paths name.now.path) name.now.point }
@@ -133,126 +129,64 @@ fn is_live<D: Domain>(engine: &Engine<D>, cell: usize) -> bool
     }
 }
 
-/// The first input of a cell.
-fn first_input<V>(graph: &Graph<V>, cell: usize) -> Option<usize>
-    ensures is { (f : Filled V) → map.get graph.now.cells cell ≡ Some f →
-        result ≡ slice_get f.inputs 0 }
-    ensures there { IfSome result (λ n. IsSome (map.get graph.now.cells n)) }
+/// Whether the first input of a cell holds a state that is not a dead one. A name without a row has no input.
+#[inline(always)]
+fn is_live_in_front<D: Domain>(engine: &Engine<D>, inputs: &[usize]) -> bool
+    requires right { (plan : Plan) × IsRight (D.operations engine.now.domain) plan
+        engine.now.store }
+    requires cells { AreCells engine.now.store.graph.cells inputs.now }
+    ensures is { (plan : Plan) (n : ℕ) (x : CellName) (r : PlainRow) →
+        IsRight (D.operations engine.now.domain) plan engine.now.store →
+        IsCellAt engine.now.store n x inputs.now →
+        flat_row plan.engine (reverse plan.program) x.path x.point ≡ Some r →
+        is_effect r ≡ true → result ≡ matters (D.operations engine.now.domain)
+        (found (D.operations engine.now.domain) plan) r }
+    ensures row { (plan : Plan) (n : ℕ) (x : CellName) →
+        IsRight (D.operations engine.now.domain) plan engine.now.store →
+        IsCellAt engine.now.store n x inputs.now →
+        flat_row plan.engine (reverse plan.program) x.path x.point ≡ None → result ≡ false }
 {
-    match graph.inputs(cell) {
-        Some(inputs) => match inputs.first() {
-            Some(first) => Some(*first),
-            None => None,
-        },
-        None => None,
-    }
-}
-
-/// Whether the value before a cell after a simple statement, which is no break, is a state that is not a dead one.
-fn is_live_in_front<D: Domain>(engine: &Engine<D>, flow: &Flow<'_>, cell: usize) -> bool
-    requires right { IsRight (D.operations engine.now.domain) flow.now engine.now.store }
-    requires there { (x : CellName) × (r : PlainRow) × IsCellAt engine.now.store cell x ×
-        (flat_row flow.now.engine (reverse flow.now.program) x.path x.point ≡ Some r) ×
-        (is_effect r ≡ true) }
-    ensures is { (x : CellName) (r : PlainRow) → IsCellAt engine.now.store cell x →
-        flat_row flow.now.engine (reverse flow.now.program) x.path x.point ≡ Some r →
-        is_effect r ≡ true →
-        result ≡ matters (D.operations engine.now.domain)
-        (found (D.operations engine.now.domain) flow.now) r }
-{
-    match first_input(engine.graph(), cell) {
-        Some(first) => is_live(engine, first),
-        None => unreachable!(),
-    }
-}
-
-/// Whether the name of a cell hangs on the statement that it names, by its row.
-#[tactic(auto, using(crate::proofs::Hung::other_matters))]
-fn matters<D: Domain>(engine: &Engine<D>, flow: &Flow<'_>, cell: usize, row: &Row<'_>) -> bool
-    requires right { IsRight (D.operations engine.now.domain) flow.now engine.now.store }
-    requires there { (x : CellName) × IsCellAt engine.now.store cell x ×
-        (flat_row flow.now.engine (reverse flow.now.program) x.path x.point ≡
-        Some (row_in x.path row.now)) }
-    ensures is { (x : CellName) → IsCellAt engine.now.store cell x →
-        flat_row flow.now.engine (reverse flow.now.program) x.path x.point ≡
-        Some (row_in x.path row.now) →
-        result ≡ matters (D.operations engine.now.domain)
-        (found (D.operations engine.now.domain) flow.now) (row_in x.path row.now) }
-{
-    if !is_effect(row) {
-        return true;
-    }
-    is_live_in_front(engine, flow, cell)
-}
-
-/// Whether a statement is a simple one, neither a call nor a break.
-fn is_simple(form: &SlotForm) -> bool
-    ensures is { result ≡ is_simple form.now }
-{
-    match form {
-        SlotForm::Stmt(stmt) => match stmt {
-            SlotStmt::Break => false,
-            SlotStmt::Simple(_) => true,
-        },
-        SlotForm::Cond(_) => false,
-        SlotForm::Call(_, _) => false,
-    }
-}
-
-/// Whether the row after a statement is that of a simple one, which is no break. It makes no row.
-#[tactic(auto, using(crate::proofs::Simple::behind_none, crate::proofs::Simple::behind_some))]
-fn is_behind_simple(flow: &Flow<'_>, stmt: StmtId) -> bool
-    ensures is { (w : List PathFrame) → result ≡ is_effect_at
-        (flat_row flow.now.engine (reverse flow.now.program) w (Post stmt)) }
-{
-    let prog = flow.program();
-    prog.procs();
-    match prog.entry(stmt) {
+    match inputs.first() {
+        Some(first) => is_live(engine, *first),
         None => false,
-        Some(entry) => is_simple(&entry.form),
     }
 }
 
-/// Whether a point is one after a simple statement, which is no break.
-fn is_effect_point(flow: &Flow<'_>, point: Point) -> bool
-    ensures is { result ≡ true → (w : List PathFrame) → is_effect_at
-        (flat_row flow.now.engine (reverse flow.now.program) w point) ≡ true }
-{
-    match point {
-        Point::Post(stmt) => is_behind_simple(flow, stmt),
-        _ => false,
-    }
-}
-
-/// Whether the name of a cell hangs on the statement that it names. After a simple statement its row is not needed.
-fn hangs<D: Domain>(engine: &Engine<D>, flow: &Flow<'_>, cell: usize, name: &Name) -> bool
+/// Whether the name of a cell with these inputs hangs on the statement that it names. Its row is needed only where no
+/// state that is not a dead one stands in front.
+#[inline(always)]
+fn hangs<D: Domain>(engine: &Engine<D>, flow: &Flow<'_>, inputs: &[usize], name: &Name) -> bool
     requires right { IsRight (D.operations engine.now.domain) flow.now engine.now.store }
-    requires there { IsCellAt engine.now.store cell (name_in engine.now.store.names.paths
-        name.now) }
+    requires cells { AreCells engine.now.store.graph.cells inputs.now }
+    requires there { (n : ℕ) × IsCellAt engine.now.store n
+        (name_in engine.now.store.names.paths name.now) inputs.now }
     requires path { name.now.path < length engine.now.store.names.paths }
     ensures is { result ≡ hangs (D.operations engine.now.domain)
         (found (D.operations engine.now.domain) flow.now)
         (flat_row flow.now.engine (reverse flow.now.program)
         (path_at engine.now.store.names.paths name.now.path) name.now.point) }
 {
-    if is_effect_point(flow, name.point) {
-        return is_live_in_front(engine, flow, cell);
+    if is_live_in_front(engine, inputs) {
+        return true;
     }
     match row_of(flow, engine.names(), name) {
         None => false,
-        Some(row) => matters(engine, flow, cell, &row),
+        Some(row) => !is_effect(&row),
     }
 }
 
-/// The statement that the name of a cell hangs on, unless it is told already.
+/// The statement that the name of a cell with these inputs hangs on, unless it is told already.
+#[inline(always)]
 fn hung_on<D: Domain>(
     engine: &Engine<D>,
     flow: &Flow<'_>,
     cell: usize,
-    told: &NumberSet,
+    inputs: &[usize],
+    told: &StatementSet,
 ) -> Option<u32>
     requires right { IsRight (D.operations engine.now.domain) flow.now engine.now.store }
-    requires there { IsSome (map.get engine.now.store.graph.cells cell) }
+    requires there { HasInputs engine.now.store.graph.cells cell inputs.now }
+    requires cells { AreCells engine.now.store.graph.cells inputs.now }
     ensures only { (x : CellName) (n : ℕ) → slice_get engine.now.store.names.names cell ≡ Some x →
         result ≡ Some n →
         Contains (hung_on (D.operations engine.now.domain) flow.now.engine flow.now.program
@@ -267,10 +201,10 @@ fn hung_on<D: Domain>(
     match pointed(names, &name) {
         None => None,
         Some(number) => {
-            if told.has(number as usize) {
+            if told.has(number) {
                 return None;
             }
-            if hangs(engine, flow, cell, &name) {
+            if hangs(engine, flow, inputs, &name) {
                 Some(number)
             } else {
                 None
@@ -279,31 +213,31 @@ fn hung_on<D: Domain>(
     }
 }
 
-/// The statements that the names of these cells hang on, each once. It takes constant time for each cell, except a leap
-/// whose statement is not told before, which takes time linear in the breaks of its loop.
+/// Puts the statement that the name of a cell with these inputs hangs on among those that are told. It takes constant
+/// time, except for a leap whose statement is not told before and that no live state leads to: then it takes time linear
+/// in the breaks of its loop.
 ///
 /// # Errors
 ///
 /// [`Memory`] alone.
-pub(crate) fn all_hung<D: Domain>(
-    alloc: Global,
+#[inline(always)]
+pub(crate) fn tell<D: Domain>(
     engine: &Engine<D>,
     flow: &Flow<'_>,
-    cells: &[usize],
-) -> Result<Vec<u32>, Memory>
+    cell: usize,
+    inputs: &[usize],
+    told: &mut StatementSet,
+) -> Result<(), Memory>
     requires right { IsRight (D.operations engine.now.domain) flow.now engine.now.store }
-    requires there { AreCells engine.now.store.graph.cells cells.now }
-    ensures are { (xs : List CellName) → AreNumbers engine.now.store.names.names cells.now xs →
-        IfOk result (λ ns. SameItems ns.items (all_hung (D.operations engine.now.domain)
-        flow.now.engine flow.now.program same_name xs)) }
+    requires there { HasInputs engine.now.store.graph.cells cell inputs.now }
+    requires cells { AreCells engine.now.store.graph.cells inputs.now }
+    ensures tells { (x : CellName) → slice_get engine.now.store.names.names cell ≡ Some x →
+        OnOk result (Takes told.old (hung_on (D.operations engine.now.domain) flow.now.engine
+        flow.now.program same_name x (flat_row flow.now.engine (reverse flow.now.program) x.path
+        x.point)) told.new) }
 {
-    let mut told = NumberSet::new(alloc);
-    let mut hung = Vec::new(alloc);
-    for cell in cells {
-        if let Some(number) = hung_on(engine, flow, *cell, &told) {
-            told.add(number as usize)?;
-            hung.push(number)?;
-        }
+    if let Some(number) = hung_on(engine, flow, cell, inputs, told) {
+        told.put(number)?;
     }
-    Ok(hung)
+    Ok(())
 }

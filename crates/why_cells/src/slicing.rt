@@ -6,8 +6,7 @@ ghost use Rattle.cell_graph.specs.Same.{same_name};
 ghost use Rattle.daig_query.specs.Answered.{AreFilled};
 ghost use Rattle.why_slice.specs.Upstream.{upstream};
 
-use crate::gathering::reached;
-use crate::hanging::all_hung;
+use crate::gathering::all_hung;
 use crate::seeds::with_fixes;
 use base_values::{Items, Memory};
 use daig_query::{Engine, Walk};
@@ -44,7 +43,6 @@ pub fn upstream<D: Domain>(
 {
     let chains = call_chains::targets(alloc, flow.program(), at, string)?;
     let seeds = with_fixes(alloc, engine.names(), walk.found())?;
-    let cells = reached(alloc, engine.graph(), seeds.as_slice())?;
-    let hung = all_hung(alloc, engine, flow, cells.as_slice())?;
-    why_slice::upstream(alloc, at, chains.as_slice(), hung.as_slice())
+    let hung = all_hung(alloc, engine, flow, seeds.as_slice())?;
+    why_slice::upstream(alloc, at, chains.as_slice(), hung)
 }

@@ -10,3 +10,4 @@ mod Edited
 mod Whole
 pub mod Told
 pub mod Putting
+pub mod Listed

@@ -160,6 +160,13 @@ module _ {S : Type 0} (dom : Operations S) (engine : LoopOptions) (program : Lis
       ∙ gather-some (value_of rows) (λ vs. asks_row dom engine (One (Posts (Does e)) a) vs) 0 [] a refl
       ∙ ap (λ xs. a ∷ xs) (gather-none (value_of rows) (λ vs. asks_row dom engine (One (Posts (Does e)) a) vs) 0 (value_of rows a ∷ []) refl)
 
+  -- a name without a row has no input
+  pub input_none : (x : CellName) → flat_row engine (reverse program) x.path x.point ≡ None → inputs_of rows x ≡ []
+  unfolding inputs_of
+  input_none x h =
+      ap (λ o. gather (value_of rows) (λ vs. by_row dom engine o None (λ r. asks_row dom engine r vs)) (by_row dom engine o 0 (most_row dom engine)) []) h
+      ∙ gather-none (value_of rows) (λ vs. None) 0 [] refl
+
 module _ {S : Type 0} (dom : Operations S) (covers : S → Heap → List Variables → Type 0) (laws : Laws dom covers) (rises : ThresholdsRise) (dead : KeepsDead dom) (names : InputsAreNames dom)
     (engine : LoopOptions) (s t : ℕ) (f : Effect) (program : List Routine) (same : CellName → CellName → Bool) (is : IsSame same) (checked : IsChecked program) (after : IsChecked (swap_all s t f program))
     (simple : IsSimple s program) (marked : SameThresholds s t f engine.widening (reverse program)) (fresh : Absent t (routine_numbers program))

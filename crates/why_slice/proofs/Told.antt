@@ -23,7 +23,8 @@ use Rattle.cell_rows.specs.Targets.{Target, demanded}
 use Rattle.daig_demands.specs.Claims.{found_by, names_of}
 use Rattle.daig_demands.proofs.Machine.{rows, law}
 use Rattle.why_slice.specs.Upstream.{statement_at, listed, all_of, statement_of_name, matters, HangsOn, NeededBy, IsUpstream, at_location, in_chain, by_name, hung_on, all_hung, needed_by, upstream}
-use Rattle.base_sets.proofs.Rising.{Strict, rising_strict, in_rising, of_rising}
+use Rattle.base_sets.specs.Sets.{Strict}
+use Rattle.base_sets.proofs.Rising.{rising_strict, in_rising, of_rising}
 
 pub is_member : {A : Type 0} (same : A → A → Bool) → ((x y : A) → same x y ≡ true → x ≡ y) → (xs : List A) (x : A) → member same xs x ≡ true → Member x xs
 is_member same eq [] x m = absurd cc

@@ -7,3 +7,4 @@ mod statements;
 
 pub use laws::{answers_stay, upstream_is_told};
 pub use listing::upstream;
+pub use statements::StatementSet;

@@ -9,16 +9,6 @@ use base_values::{Items, Memory};
 use imp_syntax::{Chain, Location, StmtId};
 use std::alloc::Global;
 
-/// Puts statements among the others.
-fn put_all(stmts: &mut StatementSet, more: &[u32]) -> Result<(), Memory>
-    ensures put { OnOk result (stmts.new ≡ fold (insert_key nat_cmp) stmts.old more.now) }
-{
-    for number in more {
-        stmts.put(*number)?;
-    }
-    Ok(())
-}
-
 /// Puts the call sites of a chain among the others.
 #[tactic(auto, using(crate::proofs::Putting::put_next))]
 fn put_sites(stmts: &mut StatementSet, chain: &Chain) -> Result<(), Memory>
@@ -61,18 +51,19 @@ fn put_place(stmts: &mut StatementSet, at: &Location) -> Result<(), Memory>
 /// # Errors
 ///
 /// [`Memory`] alone.
+#[tactic(auto, using(crate::proofs::Putting::put_among))]
 pub fn upstream(
     alloc: Global,
     at: &Location,
     chains: &[Chain],
-    hung: &[u32],
+    hung: StatementSet,
 ) -> Result<Items<StmtId>, Memory>
     ensures is { IfOk result (λ stmts. stmts ≡ sorted_once
-        (listed (statement_at at.now) ++ (all_of chains.now ++ hung.now))) }
+        (listed (statement_at at.now) ++ (all_of chains.now ++ hung))) }
 {
-    let mut stmts = StatementSet::new(alloc);
+    hung.numbers_rise();
+    let mut stmts = hung;
     put_place(&mut stmts, at)?;
     put_chains(&mut stmts, chains)?;
-    put_all(&mut stmts, hung)?;
     stmts.rising(alloc)
 }

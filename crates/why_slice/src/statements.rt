@@ -1,7 +1,10 @@
 //! Sets of statements.
-ghost use Rattle.std.specs.Prelude.{◌≡◌, ◌<◌, ◌^◌, [], All, ℕ, IfOk, OnOk};
+ghost use Rattle.std.specs.Prelude.{◌≡◌, ◌+◌, ◌*◌, ◌<◌, ◌≤◌, ◌^◌, [], length, All, Contains, ℕ, IfOk, OnOk};
+ghost use Rattle.std.specs.Bool.{Decides};
 ghost use Rattle.std.specs.BTreeSet.{insert_key};
 ghost use Rattle.std.specs.Ordering.{nat_cmp};
+ghost use Rattle.base_sets.specs.Bits.{numbers_below, numbers_in};
+ghost use Rattle.base_sets.specs.Sets.{Puts, Strict};
 
 use base_sets::NumberSet;
 use base_values::{Items, Memory};
@@ -11,7 +14,7 @@ use std::marker::Model;
 
 /// Some statements, seen as the list of their numbers, rising.
 #[derive(Drop)]
-pub(crate) struct StatementSet {
+pub struct StatementSet {
     numbers: NumberSet,
 }
 
@@ -25,21 +28,10 @@ impl Model for StatementSet {
     ghost invariant = { λ a. All (λ (n : ℕ). n < 2 ^ 32) a.numbers };
 }
 
-/// The statements of these numbers.
-fn statements(alloc: Global, numbers: &[usize]) -> Result<Items<StmtId>, Memory>
-    requires small { All (λ (n : ℕ). n < 2 ^ 32) numbers.now }
-    ensures same { IfOk result (λ stmts. stmts ≡ numbers.now) }
-{
-    let mut stmts = Items::with_capacity(alloc, numbers.len())?;
-    for number in numbers {
-        stmts.push(StmtId::new(*number as u32))?;
-    }
-    Ok(stmts)
-}
-
 impl StatementSet {
-    /// No statements.
-    pub(crate) fn new(alloc: Global) -> StatementSet
+    /// No statements. It takes no memory yet.
+    #[inline]
+    pub fn new(alloc: Global) -> StatementSet
         ensures empty { result ≡ [] }
     {
         StatementSet {
@@ -47,18 +39,66 @@ impl StatementSet {
         }
     }
 
+    /// Whether a statement is there.
+    #[inline(always)]
+    pub fn has(&self, number: u32) -> bool
+        ensures there { Decides result (Contains self.now number) }
+    {
+        self.numbers.has(number as usize)
+    }
+
     /// Puts a statement among the others.
-    pub(crate) fn put(&mut self, number: u32) -> Result<(), Memory>
+    #[inline(always)]
+    pub fn put(&mut self, number: u32) -> Result<(), Memory>
+        ensures puts { OnOk result (Puts self.old self.new number) }
         ensures put { OnOk result (self.new ≡ insert_key nat_cmp self.old number) }
     {
         self.numbers.add(number as usize)
     }
 
-    /// The statements, their numbers rising.
+    /// Their numbers rise, each once.
+    pub fn numbers_rise(&self)
+        ensures rise { Strict self.now }
+    {
+        self.numbers.numbers_rise();
+    }
+
+    /// The statements, their numbers rising. It takes a step more for each 64 numbers up to the greatest of them.
     pub(crate) fn rising(&self, alloc: Global) -> Result<Items<StmtId>, Memory>
         ensures are { IfOk result (λ stmts. stmts ≡ self.now) }
     {
-        let numbers = self.numbers.rising(alloc)?;
-        statements(alloc, numbers.as_slice())
+        let words = self.numbers.words();
+        let mut stmts = Vec::new(alloc);
+        for place in 0..words.len() {
+            push_word(words, place, &mut stmts)?;
+        }
+        Ok(Items::from_vec(stmts))
     }
+}
+
+/// Adds the statements of a word. A word that has all its bits set needs no test of each.
+fn push_word(words: &[u64], place: usize, stmts: &mut Vec<StmtId>) -> Result<(), Memory>
+    requires there { place < length words.now }
+    requires few { length words.now ≤ 2 ^ 58 }
+    requires small { All (λ (n : ℕ). n < 2 ^ 32) (numbers_in words.now) }
+    requires below { stmts.old.items ≡ numbers_below words.now (64 * place) }
+    ensures below { OnOk result (stmts.new.items ≡ numbers_below words.now (64 * (place + 1))) }
+{
+    let word = words[place];
+    if word == 0 {
+        return Ok(());
+    }
+    if word == u64::MAX {
+        stmts.reserve(64)?;
+        'all: for bit in 0..64usize {
+            stmts.push_reserved(StmtId::new((64 * place + bit) as u32));
+        }
+        return Ok(());
+    }
+    'some: for bit in 0..64usize {
+        if (word >> bit) & 1 == 1 {
+            stmts.push(StmtId::new((64 * place + bit) as u32))?;
+        }
+    }
+    Ok(())
 }

@@ -1,10 +1,9 @@
-use Rattle.std.proofs.Common.{◌≡◌, ◌<◌, length, Contains, Some, slice_get, sym, ap, subst, ◌∙◌, inl, inr, refl}
+use Rattle.std.proofs.Common.{◌≡◌, ◌<◌, length, Contains, Some, slice_get, sym, subst, ◌∙◌, inl, inr}
 use Rattle.std.proofs.lemmas.Option.{same_Some}
 use Rattle.cell_names.specs.Known.{Known}
 use Rattle.cell_names.specs.Paths.{name_in, path_at}
 use Rattle.why_slice.specs.Upstream.{statement_of_name}
-use Rattle.why_cells.specs.Told.{IsCellAt}
-use Rattle.why_cells.proofs.Hung.{named_cell, told_each, told_only}
+use Rattle.why_cells.proofs.Hung.{told_each, told_only}
 use Rattle.why_cells.proofs.hanging.hung_on.Goals as goal
 
 pub hangs-requires-clause-there : goal.hangs-requires-clause-there
@@ -12,7 +11,7 @@ hangs-requires-clause-there g c =
     let store = c.args.engine.now.store in
     let name = c.get-name.result in
     let at = subst (λ (k : Known). slice_get k.names c.args.cell ≡ Some (name_in k.paths name)) c.names-names.ensures.is c.get-name.ensures.name in
-    named_cell (g.D.Domain.operations c.args.engine.now.domain) c.args.flow.now store c.requires.right c.args.cell (name_in store.names.paths name) at c.requires.there
+    (c.args.cell, record { named = at; cell = c.requires.there })
 
 pub hangs-requires-clause-path : goal.hangs-requires-clause-path
 hangs-requires-clause-path g c = subst (λ (k : Known). c.get-name.result.path < length k.paths) c.names-names.ensures.is c.get-name.ensures.path

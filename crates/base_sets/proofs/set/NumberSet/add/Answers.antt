@@ -1,4 +1,4 @@
-use Rattle.std.proofs.Common.{get_or, ap, ◌≡◌, sym, subst, ◌∙◌, arith}
+use Rattle.std.proofs.Common.{◌≡◌, subst}
 use Rattle.std.specs.BTreeSet.{insert_key}
 use Rattle.std.specs.Ordering.{nat_cmp}
 use Rattle.base_sets.specs.Bits.{numbers_in}

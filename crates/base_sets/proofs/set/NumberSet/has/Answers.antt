@@ -1,6 +1,4 @@
-use Rattle.std.proofs.Common.{ap, subst, sym, ◌∙◌, arith, get_or, Contains, nat_eq, bit_and, ◌/◌, ◌%◌, ◌^◌}
-use Rattle.std.specs.Bool.{Decides}
-use Rattle.base_sets.proofs.Bits.{tests_bit, past_bits}
+use Rattle.std.proofs.Common.{arith}
 use Rattle.base_sets.proofs.Below.{has_by, has_past}
 use Rattle.base_sets.proofs.set.NumberSet.has.Goals as goal
 
