@@ -27,7 +27,7 @@ LAYERS = {
     " imp_words edit_entries edit_breaks imp_edit edit_history",
     "Input and output": "serve_command request_json serve_script gen_summary",
     "Meaning": "concrete_sem imp_run domain_laws batch_meaning batch_sound cert_meaning",
-    "Domains": "num_bounds dom_numeric cert_words dom_interval_meaning dom_interval_words dom_interval dbm_core"
+    "Domains": "num_bounds dom_numeric cert_words dom_interval_meaning dom_interval_precise dom_interval_words dom_interval dbm_core"
     " dbm_close dbm_incremental dbm_narrow dom_octagon_meaning dom_octagon_states dom_octagon_words dom_octagon shape_graph"
     " shape_steps dom_listseg_meaning dom_listseg_sets dom_listseg_words dom_listseg dom_product_meaning dom_product batch_converges"
     " batch_product fold_laws",
@@ -36,7 +36,7 @@ LAYERS = {
     "Cells": "cell_names cell_rows daig_demands why_slice imp_flow_rows imp_flow daig_graph cell_graph loop_unroll"
     " memo_table daig_query why_cells cell_kept_set cell_removal edit_invalidate edit_keeps",
     "Sessions": "daig_machine daig_tickets daig_session serve_replies serve_answers serve_session"
-    " reply_lines reuse_laws",
+    " reply_lines reuse_laws edit_bound_laws",
     "Program": "daig_gen gen_sources serve_output daig_server daig",
     "Tests": "test_domains test_session test_server examples",
 }

@@ -1,0 +1,16 @@
+pub mod Frames
+pub mod Words
+pub mod Tight
+pub mod Own
+pub mod Joins
+pub mod Stages
+pub mod Comparisons
+pub mod Statements
+pub mod Quotients
+pub mod Operations
+pub mod Negations
+pub mod Losses
+pub mod Elements
+pub mod Indexing
+pub mod Calls
+pub mod Entering

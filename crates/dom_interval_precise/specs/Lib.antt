@@ -1,0 +1,4 @@
+pub mod Best
+pub mod Sets
+pub mod Claims
+pub mod Losses

@@ -1,0 +1,10 @@
+pub mod Rows
+pub mod Named
+pub mod Steps
+pub mod Bound
+pub mod LastStatement
+pub mod Emptied
+pub mod Alike
+pub mod AlikeBlocks
+pub mod Others
+pub mod Sources

@@ -1,0 +1,5 @@
+pub mod Flow
+pub mod Bound
+pub mod Examples
+pub mod Neighbours
+pub mod Sources
