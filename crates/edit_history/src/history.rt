@@ -115,7 +115,7 @@ impl History {
         Ok(())
     }
 
-    /// The change that leads to the program after, or `None` where there is none.
+    /// The change that leads to the program before, or `None` where there is none.
     pub fn behind(&self) -> Option<&Change>
         ensures there { IsSome result ↔ (0 < length self.now.past) }
         ensures is { MatchOption result (self.now.past ≡ [])
@@ -124,7 +124,7 @@ impl History {
         self.past.front()
     }
 
-    /// The change that leads to the program ahead, or `None` where there is none.
+    /// The change that leads to the program after, or `None` where there is none.
     pub fn ahead(&self) -> Option<&Change>
         ensures there { IsSome result ↔ (0 < length self.now.future) }
         ensures is { MatchOption result (self.now.future ≡ [])
@@ -133,8 +133,8 @@ impl History {
         self.future.front()
     }
 
-    /// Puts a change in. The program before it is then the nearest one after, the one furthest after goes where there
-    /// would be 65, and none is ahead. It takes no memory and cannot fail.
+    /// Puts a change in. The program until then is the nearest one before, the one furthest before goes where there
+    /// would be 65, and none is after. It takes no memory and cannot fail.
     pub fn remember(&mut self, mut change: Change)
         ghost program: { List Procedure }
         requires makes { Makes self.old.now change program }
