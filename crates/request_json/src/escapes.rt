@@ -47,8 +47,18 @@ fn put_numbered(line: &mut Vec<u8>, byte: u8) -> Result<(), Memory>
     put(line, &digits)
 }
 
+/// Adds a byte.
+#[inline]
+fn put_byte(line: &mut Vec<u8>, byte: u8) -> Result<(), Memory>
+    ensures byte { OnOk result (line.new.items ≡ line.old.items ++ byte ∷ []) }
+{
+    line.push(byte)?;
+    Ok(())
+}
+
 /// Adds what stands in a JSON text for the byte.
 #[tactic(auto, unfolding(json::specs::Print::escape_byte))]
+#[inline]
 fn put_escaped(line: &mut Vec<u8>, byte: u8) -> Result<(), Memory>
     ensures escaped { OnOk result (line.new.items ≡ line.old.items ++ escape_byte byte) }
 {
@@ -60,7 +70,7 @@ fn put_escaped(line: &mut Vec<u8>, byte: u8) -> Result<(), Memory>
         12 => put(line, b"\\f"),
         13 => put(line, b"\\r"),
         0..32 => put_numbered(line, byte),
-        _ => put(line, &[byte]),
+        _ => put_byte(line, byte),
     }
 }
 
