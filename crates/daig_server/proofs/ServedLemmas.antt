@@ -21,6 +21,6 @@ module _ {S A E : Type 0} (items : A → List ℕ) (dom : Operations S) (name : 
   next_by (Ok v) follows = λ s stands. rw (same.turns s.readings line s.machine) at (follows s.readings s.machine stands).machine
   next_by (Err e) follows = tt
 
-pub lasts_by : {A E : Type 0} (r : Result A E) (old new : ℕ) (was is : Type 0) → is → new ≤ old + 1 → OnOk r ((n : ℕ) → was × (old + suc n ≤ 2 ^ 63) → is × (new + n ≤ 2 ^ 63))
-lasts_by (Ok v) old new was is ready rises = λ n lasts. let enough : old + suc n ≤ 2 ^ 63 = lasts.1 in (ready, omega (arith, rises, enough))
-lasts_by (Err e) old new was is ready rises = tt
+pub lasts_by : {A E : Type 0} (r : Result A E) (old new : ℕ) → new ≤ old + 1 → OnOk r ((n : ℕ) → old + suc n ≤ 2 ^ 63 → new + n ≤ 2 ^ 63)
+lasts_by (Ok v) old new rises = λ n lasts. omega (arith, rises, lasts)
+lasts_by (Err e) old new rises = tt

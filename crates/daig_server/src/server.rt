@@ -1,7 +1,7 @@
 //! The server of one program, which answers each line as the machine `server` of `serve_answers` does.
 ghost use Rattle.std.specs.Prelude.{◌≡◌, ◌<◌, ◌≤◌, ◌+◌, ◌^◌, IfOk};
 ghost use Rattle.daig_machine.specs.Machine.{first_machine, Machine};
-ghost use Rattle.daig_session.specs.Sessions.{IsReadyBy, StandsFor};
+ghost use Rattle.daig_session.specs.Sessions.{StandsFor};
 ghost use Rattle.serve_output.specs.Jobs.{engine_of};
 ghost use Rattle.serve_answers.specs.Fine.{next_number};
 ghost use Rattle.serve_output.specs.Works.{IsNumbered};
@@ -48,7 +48,6 @@ impl<D: Named> Server<D> {
         requires numbered { IsNumbered table.program }
         ensures begins { IfOk result (λ s. StandsFor D.operations s.session
             (first_machine table.program (engine_of settings.now) (next_number table.program))) }
-        ensures ready { IfOk result (λ s. IsReadyBy D.operations s.session) }
         ensures first { IfOk result (λ s. s.session.book.tickets.next ≡ 1) }
     {
         let next = next_number(&table);
@@ -76,7 +75,7 @@ impl<D: Named> Server<D> {
 
 impl<D: Named> Answerer for Server<D> {
     ghost use Rattle.std.specs.Prelude.{◌≤◌, ◌+◌, ◌^◌};
-    ghost use Rattle.daig_session.specs.Sessions.{IsReadyBy, StandsFor};
+    ghost use Rattle.daig_session.specs.Sessions.{StandsFor};
     ghost use Rattle.serve_answers.specs.Lines.{Served, server};
     ghost use Rattle.serve_output.specs.Domains.{meaning_of};
 
@@ -86,8 +85,7 @@ impl<D: Named> Answerer for Server<D> {
 
     ghost stands = { λ s m. StandsFor D.operations s.session m.machine };
 
-    ghost lasts = { λ s n.
-        IsReadyBy D.operations s.session × (s.session.book.tickets.next + n ≤ 2 ^ 63) };
+    ghost lasts = { λ s n. s.session.book.tickets.next + n ≤ 2 ^ 63 };
 
     fn answer<L: Ledger>(
         &mut self,

@@ -5,6 +5,7 @@ pub mod Accepted
 pub mod Asked
 pub mod Filled
 pub mod Moved
+pub mod Turned
 pub mod Counted
 pub mod Beginning
 pub mod Answering

@@ -2,14 +2,17 @@
 use Rattle.std.proofs.Common.{◌≡◌, sym, subst, ◌∙◌}
 use Rattle.domain_laws.specs.Operations.{Operations}
 use Rattle.edit_keeps.specs.Apart.{flow_of}
+use Rattle.daig_query.specs.declared.engine.Engine.{Engine}
 use Rattle.daig_query.specs.declared.store.Store.{Store}
 use Rattle.daig_query.specs.Right.{IsRight}
 use Rattle.daig_tickets.specs.Tickets.{tickets}
 use Rattle.daig_machine.specs.Machine.{Machine}
 use Rattle.daig_session.specs.declared.book.Book.{Book}
+use Rattle.daig_session.specs.declared.parts.Parts.{Parts}
 use Rattle.daig_session.specs.Books.{flow_in, IsSame}
 use Rattle.daig_session.specs.Going.{AreWaiting}
 use Rattle.daig_session.specs.Holds.{Holds, IsReady}
+use Rattle.daig_session.specs.Sessions.{IsReadyBy, StandsFor}
 use Rattle.daig_session.proofs.Ordered.{same_order}
 
 module _ {S : Type 0} (dom : Operations S) (store : Store S) (old new : Book) (t : IsSame old new) where
@@ -29,3 +32,12 @@ module _ {S : Type 0} (dom : Operations S) (store : Store S) (old new : Book) (t
     same = h.same;
     cells = h.cells;
   }
+
+module _ {D S : Type 0} (operations : D → Operations S) (old new : Parts D S) (engine : new.engine ≡ old.engine) (same : IsSame old.book new.book) where
+  pub parts_ready : IsReadyBy operations old → IsReadyBy operations new
+  parts_ready r =
+      subst (λ (e : Engine D S). IsReady (operations e.domain) e.store new.book) (sym engine) (same_ready (operations old.engine.domain) old.engine.store old.book new.book same r)
+
+  pub parts_hold : (m : Machine) → StandsFor operations old m → StandsFor operations new m
+  parts_hold m h =
+      subst (λ (e : Engine D S). Holds (operations e.domain) e.store new.book m) (sym engine) (same_holds (operations old.engine.domain) old.engine.store old.book new.book same m h)

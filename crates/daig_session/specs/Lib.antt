@@ -4,4 +4,5 @@ pub mod Holds
 pub mod Moves
 pub mod Reports
 pub mod Sessions
+pub mod Sides
 pub mod Turns

@@ -3,27 +3,27 @@ use Rattle.std.specs.Prelude.{◌≤◌, ◌+◌, ◌*◌, ℕ}
 use Rattle.domain_laws.specs.Operations.{Operations}
 use Rattle.daig_query.specs.Filled.{cells_added}
 use Rattle.daig_machine.specs.Machine.{Machine}
-use Rattle.daig_session.specs.declared.session.Session.{Session}
+use Rattle.daig_session.specs.declared.parts.Parts.{Parts}
 use Rattle.daig_session.specs.Holds.{Holds, IsReady}
 
 -- Its cells are right for the present program, and all else of it is in order.
-abbrev pub IsReadyBy : {D S : Type 0} → (operations : D → Operations S) → Session D S → Type 0
+abbrev pub IsReadyBy : {D S : Type 0} → (operations : D → Operations S) → Parts D S → Type 0
 IsReadyBy operations session = IsReady (operations session.engine.domain) session.engine.store session.book
 
 -- It stands for this machine: it has the machine's program, its neighbours, its tickets and its kept names.
-abbrev pub StandsFor : {D S : Type 0} → (operations : D → Operations S) → Session D S → Machine → Type 0
+abbrev pub StandsFor : {D S : Type 0} → (operations : D → Operations S) → Parts D S → Machine → Type 0
 StandsFor operations session m = Holds (operations session.engine.domain) session.engine.store session.book m
 
 -- What a call comes to, from each machine that the session stood for: it is told by the domain's operations, by the machine,
 -- and by the machines that the session stands for after the call.
-abbrev pub FromEach : {D S : Type 0} → (operations : D → Operations S) → (old new : Session D S) → (Operations S → Machine → (stands : Machine → Type 0) → Type 0) → Type 0
+abbrev pub FromEach : {D S : Type 0} → (operations : D → Operations S) → (old new : Parts D S) → (Operations S → Machine → (stands : Machine → Type 0) → Type 0) → Type 0
 FromEach operations old new comes =
     (m : Machine) → StandsFor operations old m → comes (operations old.engine.domain) m (StandsFor operations new)
 
 -- how many cells a call fills
-abbrev pub cells_filled : {D S : Type 0} → (old new : Session D S) → ℕ
+abbrev pub cells_filled : {D S : Type 0} → (old new : Parts D S) → ℕ
 cells_filled old new = cells_added old.engine.store new.engine.store
 
 -- So much work is counted at most, each piece as one operation of the session's domain.
-abbrev pub TicksAtMost : {D S : Type 0} → (counted : D → ℕ) → Session D S → (before after work : ℕ) → Type 0
+abbrev pub TicksAtMost : {D S : Type 0} → (counted : D → ℕ) → Parts D S → (before after work : ℕ) → Type 0
 TicksAtMost counted session before after work = after ≤ before + counted session.engine.domain * work

@@ -5,6 +5,8 @@ ghost use Rattle.imp_check.specs.Slots.{routines_of};
 ghost use Rattle.call_contexts.specs.Settings.{engine_of, setting_of};
 ghost use Rattle.edit_history.specs.After.{changed_program, Leads};
 ghost use Rattle.daig_session.specs.Books.{flow_in, IsFirst, IsSet, IsTurned};
+ghost use Rattle.daig_session.specs.Moves.{IsNearest};
+ghost use Rattle.daig_session.specs.Sides.{programs_of, IsTurnedTo};
 
 use base_values::{Items, Memory};
 use call_contexts::Setting;
@@ -21,6 +23,13 @@ use std::alloc::Global;
 pub(crate) struct Going {
     pub(crate) targets: Items<Target>,
     pub(crate) walk: Walk,
+}
+
+/// The programs before the present one, or those after it.
+#[derive(Clone, Copy)]
+pub(crate) enum Side {
+    Behind,
+    Ahead,
 }
 
 /// The program with those before it and after it, how its loops are interpreted, the next number of a statement, the
@@ -108,5 +117,29 @@ impl Book {
         self.history.forth();
         self.setting = setting;
         self.tickets.begin_anew();
+    }
+
+    /// The change that leads to the nearest program of a side, if there is one.
+    pub(crate) fn nearest(&self, side: Side) -> Option<&Change>
+        ensures is { IsNearest self.now result (λ c. c.now) (programs_of side self.now) }
+    {
+        match side {
+            Side::Behind => self.history.behind(),
+            Side::Ahead => self.history.ahead(),
+        }
+    }
+
+    /// Goes to the nearest program of a side, which has this setting.
+    pub(crate) fn turn(&mut self, side: Side, setting: Setting)
+        requires there { 0 < length (programs_of side self.old) }
+        ensures nearest { self.new.history.now ∷ programs_of side self.new ≡
+            programs_of side self.old }
+        ensures turned { setting ≡ setting_of self.old.setting.engine
+            (routines_of self.new.history.now) → IsTurnedTo side self.old self.new }
+    {
+        match side {
+            Side::Behind => self.back(setting),
+            Side::Ahead => self.forth(setting),
+        }
     }
 }

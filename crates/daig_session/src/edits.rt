@@ -13,6 +13,7 @@ ghost use Rattle.daig_session.specs.Sessions.{IsReadyBy, StandsFor};
 ghost use Rattle.daig_session.specs.Moves.{IsPlanned};
 
 use crate::moving::{Moving, leave, planned_move};
+use crate::parts::Parts;
 use crate::session::Session;
 use domain_laws::Domain;
 use imp_edit::{EditError, Edited, apply};
@@ -26,7 +27,7 @@ pub struct Planned {
     pub(crate) moving: Moving,
 }
 
-impl<D: Domain> Session<D> {
+impl<D: Domain> Parts<D> {
     /// Works out an edit beside what stands: nothing is changed except which places the table has.
     fn planned(&mut self, alloc: Global, edit: &Edit) -> Result<Planned, EditError>
         requires ready { IsReadyBy D.operations self.old }
@@ -95,15 +96,13 @@ impl<D: Domain> Session<D> {
     /// The first refusal of the edit: where it goes, then whether the numbers suffice, then the first fault of the new
     /// program; or [`EditError::Memory`] when memory runs out. The session is then as it was.
     pub fn prepare(&mut self, alloc: Global, edit: &Edit) -> Result<Prepared<'_, D>, EditError>
-        requires ready { IsReadyBy D.operations self.old }
         requires continues { Continues edit.now self.old.book.next }
         ensures* rests { sem 𝓛 (RestsIfErr
-            (the_row D.row D.State.row D.State.PartialEq
+            (the_row D.row D.State.row D.Domain D.State.PartialEq
             (record { hash_input = D.State.Hash.hash_input })) self.entry
             (λ p. p.session.ghost_name) result
             (λ s. (s.engine ≡ self.old.engine) × IsSame self.old.book s.book)) }
         ensures same_reference { IfOk result (λ p. p.session.ghost_name ≡ self.entry.ghost_name) }
-        ensures ready { IfOk result (λ p. IsReadyBy D.operations p.session.now) }
         ensures planned { IfOk result (λ p. IsPlanned p.session.now.engine.store p.session.now.book
             edit.now p.planned) }
         ensures holds { (m : Machine) → StandsFor D.operations self.old m →
@@ -118,7 +117,7 @@ impl<D: Domain> Session<D> {
         ensures refused { IfErr result (IsRefusal
             (edit_refusal edit.now self.old.book.history.now self.old.book.next)) }
     {
-        let planned = self.planned(alloc, edit)?;
+        let planned = self.parts.planned(alloc, edit)?;
         Ok(Prepared {
             session: self,
             planned,
@@ -139,10 +138,8 @@ impl<D: Domain> Prepared<'_, D, Planned> {
     /// Makes the edit: of the kept cells those are kept that it leaves, and all tickets begin anew. It cannot fail: it takes
     /// memory for new tables of names alone, and keeps the old ones where there is none.
     pub fn commit(self)
-        requires ready { IsReadyBy D.operations self.session.now }
         requires planned { (e : AnyEdit) × IsPlanned self.session.now.engine.store
             self.session.now.book e self.planned }
-        ensures ready { IsReadyBy D.operations self.exit.0.now }
         ensures domain { self.exit.0.now.engine.domain ≡ self.entry.session.now.engine.domain }
         ensures spare { self.exit.0.now.engine.spare ≡ self.entry.session.now.engine.spare }
         ensures bounded { IsBounded self.exit.0.now.engine.spare self.exit.0.now.engine.store }
@@ -155,6 +152,6 @@ impl<D: Domain> Prepared<'_, D, Planned> {
             (after_edit (D.operations self.entry.session.now.engine.domain) e m) }
     {
         let Prepared { session, planned } = self;
-        session.make(planned);
+        session.parts.make(planned);
     }
 }

@@ -20,8 +20,6 @@ impl<D: Domain> Session<D> {
     ///
     /// [`Memory`] when memory runs out. The names alone are not given back then.
     pub fn give_back(&mut self) -> Result<(), Memory>
-        requires ready { IsReadyBy D.operations self.old }
-        ensures ready { IsReadyBy D.operations self.new }
         ensures domain { self.new.engine.domain ≡ self.old.engine.domain }
         ensures spare { self.new.engine.spare ≡ self.old.engine.spare }
         ensures within { IsWithin (len self.new.engine.store.graph.cells) self.new.engine.store }
@@ -31,7 +29,7 @@ impl<D: Domain> Session<D> {
         ensures next_ticket { self.new.book.tickets.next ≡ self.old.book.tickets.next }
         ensures stays { FromEach D.operations self.old self.new (λ _ m stands. stands m) }
     {
-        self.book.tickets.begin_anew();
-        self.engine.give_back()
+        self.parts.book.tickets.begin_anew();
+        self.parts.engine.give_back()
     }
 }

@@ -5,7 +5,8 @@
 //! has the names alone, and it answers by interpreting the present program from scratch. Each call is a turn of that
 //! machine, exactly (`specs/Turns.antt`): what it answers, and which machine the session then stands for (`Holds`).
 //!
-//! A caller keeps `IsReady` of a session from [`Session::start`] on: each call asks for it, and gives it again.
+//! Its cells are right for the present program, and all else of it is in order: this, `IsReady`, is the invariant of its type,
+//! which each call finds and leaves.
 //!
 //! - [`Session::query`] fills what is missing for one question, and answers it; [`Session::report`] asks before each
 //!   statement that has a check, one after another.
@@ -32,6 +33,7 @@ mod edits;
 mod error;
 mod giving_back;
 mod moving;
+mod parts;
 mod queries;
 mod reports;
 mod session;

@@ -21,6 +21,7 @@ ghost use Rattle.daig_session.specs.Turns.{Explains, Fails, Questions};
 use crate::asking::{begun, read_answer};
 use crate::book::{Book, Going};
 use crate::error::QueryError;
+use crate::parts::Parts;
 use crate::session::Session;
 use base_values::{Items, Memory};
 use daig_graph::Value;
@@ -74,7 +75,7 @@ struct Filled {
     count: usize,
 }
 
-impl<D: Domain> Session<D> {
+impl<D: Domain> Parts<D> {
     /// Fills what is missing for a question, or tells why it has no answer. The book stays as it is.
     fn fill_now<L: Ledger>(
         &mut self,
@@ -159,7 +160,9 @@ impl<D: Domain> Session<D> {
         self.engine.sweep();
         self.fill_now(alloc, at, string, steps)
     }
+}
 
+impl<D: Domain> Session<D> {
     /// What the domain knows at a location under a call string, which has the outermost call first: the answer of the
     /// present program, interpreted from scratch. A state covers each configuration that a run reaches there.
     ///
@@ -180,8 +183,6 @@ impl<D: Domain> Session<D> {
         string: &[u32],
         steps: &mut Steps<L>,
     ) -> Result<Value<D::State>, QueryError>
-        requires ready { IsReadyBy D.operations self.old }
-        ensures ready { IsReadyBy D.operations self.new }
         ensures domain { self.new.engine.domain ≡ self.old.engine.domain }
         ensures spare { self.new.engine.spare ≡ self.old.engine.spare }
         ensures bounded { IsBounded self.new.engine.spare self.new.engine.store }
@@ -200,9 +201,9 @@ impl<D: Domain> Session<D> {
             TicksAtMost D.counted self.old steps.old steps.new
             (suc (cells_filled self.old self.new + 2 * length (targets_of m at.now string.now))) }
     {
-        let filled = self.fill_for(alloc, at, string, steps)?;
-        let value = read_answer(alloc, &self.engine, &filled.going.walk, steps)?;
-        self.book.cost = filled.count as u64;
+        let filled = self.parts.fill_for(alloc, at, string, steps)?;
+        let value = read_answer(alloc, &self.parts.engine, &filled.going.walk, steps)?;
+        self.parts.book.cost = filled.count as u64;
         Ok(value)
     }
 
@@ -226,8 +227,6 @@ impl<D: Domain> Session<D> {
         string: &[u32],
         steps: &mut Steps<L>,
     ) -> Result<Items<StmtId>, QueryError>
-        requires ready { IsReadyBy D.operations self.old }
-        ensures ready { IsReadyBy D.operations self.new }
         ensures domain { self.new.engine.domain ≡ self.old.engine.domain }
         ensures spare { self.new.engine.spare ≡ self.old.engine.spare }
         ensures bounded { IsBounded self.new.engine.spare self.new.engine.store }
@@ -245,10 +244,17 @@ impl<D: Domain> Session<D> {
             (suc (cells_filled self.old self.new)) }
     {
         answers_stay::<D>();
-        let filled = self.fill_for(alloc, at, string, steps)?;
-        let flow = self.book.flow();
-        let stmts = upstream(alloc, &self.engine, &flow, at, string, &filled.going.walk)?;
-        self.book.cost = filled.count as u64;
+        let filled = self.parts.fill_for(alloc, at, string, steps)?;
+        let flow = self.parts.book.flow();
+        let stmts = upstream(
+            alloc,
+            &self.parts.engine,
+            &flow,
+            at,
+            string,
+            &filled.going.walk,
+        )?;
+        self.parts.book.cost = filled.count as u64;
         Ok(stmts)
     }
 }

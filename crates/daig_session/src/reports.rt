@@ -90,7 +90,7 @@ impl<D: Domain> Session<D> {
         ensures there { IsTrue result → HasCheck self.now.book.history.now id }
         ensures none { IsFalse result → checked_at self.now.book.history.now id ≡ [] }
     {
-        let view = self.book.history.table().view();
+        let view = self.parts.book.history.table().view();
         checked_stmt(&view, id).is_some()
     }
 
@@ -111,9 +111,9 @@ impl<D: Domain> Session<D> {
               verdict = verdict_on (D.operations self.now.engine.domain) engine e a;
             }) }
     {
-        let view = self.book.history.table().view();
+        let view = self.parts.book.history.table().view();
         match checked_stmt(&view, id) {
-            Some(stmt) => finding(alloc, self.engine.domain(), id, stmt, known),
+            Some(stmt) => finding(alloc, self.parts.engine.domain(), id, stmt, known),
             None => unreachable!(),
         }
     }
@@ -125,9 +125,7 @@ impl<D: Domain> Session<D> {
         id: StmtId,
         steps: &mut Steps<L>,
     ) -> Result<Result<Value<D::State>, QueryRefusal>, Memory>
-        requires ready { IsReadyBy D.operations self.old }
         ensures bounded { IsBounded self.new.engine.spare self.new.engine.store }
-        ensures ready { IsReadyBy D.operations self.new }
         ensures domain { self.new.engine.domain ≡ self.old.engine.domain }
         ensures spare { self.new.engine.spare ≡ self.old.engine.spare }
         ensures program { self.new.book.history.now ≡ self.old.book.history.now }
@@ -150,6 +148,7 @@ impl<D: Domain> Session<D> {
             (suc (cells_filled self.old self.new + 2 * chain_count (routines_of m.program)
             (checked_one id e (Some k)))) }
     {
+        self.ready();
         match self.query(alloc, &Location::Before(id), &[], steps) {
             Ok(value) => Ok(Ok(value)),
             Err(QueryError::Refused(why)) => Ok(Err(why)),
@@ -165,10 +164,8 @@ impl<D: Domain> Session<D> {
         found: &mut Findings,
         steps: &mut Steps<L>,
     ) -> Result<(), Memory>
-        requires ready { IsReadyBy D.operations self.old }
         ensures stays_bounded { IsBounded self.old.engine.spare self.old.engine.store →
             IsBounded self.new.engine.spare self.new.engine.store }
-        ensures ready { IsReadyBy D.operations self.new }
         ensures domain { self.new.engine.domain ≡ self.old.engine.domain }
         ensures spare { self.new.engine.spare ≡ self.old.engine.spare }
         ensures part { FromEach D.operations self.old self.new
@@ -204,10 +201,8 @@ impl<D: Domain> Session<D> {
         found: &mut Findings,
         steps: &mut Steps<L>,
     ) -> Result<(), Memory>
-        requires ready { IsReadyBy D.operations self.old }
         ensures stays_bounded { IsBounded self.old.engine.spare self.old.engine.store →
             IsBounded self.new.engine.spare self.new.engine.store }
-        ensures ready { IsReadyBy D.operations self.new }
         ensures domain { self.new.engine.domain ≡ self.old.engine.domain }
         ensures spare { self.new.engine.spare ≡ self.old.engine.spare }
         ensures part { FromEach D.operations self.old self.new
@@ -228,8 +223,11 @@ impl<D: Domain> Session<D> {
             (suc (cells_filled self.old self.new + 2 * chain_count (routines_of m.program)
             (checked_among m.program stmts.now))) }
     {
+        self.ready();
         for stmt in stmts {
-            self.add_finding(alloc, *stmt, found, steps)?;
+            let added = self.add_finding(alloc, *stmt, found, steps);
+            self.ready();
+            added?;
         }
         Ok(())
     }
@@ -240,10 +238,8 @@ impl<D: Domain> Session<D> {
         alloc: Global,
         steps: &mut Steps<L>,
     ) -> Result<Findings, Memory>
-        requires ready { IsReadyBy D.operations self.old }
         ensures stays_bounded { IsBounded self.old.engine.spare self.old.engine.store →
             IsBounded self.new.engine.spare self.new.engine.store }
-        ensures ready { IsReadyBy D.operations self.new }
         ensures domain { self.new.engine.domain ≡ self.old.engine.domain }
         ensures spare { self.new.engine.spare ≡ self.old.engine.spare }
         ensures part { FromEach D.operations self.old self.new
@@ -262,7 +258,8 @@ impl<D: Domain> Session<D> {
             TicksAtMost D.counted self.old steps.old steps.new
             (suc (cells_filled self.old self.new + 2 * checked_chains m)) }
     {
-        let stmts = all_statements(alloc, &self.book.history.table().view())?;
+        self.ready();
+        let stmts = all_statements(alloc, &self.parts.book.history.table().view())?;
         let mut found = Items::new(alloc);
         self.add_findings(alloc, stmts.as_slice(), &mut found, steps)?;
         Ok(found)
@@ -274,8 +271,6 @@ impl<D: Domain> Session<D> {
         alloc: Global,
         steps: &mut Steps<L>,
     ) -> Result<Findings, Memory>
-        requires ready { IsReadyBy D.operations self.old }
-        ensures ready { IsReadyBy D.operations self.new }
         ensures domain { self.new.engine.domain ≡ self.old.engine.domain }
         ensures spare { self.new.engine.spare ≡ self.old.engine.spare }
         ensures stays_bounded { IsBounded self.old.engine.spare self.old.engine.store →
@@ -294,15 +289,16 @@ impl<D: Domain> Session<D> {
             (suc (cells_filled self.old self.new + 2 * checked_chains m)) }
     {
         reports_are_sound::<D>();
-        let cost = self.book.cost;
+        self.ready();
+        let cost = self.cost();
         let kept = self.kept_count();
         match self.all_findings(alloc, steps) {
             Ok(found) => {
-                self.book.cost = (self.kept_count() - kept) as u64;
+                self.parts.book.cost = (self.kept_count() - kept) as u64;
                 Ok(found)
             }
             Err(why) => {
-                self.book.cost = cost;
+                self.parts.book.cost = cost;
                 Err(why)
             }
         }
@@ -324,8 +320,6 @@ impl<D: Domain> Session<D> {
         alloc: Global,
         steps: &mut Steps<L>,
     ) -> Result<Findings, Memory>
-        requires ready { IsReadyBy D.operations self.old }
-        ensures ready { IsReadyBy D.operations self.new }
         ensures domain { self.new.engine.domain ≡ self.old.engine.domain }
         ensures spare { self.new.engine.spare ≡ self.old.engine.spare }
         ensures bounded { IsBounded self.new.engine.spare self.new.engine.store }
@@ -342,7 +336,7 @@ impl<D: Domain> Session<D> {
             TicksAtMost D.counted self.old steps.old steps.new
             (suc (cells_filled self.old self.new + 2 * checked_chains m)) }
     {
-        self.engine.sweep();
+        self.parts.engine.sweep();
         self.report_now(alloc, steps)
     }
 }

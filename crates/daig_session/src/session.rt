@@ -8,6 +8,7 @@ ghost use Rattle.daig_session.specs.Books.{AreBelow};
 ghost use Rattle.daig_session.specs.Sessions.{IsReadyBy, StandsFor};
 
 use crate::book::Book;
+use crate::parts::Parts;
 use base_values::Memory;
 use daig_query::Engine;
 use domain_laws::Domain;
@@ -15,12 +16,31 @@ use imp_chains::Widening;
 use imp_syntax::Location;
 use imp_table::Table;
 use std::alloc::Global;
+use std::marker::Model;
 
-/// A session with a program.
+/// A session with a program. Clauses see its engine and its book.
 #[derive(Drop)]
 pub struct Session<D: Domain> {
-    pub(crate) engine: Engine<D>,
-    pub(crate) book: Book,
+    pub(crate) parts: Parts<D>,
+}
+
+impl<D: Domain> Model for Session<D> {
+    ghost use Rattle.daig_session.specs.declared.parts.Parts.{Parts};
+
+    ghost Value = { Parts D D.State };
+
+    ghost use Rattle.std.specs.Coded.{codes};
+    ghost use Rattle.std.specs.FinMap as map;
+    ghost use Rattle.memo_table.specs.contracts.operation.Operation as operation;
+    ghost use Rattle.daig_session.specs.contracts.book.Book as book;
+
+    ghost coded = { Prim.hlevel (codes, map.code, operation.the_row.coded, book.the_row.coded) };
+
+    ghost use Rattle.daig_session.specs.Sessions.{IsReadyBy};
+
+    ghost view = { λ a. a.parts };
+
+    ghost invariant = { λ a. IsReadyBy D.operations a.parts };
 }
 
 impl<D: Domain + Drop> Session<D> {
@@ -45,7 +65,6 @@ impl<D: Domain + Drop> Session<D> {
         requires low { next ≤ 1000001 }
         requires below { AreBelow next table.program }
         requires memo { 0 < memo }
-        ensures ready { IfOk result (λ s. IsReadyBy D.operations s) }
         ensures domain { IfOk result (λ s. s.engine.domain ≡ domain) }
         ensures spare { IfOk result (λ s. s.engine.spare ≤ 4 * memo + 4096) }
         ensures bounded { IfOk result (λ s. IsBounded s.engine.spare s.engine.store) }
@@ -54,16 +73,25 @@ impl<D: Domain + Drop> Session<D> {
     {
         let book = Book::begun(alloc, table, next, budget, widening)?;
         let engine = Engine::new(alloc, domain, memo)?;
-        Ok(Session { engine, book })
+        Ok(Session {
+            parts: Parts { engine, book },
+        })
     }
 }
 
 impl<D: Domain> Session<D> {
+    /// Does nothing. Its contract tells what holds of every session.
+    pub fn ready(&self)
+        ensures ready { IsReadyBy D.operations self.now }
+    {
+        let _parts = &self.parts;
+    }
+
     /// The domain that the session began with.
     pub fn domain(&self) -> &D
         ensures is { result.now ≡ self.now.engine.domain }
     {
-        self.engine.domain()
+        self.parts.engine.domain()
     }
 
     /// The present program.
@@ -71,7 +99,7 @@ impl<D: Domain> Session<D> {
         ensures is { (m : Machine) → StandsFor D.operations self.now m →
             result.now.program ≡ m.program }
     {
-        self.book.history.table()
+        self.parts.book.history.table()
     }
 
     /// The number of the next new statement.
@@ -79,22 +107,21 @@ impl<D: Domain> Session<D> {
         ensures is { (m : Machine) → StandsFor D.operations self.now m → result ≡ m.next }
         ensures same { result ≡ self.now.book.next }
     {
-        self.book.next
+        self.parts.book.next
     }
 
     /// How many cells the last answered query, report, step or `why` filled.
     pub fn cost(&self) -> u64
         ensures is { (m : Machine) → StandsFor D.operations self.now m → result ≡ m.cost }
     {
-        self.book.cost
+        self.parts.book.cost
     }
 
     /// How many cells are kept.
     pub fn kept_count(&self) -> usize
-        requires ready { IsReadyBy D.operations self.now }
         ensures is { (m : Machine) → StandsFor D.operations self.now m → result ≡ length m.kept }
     {
-        self.engine.kept_count()
+        self.parts.engine.kept_count()
     }
 
     /// The number of the next ticket.
@@ -102,20 +129,19 @@ impl<D: Domain> Session<D> {
         ensures is { (m : Machine) → StandsFor D.operations self.now m → result ≡ m.next_ticket }
         ensures same { result ≡ self.now.book.tickets.next }
     {
-        self.book.tickets.next
+        self.parts.book.tickets.next
     }
 
     /// Where an open ticket asks; `None` where no ticket of this number is open. It takes time linear in the open tickets,
     /// which are few.
     pub fn ticket_at(&self, ticket: u64) -> Option<&Location>
-        requires ready { IsReadyBy D.operations self.now }
         ensures is { (m : Machine) → StandsFor D.operations self.now m →
             option_copied result ≡ option_map (λ (t : Ticket). t.at) (ticket_of ticket m.tickets) }
     {
-        match self.book.tickets.place_of(ticket) {
+        match self.parts.book.tickets.place_of(ticket) {
             None => None,
             Some(place) => {
-                let one = &self.book.tickets.open_ones[place];
+                let one = &self.parts.book.tickets.open_ones[place];
                 Some(&one.at)
             }
         }

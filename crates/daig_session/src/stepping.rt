@@ -23,6 +23,7 @@ ghost use Rattle.daig_session.specs.Turns.{work_of, CoversDone, IsStep, IsStepOf
 use crate::asking::{begun, read_answer};
 use crate::book::{Book, Going};
 use crate::error::{QueryError, StepError};
+use crate::parts::Parts;
 use crate::session::Session;
 use crate::tickets::{put_going, take_going};
 use base_values::Memory;
@@ -114,7 +115,7 @@ fn fill_some<D: Domain, L: Ledger>(
     engine.advance(alloc, &flow, targets.as_slice(), walk, most, steps)
 }
 
-impl<D: Domain> Session<D> {
+impl<D: Domain> Parts<D> {
     /// A step of the ticket at a place, of which this is what it has come to.
     fn step_on<L: Ledger>(
         &mut self,
@@ -207,7 +208,9 @@ impl<D: Domain> Session<D> {
             Err(QueryError::Memory) => Err(StepError::Memory),
         }
     }
+}
 
+impl<D: Domain> Session<D> {
     /// Fills the first `most` cells that are missing for a ticket's question, in the order in which a query fills them.
     /// Where more were missing the answer is [`StepResult::Pending`]; else it is that of the present program, and the ticket is
     /// closed. It ticks as [`Session::query`] does for what it fills; it takes no time for what is left.
@@ -224,8 +227,6 @@ impl<D: Domain> Session<D> {
         most: u32,
         steps: &mut Steps<L>,
     ) -> Result<StepResult<D::State>, StepError>
-        requires ready { IsReadyBy D.operations self.old }
-        ensures ready { IsReadyBy D.operations self.new }
         ensures domain { self.new.engine.domain ≡ self.old.engine.domain }
         ensures spare { self.new.engine.spare ≡ self.old.engine.spare }
         ensures bounded { IsBounded self.new.engine.spare self.new.engine.store }
@@ -245,7 +246,7 @@ impl<D: Domain> Session<D> {
             (λ t. TicksAtMost D.counted self.old steps.old steps.new
             (suc (cells_filled self.old self.new + 2 * length (targets_of m t.at t.string)))) }
     {
-        self.engine.sweep();
-        self.step_now(alloc, ticket, most, steps)
+        self.parts.engine.sweep();
+        self.parts.step_now(alloc, ticket, most, steps)
     }
 }

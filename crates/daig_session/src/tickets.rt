@@ -13,6 +13,7 @@ ghost use Rattle.daig_session.specs.Turns.{Cancels, Opens};
 use crate::asking::begun;
 use crate::book::Going;
 use crate::error::{AskError, QueryError};
+use crate::parts::Parts;
 use crate::session::Session;
 use base_values::Items;
 use batch_meaning::QueryRefusal;
@@ -58,7 +59,7 @@ impl From<QueryError> for AskError {
     }
 }
 
-impl<D: Domain> Session<D> {
+impl<D: Domain> Parts<D> {
     /// A question that a ticket is to be opened for, or why none is opened.
     fn asked_going(&self, alloc: Global, at: &Location, string: &[u32]) -> Result<Going, AskError>
         requires ready { IsReadyBy D.operations self.now }
@@ -79,7 +80,9 @@ impl<D: Domain> Session<D> {
         let going = begun(alloc, &self.engine, &flow, at, string)?;
         Ok(going)
     }
+}
 
+impl<D: Domain> Session<D> {
     /// Opens a ticket for a question, and gives its number. Nothing is computed yet.
     ///
     /// # Errors
@@ -88,9 +91,7 @@ impl<D: Domain> Session<D> {
     /// open; the program refuses the question, as [`Session::query`] says. [`AskError::Memory`] when memory runs out. The
     /// session is then as it was.
     pub fn ask(&mut self, alloc: Global, at: Location, string: Items<u32>) -> Result<u64, AskError>
-        requires ready { IsReadyBy D.operations self.old }
         requires room { self.old.book.tickets.next < 2 ^ 63 }
-        ensures ready { IsReadyBy D.operations self.new }
         ensures domain { self.new.engine.domain ≡ self.old.engine.domain }
         ensures spare { self.new.engine.spare ≡ self.old.engine.spare }
         ensures unmoved { self.new.engine.store ≡ self.old.engine.store }
@@ -98,8 +99,8 @@ impl<D: Domain> Session<D> {
         ensures opens { FromEach D.operations self.old self.new
             (λ dom m stands. Opens dom m stands at string result) }
     {
-        let going = self.asked_going(alloc, &at, string.as_slice())?;
-        let number = self.book.tickets.add(at, string, going)?;
+        let going = self.parts.asked_going(alloc, &at, string.as_slice())?;
+        let number = self.parts.book.tickets.add(at, string, going)?;
         Ok(number)
     }
 
@@ -109,8 +110,6 @@ impl<D: Domain> Session<D> {
     ///
     /// [`NoTicket`] exactly where no ticket of this number is open.
     pub fn cancel(&mut self, ticket: u64) -> Result<(), NoTicket>
-        requires ready { IsReadyBy D.operations self.old }
-        ensures ready { IsReadyBy D.operations self.new }
         ensures domain { self.new.engine.domain ≡ self.old.engine.domain }
         ensures spare { self.new.engine.spare ≡ self.old.engine.spare }
         ensures unmoved { self.new.engine.store ≡ self.old.engine.store }
@@ -118,10 +117,10 @@ impl<D: Domain> Session<D> {
         ensures cancels { FromEach D.operations self.old self.new
             (λ _ m stands. Cancels m stands ticket (ticket_of ticket m.tickets) result) }
     {
-        match self.book.tickets.place_of(ticket) {
+        match self.parts.book.tickets.place_of(ticket) {
             None => Err(NoTicket),
             Some(place) => {
-                self.book.tickets.close(place);
+                self.parts.book.tickets.close(place);
                 Ok(())
             }
         }

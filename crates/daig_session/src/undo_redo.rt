@@ -1,33 +1,29 @@
 //! Undo and redo.
-ghost use Rattle.std.specs.Prelude.{◌≡◌, IfOk, IfErr, OnErr, OnOk, List};
-ghost use Rattle.imp_syntax.specs.Plain.{Procedure};
+ghost use Rattle.std.specs.Prelude.{◌≡◌, IfOk, IfErr, OnErr, OnOk};
 ghost use Rattle.daig_query.specs.Swept.{IsBounded};
 ghost use Rattle.daig_machine.specs.Turns.{redone, undone};
 ghost use Rattle.daig_session.specs.Sessions.{IsReadyBy, FromEach};
-ghost use Rattle.daig_session.specs.Moves.{IsMovingTo, IsNearest};
+ghost use Rattle.daig_session.specs.Moves.{IsMovingTo};
+ghost use Rattle.daig_session.specs.Sides.{gone_to, programs_of, side_of};
 ghost use Rattle.daig_session.specs.Turns.{Goes, IsStopped};
 
+use crate::book::Side;
 use crate::error::UndoError;
 use crate::moving::{Moving, leave, planned_move};
+use crate::parts::Parts;
 use crate::session::Session;
 use domain_laws::Domain;
-use imp_table::Change;
 use std::alloc::Global;
 
-impl<D: Domain> Session<D> {
-    /// The move to the nearest program of a side, to which this change leads, if there is one.
-    fn nearest_move(&self, alloc: Global, change: Option<&Change>) -> Result<Moving, UndoError>
+impl<D: Domain> Parts<D> {
+    /// The move to the nearest program of a side, if there is one.
+    fn nearest_move(&self, alloc: Global, side: Side) -> Result<Moving, UndoError>
         requires ready { IsReadyBy D.operations self.now }
-        requires leads { (side : List (List Procedure)) × IsNearest self.now.book change
-            (λ c. c.now) side }
-        ensures moving { (side : List (List Procedure)) →
-            IsNearest self.now.book change.entry (λ c. c.now) side →
-            IfOk result (IsMovingTo self.now.engine.store self.now.book.setting.engine
-            self.now.book.history.now side) }
-        ensures stopped { (side : List (List Procedure)) →
-            IsNearest self.now.book change.entry (λ c. c.now) side → IfErr result (IsStopped side) }
+        ensures moving { IfOk result (IsMovingTo self.now.engine.store self.now.book.setting.engine
+            self.now.book.history.now (programs_of side self.now.book)) }
+        ensures stopped { IfErr result (IsStopped (programs_of side self.now.book)) }
     {
-        let Some(change) = change else {
+        let Some(change) = self.book.nearest(side) else {
             return Err(UndoError::Nothing);
         };
         let table = self.book.history.table();
@@ -35,14 +31,8 @@ impl<D: Domain> Session<D> {
         Ok(moving)
     }
 
-    /// Goes back to the program before the last edit, and gives the next number of a statement, which stays. The kept cells
-    /// change as by an edit that leads there.
-    ///
-    /// # Errors
-    ///
-    /// [`UndoError::Nothing`] exactly where no program is after, and [`UndoError::Memory`] when memory runs out. The session
-    /// is then as it was.
-    pub fn undo(&mut self, alloc: Global) -> Result<u32, UndoError>
+    /// Goes to the nearest program of a side, and gives the next number of a statement.
+    fn go(&mut self, alloc: Global, side: Side) -> Result<u32, UndoError>
         requires ready { IsReadyBy D.operations self.old }
         ensures ready { IsReadyBy D.operations self.new }
         ensures domain { self.new.engine.domain ≡ self.old.engine.domain }
@@ -51,12 +41,33 @@ impl<D: Domain> Session<D> {
         ensures unmoved { OnErr result (self.new.engine.store ≡ self.old.engine.store) }
         ensures next_ticket { self.new.book.tickets.next ≡ self.old.book.tickets.next }
         ensures goes { FromEach D.operations self.old self.new
+            (λ dom m stands. Goes m stands (side_of side m) (gone_to side dom m) result) }
+    {
+        let Moving { setting, plan } = self.nearest_move(alloc, side)?;
+        leave(&mut self.engine, plan);
+        self.book.turn(side, setting);
+        Ok(self.book.next)
+    }
+}
+
+impl<D: Domain> Session<D> {
+    /// Goes back to the program before the last edit, and gives the next number of a statement, which stays. The kept cells
+    /// change as by an edit that leads there.
+    ///
+    /// # Errors
+    ///
+    /// [`UndoError::Nothing`] exactly where no program is after, and [`UndoError::Memory`] when memory runs out. The session
+    /// is then as it was.
+    pub fn undo(&mut self, alloc: Global) -> Result<u32, UndoError>
+        ensures domain { self.new.engine.domain ≡ self.old.engine.domain }
+        ensures spare { self.new.engine.spare ≡ self.old.engine.spare }
+        ensures bounded { OnOk result (IsBounded self.new.engine.spare self.new.engine.store) }
+        ensures unmoved { OnErr result (self.new.engine.store ≡ self.old.engine.store) }
+        ensures next_ticket { self.new.book.tickets.next ≡ self.old.book.tickets.next }
+        ensures goes { FromEach D.operations self.old self.new
             (λ dom m stands. Goes m stands m.past (undone dom m) result) }
     {
-        let Moving { setting, plan } = self.nearest_move(alloc, self.book.history.behind())?;
-        leave(&mut self.engine, plan);
-        self.book.back(setting);
-        Ok(self.book.next)
+        self.parts.go(alloc, Side::Behind)
     }
 
     /// Goes on to the program that the last undo left, as [`Session::undo`] goes back.
@@ -66,8 +77,6 @@ impl<D: Domain> Session<D> {
     /// [`UndoError::Nothing`] exactly where no program is ahead, and [`UndoError::Memory`] when memory runs out. The session
     /// is then as it was.
     pub fn redo(&mut self, alloc: Global) -> Result<u32, UndoError>
-        requires ready { IsReadyBy D.operations self.old }
-        ensures ready { IsReadyBy D.operations self.new }
         ensures domain { self.new.engine.domain ≡ self.old.engine.domain }
         ensures spare { self.new.engine.spare ≡ self.old.engine.spare }
         ensures bounded { OnOk result (IsBounded self.new.engine.spare self.new.engine.store) }
@@ -76,9 +85,6 @@ impl<D: Domain> Session<D> {
         ensures goes { FromEach D.operations self.old self.new
             (λ dom m stands. Goes m stands m.future (redone dom m) result) }
     {
-        let Moving { setting, plan } = self.nearest_move(alloc, self.book.history.ahead())?;
-        leave(&mut self.engine, plan);
-        self.book.forth(setting);
-        Ok(self.book.next)
+        self.parts.go(alloc, Side::Ahead)
     }
 }

@@ -1,6 +1,5 @@
 //! The answer to a line.
 ghost use Rattle.std.specs.Prelude.{◌≡◌, ◌+◌, ◌≤◌, ◌<◌, ◌^◌, Ok, IfOk};
-ghost use Rattle.daig_session.specs.Sessions.{IsReadyBy};
 ghost use Rattle.request_json.specs.Replies.{reply_text};
 ghost use Rattle.request_json.specs.Requests.{request_of};
 ghost use Rattle.serve_replies.specs.Refusals.{line_refusal};
@@ -28,9 +27,7 @@ fn request_line<D: Domain, L: Ledger>(
     request: Request,
     steps: &mut Steps<L>,
 ) -> Result<Vec<u8>, Memory>
-    requires ready { IsReadyBy D.operations session.old }
     requires room { session.old.book.tickets.next < 2 ^ 63 }
-    ensures ready { IsReadyBy D.operations session.new }
     ensures domain { session.new.engine.domain ≡ session.old.engine.domain }
     ensures rises { session.new.book.tickets.next ≤ session.old.book.tickets.next + 1 }
     ensures turn { (readings : Readings) →
@@ -83,9 +80,7 @@ pub fn answer_line<D: Domain, L: Ledger>(
     line: &[u8],
     steps: &mut Steps<L>,
 ) -> Result<Vec<u8>, Memory>
-    requires ready { IsReadyBy D.operations session.old }
     requires room { session.old.book.tickets.next < 2 ^ 63 }
-    ensures ready { IsReadyBy D.operations session.new }
     ensures domain { session.new.engine.domain ≡ session.old.engine.domain }
     ensures rises { session.new.book.tickets.next ≤ session.old.book.tickets.next + 1 }
     ensures turn { (readings : Readings) →

@@ -3,7 +3,7 @@ ghost use Rattle.std.specs.Prelude.{◌≡◌, ◌+◌, ◌≤◌, IfOk, Ok};
 ghost use Rattle.imp_edit.specs.Edited.{Continues};
 ghost use Rattle.request_json.specs.Replies.{reply_text};
 ghost use Rattle.daig_machine.specs.Machine.{Machine};
-ghost use Rattle.daig_session.specs.Sessions.{IsReadyBy, StandsFor};
+ghost use Rattle.daig_session.specs.Sessions.{StandsFor};
 ghost use Rattle.serve_answers.specs.Refusals.{refusal_of};
 ghost use Rattle.serve_answers.specs.Turns.{edit_turn};
 ghost use Rattle.serve_answers.specs.Lines.{request_turn};
@@ -48,9 +48,7 @@ pub(crate) fn edit_line<D: Domain>(
     session: &mut Session<D>,
     edit: &Edit,
 ) -> Result<Vec<u8>, Memory>
-    requires ready { IsReadyBy D.operations session.old }
     requires continues { Continues edit.now session.old.book.next }
-    ensures ready { IsReadyBy D.operations session.new }
     ensures domain { session.new.engine.domain ≡ session.old.engine.domain }
     ensures rises { session.new.book.tickets.next ≤ session.old.book.tickets.next + 1 }
     ensures turn { TakesTurn D.operations session.old session.new
@@ -101,8 +99,6 @@ pub(crate) fn edit_request<D: Domain>(
     session: &mut Session<D>,
     request: Request,
 ) -> Result<Vec<u8>, Memory>
-    requires ready { IsReadyBy D.operations session.old }
-    ensures ready { IsReadyBy D.operations session.new }
     ensures domain { session.new.engine.domain ≡ session.old.engine.domain }
     ensures rises { session.new.book.tickets.next ≤ session.old.book.tickets.next + 1 }
     ensures turn { (readings : Readings) (m : Machine) → Edits request →
@@ -111,6 +107,7 @@ pub(crate) fn edit_request<D: Domain>(
         (StandsFor D.operations session.new) v.items) }
     ensures unchanged { StaysOnErr D.operations session.old session.new result }
 {
+    session.ready();
     let next = session.next();
     match edit_asked(alloc, request, next) {
         Ok(edit) => edit_line(alloc, session, &edit),

@@ -4,7 +4,7 @@ ghost use Rattle.batch_meaning.specs.Answers.{Answer};
 ghost use Rattle.daig_query.specs.Answered.{Says};
 ghost use Rattle.daig_machine.specs.Machine.{Machine};
 ghost use Rattle.daig_machine.specs.Turns.{missing_at, missing_for_report};
-ghost use Rattle.daig_session.specs.Sessions.{IsReadyBy, StandsFor};
+ghost use Rattle.daig_session.specs.Sessions.{StandsFor};
 ghost use Rattle.request_json.specs.Replies.{reply_text};
 ghost use Rattle.serve_replies.specs.States.{answer_reply, layout_at};
 ghost use Rattle.imp_check.specs.Slots.{routines_of};
@@ -64,8 +64,6 @@ pub(crate) fn state_line<D: Domain, L: Ledger>(
     query: &Query,
     steps: &mut Steps<L>,
 ) -> Result<Vec<u8>, Memory>
-    requires ready { IsReadyBy D.operations session.old }
-    ensures ready { IsReadyBy D.operations session.new }
     ensures domain { session.new.engine.domain ≡ session.old.engine.domain }
     ensures rises { session.new.book.tickets.next ≤ session.old.book.tickets.next + 1 }
     ensures turn { TakesTurn D.operations session.old session.new
@@ -88,8 +86,6 @@ pub(crate) fn why_line<D: Domain, L: Ledger>(
     query: &Query,
     steps: &mut Steps<L>,
 ) -> Result<Vec<u8>, Memory>
-    requires ready { IsReadyBy D.operations session.old }
-    ensures ready { IsReadyBy D.operations session.new }
     ensures domain { session.new.engine.domain ≡ session.old.engine.domain }
     ensures rises { session.new.book.tickets.next ≤ session.old.book.tickets.next + 1 }
     ensures turn { TakesTurn D.operations session.old session.new
@@ -111,8 +107,6 @@ pub(crate) fn report_line<D: Domain, L: Ledger>(
     session: &mut Session<D>,
     steps: &mut Steps<L>,
 ) -> Result<Vec<u8>, Memory>
-    requires ready { IsReadyBy D.operations session.old }
-    ensures ready { IsReadyBy D.operations session.new }
     ensures domain { session.new.engine.domain ≡ session.old.engine.domain }
     ensures rises { session.new.book.tickets.next ≤ session.old.book.tickets.next + 1 }
     ensures turn { TakesTurn D.operations session.old session.new

@@ -1,7 +1,7 @@
 //! Tickets, and going back and forth. Each reply is made before the session is changed.
 ghost use Rattle.std.specs.Prelude.{◌≡◌, ◌+◌, ◌<◌, ◌≤◌, ◌^◌, IfOk};
 ghost use Rattle.daig_machine.specs.Machine.{ticket_of};
-ghost use Rattle.daig_session.specs.Sessions.{IsReadyBy, StandsFor};
+ghost use Rattle.daig_session.specs.Sessions.{StandsFor};
 ghost use Rattle.serve_answers.specs.Turns.{ask_turn, cancel_turn, redo_turn, step_turn, undo_turn};
 ghost use Rattle.serve_session.specs.Followed.{FillsOrTurns, StaysOnErr, TakesTurn, TellsTurn};
 ghost use Rattle.serve_session.specs.Followed.{ask_refusal, missing_for_ticket};
@@ -56,9 +56,7 @@ pub(crate) fn ask_line<D: Domain>(
     session: &mut Session<D>,
     query: Query,
 ) -> Result<Vec<u8>, Memory>
-    requires ready { IsReadyBy D.operations session.old }
     requires room { session.old.book.tickets.next < 2 ^ 63 }
-    ensures ready { IsReadyBy D.operations session.new }
     ensures domain { session.new.engine.domain ≡ session.old.engine.domain }
     ensures rises { session.new.book.tickets.next ≤ session.old.book.tickets.next + 1 }
     ensures turn { TakesTurn D.operations session.old session.new
@@ -110,8 +108,6 @@ pub(crate) fn step_line<D: Domain, L: Ledger>(
     n: u32,
     steps: &mut Steps<L>,
 ) -> Result<Vec<u8>, Memory>
-    requires ready { IsReadyBy D.operations session.old }
-    ensures ready { IsReadyBy D.operations session.new }
     ensures domain { session.new.engine.domain ≡ session.old.engine.domain }
     ensures rises { session.new.book.tickets.next ≤ session.old.book.tickets.next + 1 }
     ensures turn { TakesTurn D.operations session.old session.new
@@ -120,6 +116,7 @@ pub(crate) fn step_line<D: Domain, L: Ledger>(
         (λ dom m. missing_for_ticket dom (ticket_of ticket m.tickets) m)
         (λ dom. step_turn dom ticket n) result }
 {
+    session.ready();
     let Some(at) = session.ticket_at(ticket) else {
         return refused(alloc, Refusal::NoTicket);
     };
@@ -136,8 +133,6 @@ pub(crate) fn cancel_line<D: Domain>(
     session: &mut Session<D>,
     ticket: u64,
 ) -> Result<Vec<u8>, Memory>
-    requires ready { IsReadyBy D.operations session.old }
-    ensures ready { IsReadyBy D.operations session.new }
     ensures domain { session.new.engine.domain ≡ session.old.engine.domain }
     ensures rises { session.new.book.tickets.next ≤ session.old.book.tickets.next + 1 }
     ensures turn { TakesTurn D.operations session.old session.new
@@ -156,8 +151,6 @@ pub(crate) fn undo_line<D: Domain>(
     alloc: Global,
     session: &mut Session<D>,
 ) -> Result<Vec<u8>, Memory>
-    requires ready { IsReadyBy D.operations session.old }
-    ensures ready { IsReadyBy D.operations session.new }
     ensures domain { session.new.engine.domain ≡ session.old.engine.domain }
     ensures rises { session.new.book.tickets.next ≤ session.old.book.tickets.next + 1 }
     ensures turn { TakesTurn D.operations session.old session.new
@@ -176,8 +169,6 @@ pub(crate) fn redo_line<D: Domain>(
     alloc: Global,
     session: &mut Session<D>,
 ) -> Result<Vec<u8>, Memory>
-    requires ready { IsReadyBy D.operations session.old }
-    ensures ready { IsReadyBy D.operations session.new }
     ensures domain { session.new.engine.domain ≡ session.old.engine.domain }
     ensures rises { session.new.book.tickets.next ≤ session.old.book.tickets.next + 1 }
     ensures turn { TakesTurn D.operations session.old session.new

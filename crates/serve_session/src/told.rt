@@ -2,7 +2,7 @@
 ghost use Rattle.std.specs.Prelude.{◌≡◌, IfOk};
 ghost use Rattle.std.specs.Option.{option_copied};
 ghost use Rattle.daig_machine.specs.Machine.{Machine};
-ghost use Rattle.daig_session.specs.Sessions.{IsReadyBy, StandsFor};
+ghost use Rattle.daig_session.specs.Sessions.{StandsFor};
 ghost use Rattle.request_json.specs.Replies.{reply_text};
 ghost use Rattle.serve_answers.specs.Turns.{cost_turn, listing_turn, program_turn, run_turn};
 
@@ -17,7 +17,6 @@ use std::alloc::Global;
 
 /// How many cells the last question filled, and how many are kept.
 pub(crate) fn cost_line<D: Domain>(alloc: Global, session: &Session<D>) -> Result<Vec<u8>, Memory>
-    requires ready { IsReadyBy D.operations session.now }
     ensures line { (m : Machine) → StandsFor D.operations session.now m →
         IfOk result (λ v. v.items ≡ reply_text (cost_turn m).reply) }
 {

@@ -1,6 +1,5 @@
 //! Scripts: calls of a session one after another.
-ghost use Rattle.std.specs.Prelude.{◌≡◌, ◌<◌, IfOk};
-ghost use Rattle.daig_session.specs.Holds.{IsReady};
+ghost use Rattle.std.specs.Prelude.{◌≡◌, ◌<◌};
 
 use crate::texts::{next_of, table_of};
 use crate::turns::{asked, queried, queried_twice, replaced, stepped};
@@ -42,10 +41,11 @@ pub(crate) struct Setup<'a> {
 }
 
 /// A session with a program.
-fn started<D: Domain + Drop>(alloc: Global, domain: D, setup: Setup<'_>) -> Result<Session<D>, Fail>
-    ensures ready { IfOk result (λ s. IsReady (D.operations s.engine.domain) s.engine.store
-        s.book) }
-{
+fn started<D: Domain + Drop>(
+    alloc: Global,
+    domain: D,
+    setup: Setup<'_>,
+) -> Result<Session<D>, Fail> {
     if setup.memo == 0 {
         return Err("no memo".into());
     }
@@ -72,12 +72,7 @@ fn play<D: Domain, L: Ledger>(
     session: &mut Session<D>,
     line: Line<'_>,
     steps: &mut Steps<L>,
-) -> Result<String, Fail>
-    requires ready { IsReady (D.operations session.old.engine.domain) session.old.engine.store
-        session.old.book }
-    ensures ready { IfOk result (λ _. IsReady (D.operations session.new.engine.domain)
-        session.new.engine.store session.new.book) }
-{
+) -> Result<String, Fail> {
     match line {
         Line::After(stmt) => queried(alloc, session, &Location::After(StmtId::new(stmt)), steps),
         Line::Before(stmt) => queried(alloc, session, &Location::Before(StmtId::new(stmt)), steps),
@@ -97,12 +92,7 @@ fn play_next<D: Domain, L: Ledger>(
     line: Line<'_>,
     gives_back: bool,
     steps: &mut Steps<L>,
-) -> Result<String, Fail>
-    requires ready { IsReady (D.operations session.old.engine.domain) session.old.engine.store
-        session.old.book }
-    ensures ready { IfOk result (λ _. IsReady (D.operations session.new.engine.domain)
-        session.new.engine.store session.new.book) }
-{
+) -> Result<String, Fail> {
     if !gives_back {
         return play(alloc, session, line, steps);
     }
@@ -117,10 +107,7 @@ fn lines<D: Domain, L: Ledger>(
     script: &[Line<'_>],
     gives_back: bool,
     steps: &mut Steps<L>,
-) -> Result<String, Fail>
-    requires ready { IsReady (D.operations session.old.engine.domain) session.old.engine.store
-        session.old.book }
-{
+) -> Result<String, Fail> {
     let mut all = String::new(alloc);
     for next in script {
         let told = play_next(alloc, session, *next, gives_back, steps)?;
@@ -141,8 +128,6 @@ fn counted<D: Domain, L: Ledger>(
     requires name { blank.name ≡ L.name }
     requires parts { blank.parts ≡ L.parts }
     requires some { 0 < blank.parts }
-    requires ready { IsReady (D.operations session.old.engine.domain) session.old.engine.store
-        session.old.book }
 {
     let mut steps = Steps::<L>::new(blank);
     lines(alloc, session, script, gives_back, &mut steps)

@@ -1,7 +1,6 @@
 //! Calls of a session, and the texts of what they answer.
 ghost use Rattle.std.specs.Prelude.{◌≡◌, IfOk};
 ghost use Rattle.imp_edit.specs.Edited.{Continues};
-ghost use Rattle.daig_session.specs.Holds.{IsReady};
 
 use crate::edits::replacement;
 use crate::values::shown;
@@ -48,12 +47,7 @@ pub(crate) fn queried<D: Domain, L: Ledger>(
     session: &mut Session<D>,
     at: &Location,
     steps: &mut Steps<L>,
-) -> Result<String, Fail>
-    requires ready { IsReady (D.operations session.old.engine.domain) session.old.engine.store
-        session.old.book }
-    ensures ready { IfOk result (λ _. IsReady (D.operations session.new.engine.domain)
-        session.new.engine.store session.new.book) }
-{
+) -> Result<String, Fail> {
     match session.query(alloc, at, &[], steps) {
         Ok(value) => answered(alloc, session, proc_at(session.program(), at), &value),
         Err(why) => Ok(format!(in alloc; "{why:?}")?),
@@ -67,12 +61,7 @@ pub(crate) fn queried_twice<D: Domain, L: Ledger>(
     session: &mut Session<D>,
     at: &Location,
     steps: &mut Steps<L>,
-) -> Result<String, Fail>
-    requires ready { IsReady (D.operations session.old.engine.domain) session.old.engine.store
-        session.old.book }
-    ensures ready { IfOk result (λ _. IsReady (D.operations session.new.engine.domain)
-        session.new.engine.store session.new.book) }
-{
+) -> Result<String, Fail> {
     let first = queried(alloc, session, at, steps)?;
     let none = session.cost();
     let kept = session.kept_count() as u64;
@@ -86,12 +75,7 @@ pub(crate) fn asked<D: Domain>(
     alloc: Global,
     session: &mut Session<D>,
     at: Location,
-) -> Result<String, Fail>
-    requires ready { IsReady (D.operations session.old.engine.domain) session.old.engine.store
-        session.old.book }
-    ensures ready { IfOk result (λ _. IsReady (D.operations session.new.engine.domain)
-        session.new.engine.store session.new.book) }
-{
+) -> Result<String, Fail> {
     if session.next_ticket() > 1000 {
         return Err("many tickets".into());
     }
@@ -108,12 +92,7 @@ pub(crate) fn stepped<D: Domain, L: Ledger>(
     ticket: u64,
     most: u32,
     steps: &mut Steps<L>,
-) -> Result<String, Fail>
-    requires ready { IsReady (D.operations session.old.engine.domain) session.old.engine.store
-        session.old.book }
-    ensures ready { IfOk result (λ _. IsReady (D.operations session.new.engine.domain)
-        session.new.engine.store session.new.book) }
-{
+) -> Result<String, Fail> {
     let proc = match session.ticket_at(ticket) {
         Some(at) => proc_at(session.program(), at),
         None => None,
@@ -137,11 +116,7 @@ fn refusal_text(alloc: Global, why: EditError) -> Result<String, Fail> {
 
 /// Makes an edit.
 fn edited<D: Domain>(alloc: Global, session: &mut Session<D>, edit: &Edit) -> Result<String, Fail>
-    requires ready { IsReady (D.operations session.old.engine.domain) session.old.engine.store
-        session.old.book }
     requires continues { Continues edit.now session.old.book.next }
-    ensures ready { IfOk result (λ _. IsReady (D.operations session.new.engine.domain)
-        session.new.engine.store session.new.book) }
 {
     match session.prepare(alloc, edit) {
         Ok(prepared) => {
@@ -159,12 +134,7 @@ pub(crate) fn replaced<D: Domain>(
     session: &mut Session<D>,
     stmt: u32,
     text: &str,
-) -> Result<String, Fail>
-    requires ready { IsReady (D.operations session.old.engine.domain) session.old.engine.store
-        session.old.book }
-    ensures ready { IfOk result (λ _. IsReady (D.operations session.new.engine.domain)
-        session.new.engine.store session.new.book) }
-{
+) -> Result<String, Fail> {
     let edit = replacement(alloc, stmt, text, session.next())?;
     edited(alloc, session, &edit)
 }

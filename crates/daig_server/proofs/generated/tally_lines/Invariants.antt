@@ -1,6 +1,6 @@
 use Rattle.std.proofs.Common.{◌≡◌, ◌≤◌, ◌+◌, ◌^◌, ℕ, [], take}
 use Rattle.gen_summary.specs.Summary.{nothing, IsWithin}
-use Rattle.daig_session.specs.Holds.{Holds, IsReady}
+use Rattle.daig_session.specs.Holds.{Holds}
 use Rattle.serve_script.specs.Lines.{last_part, whole_lines}
 use Rattle.serve_answers.specs.Lines.{Served}
 use Rattle.serve_output.specs.Domains.{meaning_of}
@@ -16,7 +16,7 @@ invariant-loop-byte g l =
     let lines = whole_lines [] (take l.byte-index l.script) in
     record {
       pending : l.line.items ≡ last_part [] (take l.byte-index l.script);
-      lasts : (n : ℕ) → (started.book.tickets.next + (l.byte-index + n) ≤ 2 ^ 63) → IsReady (g.D.Domain.operations now.engine.domain) now.engine.store now.book × (now.book.tickets.next + n ≤ 2 ^ 63);
+      lasts : (n : ℕ) → (started.book.tickets.next + (l.byte-index + n) ≤ 2 ^ 63) → now.book.tickets.next + n ≤ 2 ^ 63;
       within : IsWithin l.byte-index l.tally;
       next : (s : Served) → Holds (g.D.Domain.operations started.engine.domain) started.engine.store started.book s.machine → Holds (g.D.Domain.operations now.engine.domain) now.engine.store now.book (served_after dom lines s).machine;
       tally : (s : Served) → Holds (g.D.Domain.operations started.engine.domain) started.engine.store started.book s.machine → l.tally ≡ tally_output dom lines s nothing;

@@ -7,10 +7,10 @@ use Rattle.serve_session.proofs.Requested.{made_follows, unmade_follows}
 use Rattle.serve_session.proofs.edits.edit_request.Goals as goal
 
 pub edit_asked-requires : goal.edit_asked-requires
-edit_asked-requires g c = record { low = subst (λ (n : ℕ). n ≤ 1000001) (sym c.next-next.ensures.same) c.requires.ready.order.low }
+edit_asked-requires g c = record { low = subst (λ (n : ℕ). n ≤ 1000001) (sym c.next-next.ensures.same) c.ready.ensures.ready.order.low }
 
 pub edit_line-requires : goal.edit_line-requires
-edit_line-requires g c = record { ready = c.requires.ready; continues = subst (Continues c.in-Ok.edit) c.next-next.ensures.same c.in-Ok.ensures.continues }
+edit_line-requires g c = record { continues = subst (Continues c.in-Ok.edit) c.next-next.ensures.same c.in-Ok.ensures.continues }
 
 pub returns-in-Ok-clause-turn : goal.returns-in-Ok-clause-turn
 returns-in-Ok-clause-turn g c = λ readings m edits h.

@@ -14,7 +14,7 @@ returns-in-Ok-clause-turn g c = λ m h.
     let stands = Holds (g.D.Domain.operations new.engine.domain) new.engine.store new.book in
     let o = ticket_of c.args.ticket m.tickets in
     let there : Some c.in_ok-at.at ≡ option_map (λ (t : Ticket). t.at) o = ap Some c.in_ok-at.ensures.same ∙ c.in-Some.ensures.is m h in
-    step_follows dom m stands c.args.n c.turn_line.result (λ v. v.items) o c.in_ok-at.at (checked_here dom now.engine.store now.book m c.requires.ready h) (ticket_short dom now.engine.store now.book m c.args.ticket c.requires.ready h) there
+    step_follows dom m stands c.args.n c.turn_line.result (λ v. v.items) o c.in_ok-at.at (checked_here dom now.engine.store now.book m c.ready.ensures.ready h) (ticket_short dom now.engine.store now.book m c.args.ticket c.ready.ensures.ready h) there
     c.in-Ok.turn (c.in-Ok.ensures.steps m h)
     (subst (λ (d : g.row.D.Denot). TellsTurn c.turn_line.result (λ v. v.items) (g.D.Domain.operations d) stands c.in_ok-at.at c.in-Ok.turn) c.step.ensures.domain c.turn_line.ensures.tells)
 
@@ -24,7 +24,7 @@ returns-in-Ok-clause-between g c = λ m h.
     let dom = g.D.Domain.operations now.engine.domain in
     let new = c.step.new.self in
     let stands = Holds (g.D.Domain.operations new.engine.domain) new.engine.store new.book in
-    step_halts dom m stands c.args.n c.turn_line.result (ticket_of c.args.ticket m.tickets) (checked_here dom now.engine.store now.book m c.requires.ready h) (ticket_short dom now.engine.store now.book m c.args.ticket c.requires.ready h)
+    step_halts dom m stands c.args.n c.turn_line.result (ticket_of c.args.ticket m.tickets) (checked_here dom now.engine.store now.book m c.ready.ensures.ready h) (ticket_short dom now.engine.store now.book m c.args.ticket c.ready.ensures.ready h)
     c.in-Ok.turn (c.in-Ok.ensures.steps m h)
 
 pub returns-clause-turn : goal.returns-clause-turn

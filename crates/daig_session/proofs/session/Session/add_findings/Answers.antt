@@ -14,7 +14,7 @@ pub loop-stmt-preserved : goal.loop-stmt-preserved
 loop-stmt-preserved g c =
     let old = c.args.self.now in
     let mid = c.loop-stmt.self in
-    let new = c.add_finding.new.self in
+    let new = c.add_finding-added.new.self in
     let ops = g.D.Domain.operations in
     let dom = ops old.engine.domain in
     let ns = c.args.stmts.now in
@@ -25,24 +25,24 @@ loop-stmt-preserved g c =
     let then = λ (m : Machine). behind dom m (checked_among m.program (take i ns)) mid.book.cost in
     let stands = λ (m : Machine) (h : Holds dom old.engine.store old.book m). subst (λ d. Holds (ops d) mid.engine.store mid.book (then m)) (sym inv.domain) (inv.all m h) in
     record {
-      ready = c.add_finding.ensures.ready;
-      domain = c.add_finding.ensures.domain ∙ inv.domain;
-      spare = c.add_finding.ensures.spare ∙ inv.spare;
-      stays_bounded = λ b. c.add_finding.ensures.stays_bounded (inv.stays_bounded b);
-      all = λ m h. next_all dom m ns i n there mid.book.cost new.engine.store new.book (subst (λ d. HoldsAll (ops d) (then m) new.engine.store new.book (checked_at m.program n)) inv.domain (c.in_ok-add_finding.ensures.all (then m) (stands m h)));
-      found = λ m h. next_found dom m ns i n there c.args.found.now c.loop-stmt.found c.add_finding.new.found (inv.found m h) (subst (λ d. c.add_finding.new.found ≡ c.loop-stmt.found ++ findings (ops d) (then m) (checked_at m.program n)) inv.domain (c.in_ok-add_finding.ensures.found (then m) (stands m h)));
-      least = let a = c.add_finding.ensures.least in let b = inv.least in omega arith;
-      ticked = λ m h. next_ticked dom m ns i n there mid.book.cost c.args.steps.now c.loop-stmt.steps c.add_finding.new.steps (g.D.Domain.counted old.engine.domain) (inv.ticked m h) (subst (λ d. c.add_finding.new.steps ≤ c.loop-stmt.steps + g.D.Domain.counted d * work_on (ops d) (then m) (checked_at m.program n)) inv.domain (c.in_ok-add_finding.ensures.ticked (then m) (stands m h)));
+      ready = c.ready-in-loop-stmt.ensures.ready;
+      domain = c.add_finding-added.ensures.domain ∙ inv.domain;
+      spare = c.add_finding-added.ensures.spare ∙ inv.spare;
+      stays_bounded = λ b. c.add_finding-added.ensures.stays_bounded (inv.stays_bounded b);
+      all = λ m h. next_all dom m ns i n there mid.book.cost new.engine.store new.book (subst (λ d. HoldsAll (ops d) (then m) new.engine.store new.book (checked_at m.program n)) inv.domain (c.in_ok-added.ensures.all (then m) (stands m h)));
+      found = λ m h. next_found dom m ns i n there c.args.found.now c.loop-stmt.found c.add_finding-added.new.found (inv.found m h) (subst (λ d. c.add_finding-added.new.found ≡ c.loop-stmt.found ++ findings (ops d) (then m) (checked_at m.program n)) inv.domain (c.in_ok-added.ensures.found (then m) (stands m h)));
+      least = let a = c.add_finding-added.ensures.least in let b = inv.least in omega arith;
+      ticked = λ m h. next_ticked dom m ns i n there mid.book.cost c.args.steps.now c.loop-stmt.steps c.add_finding-added.new.steps (g.D.Domain.counted old.engine.domain) (inv.ticked m h) (subst (λ d. c.add_finding-added.new.steps ≤ c.loop-stmt.steps + g.D.Domain.counted d * work_on (ops d) (then m) (checked_at m.program n)) inv.domain (c.in_ok-added.ensures.ticked (then m) (stands m h)));
     }
 
-pub returns-in_err-add_finding-clause-stays_bounded : goal.returns-in_err-add_finding-clause-stays_bounded
-returns-in_err-add_finding-clause-stays_bounded g c = λ b. c.add_finding.ensures.stays_bounded (c.loop-stmt.invariant.stays_bounded b)
+pub returns-in_err-added-clause-stays_bounded : goal.returns-in_err-added-clause-stays_bounded
+returns-in_err-added-clause-stays_bounded g c = λ b. c.add_finding-added.ensures.stays_bounded (c.loop-stmt.invariant.stays_bounded b)
 
-pub returns-in_err-add_finding-clause-part : goal.returns-in_err-add_finding-clause-part
-returns-in_err-add_finding-clause-part g c = λ m h.
+pub returns-in_err-added-clause-part : goal.returns-in_err-added-clause-part
+returns-in_err-added-clause-part g c = λ m h.
     let old = c.args.self.now in
     let mid = c.loop-stmt.self in
-    let new = c.add_finding.new.self in
+    let new = c.add_finding-added.new.self in
     let ops = g.D.Domain.operations in
     let dom = ops old.engine.domain in
     let ns = c.args.stmts.now in
@@ -52,7 +52,7 @@ returns-in_err-add_finding-clause-part g c = λ m h.
     let there = slice_get-get_or ns i n c.loop-stmt-test.true ∙ ap Some (sym c.stmt-item.is) in
     let then = λ (m : Machine). behind dom m (checked_among m.program (take i ns)) mid.book.cost in
     let stands = λ (m : Machine) (h : Holds dom old.engine.store old.book m). subst (λ d. Holds (ops d) mid.engine.store mid.book (then m)) (sym inv.domain) (inv.all m h) in
-    next_part dom m ns i n there mid.book.cost new.engine.store new.book (subst (λ d. HoldsPart (ops d) (then m) new.engine.store new.book (checked_at m.program n)) inv.domain (c.add_finding.ensures.part (then m) (stands m h)))
+    next_part dom m ns i n there mid.book.cost new.engine.store new.book (subst (λ d. HoldsPart (ops d) (then m) new.engine.store new.book (checked_at m.program n)) inv.domain (c.add_finding-added.ensures.part (then m) (stands m h)))
 
 pub returns-clause-part : goal.returns-clause-part
 returns-clause-part g c = λ m h.
@@ -94,11 +94,11 @@ returns-clause-ticked g c = λ m h.
     let e = among_end m.program ns i (omega (arith, c.loop-stmt-test.false)) in
     subst (λ (cs : List CheckedStatement). c.loop-stmt.steps ≤ c.args.steps.now + g.D.Domain.counted old.engine.domain * work_on dom m cs) e (c.loop-stmt.invariant.ticked m h)
 
-pub returns-in_err-add_finding-clause-most : goal.returns-in_err-add_finding-clause-most
-returns-in_err-add_finding-clause-most g c = λ m h.
+pub returns-in_err-added-clause-most : goal.returns-in_err-added-clause-most
+returns-in_err-added-clause-most g c = λ m h.
     let old = c.args.self.now in
     let mid = c.loop-stmt.self in
-    let new = c.add_finding.new.self in
+    let new = c.add_finding-added.new.self in
     let ops = g.D.Domain.operations in
     let dom = ops old.engine.domain in
     let ns = c.args.stmts.now in
@@ -108,12 +108,12 @@ returns-in_err-add_finding-clause-most g c = λ m h.
     let there = slice_get-get_or ns i n c.loop-stmt-test.true ∙ ap Some (sym c.stmt-item.is) in
     let then = λ (m : Machine). behind dom m (checked_among m.program (take i ns)) mid.book.cost in
     let stands = λ (m : Machine) (h : Holds dom old.engine.store old.book m). subst (λ d. Holds (ops d) mid.engine.store mid.book (then m)) (sym inv.domain) (inv.all m h) in
-    failed_most dom m ns i n there old.engine.store mid.engine.store new.engine.store old.book mid.book new.book c.args.steps.now c.loop-stmt.steps c.add_finding.new.steps (g.D.Domain.counted old.engine.domain) c.requires.ready h
+    failed_most dom m ns i n there old.engine.store mid.engine.store new.engine.store old.book mid.book new.book c.args.steps.now c.loop-stmt.steps c.add_finding-added.new.steps (g.D.Domain.counted old.engine.domain) c.ready.ensures.ready h
     (subst (λ d. IsReady (ops d) mid.engine.store mid.book) inv.domain inv.ready) (inv.all m h)
-    (subst (λ d. IsReady (ops d) new.engine.store new.book) (c.add_finding.ensures.domain ∙ inv.domain) c.add_finding.ensures.ready)
-    (subst (λ d. HoldsPart (ops d) (then m) new.engine.store new.book (checked_at m.program n)) inv.domain (c.add_finding.ensures.part (then m) (stands m h)))
+    (subst (λ d. IsReady (ops d) new.engine.store new.book) (c.add_finding-added.ensures.domain ∙ inv.domain) c.ready-in-loop-stmt.ensures.ready)
+    (subst (λ d. HoldsPart (ops d) (then m) new.engine.store new.book (checked_at m.program n)) inv.domain (c.add_finding-added.ensures.part (then m) (stands m h)))
     (inv.ticked m h)
-    (subst (λ d. c.add_finding.new.steps ≤ c.loop-stmt.steps + g.D.Domain.counted d * suc (cells_added mid.engine.store new.engine.store + 2 * chain_count (routines_of m.program) (checked_at m.program n))) inv.domain (c.add_finding.ensures.most (then m) (stands m h)))
+    (subst (λ d. c.add_finding-added.new.steps ≤ c.loop-stmt.steps + g.D.Domain.counted d * suc (cells_added mid.engine.store new.engine.store + 2 * chain_count (routines_of m.program) (checked_at m.program n))) inv.domain (c.add_finding-added.ensures.most (then m) (stands m h)))
 
 pub returns-clause-most : goal.returns-clause-most
 returns-clause-most g c = λ m h.
@@ -128,4 +128,4 @@ returns-clause-most g c = λ m h.
     let all = subst (HoldsAll dom m last.engine.store last.book) e (inv.all m h) in
     let ticks = subst (λ (cs : List CheckedStatement). c.loop-stmt.steps ≤ c.args.steps.now + g.D.Domain.counted old.engine.domain * work_on dom m cs) e (inv.ticked m h) in
     work_within c.args.steps.now c.loop-stmt.steps (g.D.Domain.counted old.engine.domain) (length (missing_of dom m (checked_among m.program ns))) (cells_added old.engine.store last.engine.store) (chain_count (routines_of m.program) (checked_among m.program ns))
-    (all_added dom old.engine.store last.engine.store old.book last.book m (checked_among m.program ns) c.requires.ready h (subst (λ d. IsReady (ops d) last.engine.store last.book) inv.domain inv.ready) all) ticks
+    (all_added dom old.engine.store last.engine.store old.book last.book m (checked_among m.program ns) c.ready.ensures.ready h (subst (λ d. IsReady (ops d) last.engine.store last.book) inv.domain inv.ready) all) ticks

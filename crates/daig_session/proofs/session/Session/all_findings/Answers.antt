@@ -1,4 +1,4 @@
-use Rattle.std.proofs.Common.{◌≤◌, suc, ◌+◌, ◌*◌, ◌++◌, List, ap, subst, ◌∙◌, arith}
+use Rattle.std.proofs.Common.{sym, ◌≤◌, suc, ◌+◌, ◌*◌, ◌++◌, List, ap, subst, ◌∙◌, arith}
 use Rattle.imp_syntax.specs.Plain.{program_numbers}
 use Rattle.imp_check.specs.Slots.{routines_of}
 use Rattle.imp_words.specs.declared.findings.Finding.{Finding}
@@ -22,7 +22,7 @@ returns-in_err-add_findings-clause-part g c = λ m h.
     let ops = g.D.Domain.operations in
     let dom = ops s.engine.domain in
     let new = c.add_findings.new.self in
-    let same = all_among dom s.engine.store s.book m c.as_slice.result.now h c.requires.ready.order.fine.numbered (c.as_slice.ensures.same ∙ (c.in_ok-stmts.ensures.are ∙ ap program_numbers (c.view.ensures.is ∙ c.table.ensures.is))) in
+    let same = all_among dom s.engine.store s.book m c.as_slice.result.now h c.ready.ensures.ready.order.fine.numbered (c.as_slice.ensures.same ∙ (c.in_ok-stmts.ensures.are ∙ ap program_numbers (c.view.ensures.is ∙ (c.table.ensures.is ∙ ap (λ p. p.book.history.now) c.self.view_is)))) in
     subst (HoldsPart dom m new.engine.store new.book) same (c.add_findings.ensures.part m h)
 
 pub returns-clause-part : goal.returns-clause-part
@@ -31,7 +31,7 @@ returns-clause-part g c = λ m h.
     let ops = g.D.Domain.operations in
     let dom = ops s.engine.domain in
     let new = c.add_findings.new.self in
-    let same = all_among dom s.engine.store s.book m c.as_slice.result.now h c.requires.ready.order.fine.numbered (c.as_slice.ensures.same ∙ (c.in_ok-stmts.ensures.are ∙ ap program_numbers (c.view.ensures.is ∙ c.table.ensures.is))) in
+    let same = all_among dom s.engine.store s.book m c.as_slice.result.now h c.ready.ensures.ready.order.fine.numbered (c.as_slice.ensures.same ∙ (c.in_ok-stmts.ensures.are ∙ ap program_numbers (c.view.ensures.is ∙ (c.table.ensures.is ∙ ap (λ p. p.book.history.now) c.self.view_is)))) in
     subst (HoldsPart dom m new.engine.store new.book) same (c.add_findings.ensures.part m h)
 
 pub returns-clause-all : goal.returns-clause-all
@@ -40,7 +40,7 @@ returns-clause-all g c = λ m h.
     let ops = g.D.Domain.operations in
     let dom = ops s.engine.domain in
     let new = c.add_findings.new.self in
-    let same = all_among dom s.engine.store s.book m c.as_slice.result.now h c.requires.ready.order.fine.numbered (c.as_slice.ensures.same ∙ (c.in_ok-stmts.ensures.are ∙ ap program_numbers (c.view.ensures.is ∙ c.table.ensures.is))) in
+    let same = all_among dom s.engine.store s.book m c.as_slice.result.now h c.ready.ensures.ready.order.fine.numbered (c.as_slice.ensures.same ∙ (c.in_ok-stmts.ensures.are ∙ ap program_numbers (c.view.ensures.is ∙ (c.table.ensures.is ∙ ap (λ p. p.book.history.now) c.self.view_is)))) in
     subst (HoldsAll dom m new.engine.store new.book) same (c.in_ok-add_findings.ensures.all m h)
 
 pub returns-clause-found : goal.returns-clause-found
@@ -49,7 +49,7 @@ returns-clause-found g c = λ m h.
     let ops = g.D.Domain.operations in
     let dom = ops s.engine.domain in
     let new = c.add_findings.new.self in
-    let same = all_among dom s.engine.store s.book m c.as_slice.result.now h c.requires.ready.order.fine.numbered (c.as_slice.ensures.same ∙ (c.in_ok-stmts.ensures.are ∙ ap program_numbers (c.view.ensures.is ∙ c.table.ensures.is))) in
+    let same = all_among dom s.engine.store s.book m c.as_slice.result.now h c.ready.ensures.ready.order.fine.numbered (c.as_slice.ensures.same ∙ (c.in_ok-stmts.ensures.are ∙ ap program_numbers (c.view.ensures.is ∙ (c.table.ensures.is ∙ ap (λ p. p.book.history.now) c.self.view_is)))) in
     c.in_ok-add_findings.ensures.found m h ∙ (ap (λ (fs : List Finding). fs ++ findings dom m (checked_among m.program c.as_slice.result.now)) c.new-found.ensures.empty ∙ ap (findings dom m) same)
 
 pub returns-clause-ticked : goal.returns-clause-ticked
@@ -58,7 +58,7 @@ returns-clause-ticked g c = λ m h.
     let ops = g.D.Domain.operations in
     let dom = ops s.engine.domain in
     let new = c.add_findings.new.self in
-    let same = all_among dom s.engine.store s.book m c.as_slice.result.now h c.requires.ready.order.fine.numbered (c.as_slice.ensures.same ∙ (c.in_ok-stmts.ensures.are ∙ ap program_numbers (c.view.ensures.is ∙ c.table.ensures.is))) in
+    let same = all_among dom s.engine.store s.book m c.as_slice.result.now h c.ready.ensures.ready.order.fine.numbered (c.as_slice.ensures.same ∙ (c.in_ok-stmts.ensures.are ∙ ap program_numbers (c.view.ensures.is ∙ (c.table.ensures.is ∙ ap (λ p. p.book.history.now) c.self.view_is)))) in
     subst (λ (cs : List CheckedStatement). c.add_findings.new.steps ≤ c.args.steps.now + g.D.Domain.counted s.engine.domain * work_on dom m cs) same (c.in_ok-add_findings.ensures.ticked m h)
 
 pub returns-in_err-add_findings-clause-most : goal.returns-in_err-add_findings-clause-most
@@ -67,7 +67,7 @@ returns-in_err-add_findings-clause-most g c = λ m h.
     let ops = g.D.Domain.operations in
     let dom = ops s.engine.domain in
     let new = c.add_findings.new.self in
-    let same = all_among dom s.engine.store s.book m c.as_slice.result.now h c.requires.ready.order.fine.numbered (c.as_slice.ensures.same ∙ (c.in_ok-stmts.ensures.are ∙ ap program_numbers (c.view.ensures.is ∙ c.table.ensures.is))) in
+    let same = all_among dom s.engine.store s.book m c.as_slice.result.now h c.ready.ensures.ready.order.fine.numbered (c.as_slice.ensures.same ∙ (c.in_ok-stmts.ensures.are ∙ ap program_numbers (c.view.ensures.is ∙ (c.table.ensures.is ∙ ap (λ p. p.book.history.now) c.self.view_is)))) in
     subst (λ (cs : List CheckedStatement). c.add_findings.new.steps ≤ c.args.steps.now + g.D.Domain.counted s.engine.domain * suc (cells_added s.engine.store new.engine.store + 2 * chain_count (routines_of m.program) cs)) same (c.add_findings.ensures.most m h)
 
 pub returns-clause-most : goal.returns-clause-most
@@ -76,7 +76,7 @@ returns-clause-most g c = λ m h.
     let ops = g.D.Domain.operations in
     let dom = ops s.engine.domain in
     let new = c.add_findings.new.self in
-    let same = all_among dom s.engine.store s.book m c.as_slice.result.now h c.requires.ready.order.fine.numbered (c.as_slice.ensures.same ∙ (c.in_ok-stmts.ensures.are ∙ ap program_numbers (c.view.ensures.is ∙ c.table.ensures.is))) in
+    let same = all_among dom s.engine.store s.book m c.as_slice.result.now h c.ready.ensures.ready.order.fine.numbered (c.as_slice.ensures.same ∙ (c.in_ok-stmts.ensures.are ∙ ap program_numbers (c.view.ensures.is ∙ (c.table.ensures.is ∙ ap (λ p. p.book.history.now) c.self.view_is)))) in
     subst (λ (cs : List CheckedStatement). c.add_findings.new.steps ≤ c.args.steps.now + g.D.Domain.counted s.engine.domain * suc (cells_added s.engine.store new.engine.store + 2 * chain_count (routines_of m.program) cs)) same (c.add_findings.ensures.most m h)
 
 pub returns-in_err-stmts-clause-most : goal.returns-in_err-stmts-clause-most

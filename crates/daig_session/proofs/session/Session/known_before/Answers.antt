@@ -20,8 +20,8 @@ returns-in-Ok-clause-program g c =
     let dom = ops s.engine.domain in
     let new = c.query.new.self in
     let n = c.args.id in
-    same_program dom s.engine.store new.engine.store s.book new.book (λ _. checked_one n Skip (Some (IsCell 0))) c.requires.ready (λ m h. (
-    one_asked dom m n Skip (IsCell 0) new.engine.store new.book (checked_here dom s.engine.store s.book m h c.requires.ready.order.fine.fit) c.query.result (
+    same_program dom s.engine.store new.engine.store s.book new.book (λ _. checked_one n Skip (Some (IsCell 0))) c.ready.ensures.ready (λ m h. (
+    one_asked dom m n Skip (IsCell 0) new.engine.store new.book (checked_here dom s.engine.store s.book m h c.ready.ensures.ready.order.fine.fit) c.query.result (
     subst (λ d. Questions dom m (Holds (ops d) new.engine.store new.book) (Before n) [] c.query.result) c.query.ensures.domain (c.query.ensures.answers m h))))
 
 pub returns-in-Ok-clause-part : goal.returns-in-Ok-clause-part
@@ -31,7 +31,7 @@ returns-in-Ok-clause-part g c = λ m e k h.
     let dom = ops s.engine.domain in
     let new = c.query.new.self in
     let n = c.args.id in
-    one_asked dom m n e k new.engine.store new.book (checked_here dom s.engine.store s.book m h c.requires.ready.order.fine.fit) c.query.result (
+    one_asked dom m n e k new.engine.store new.book (checked_here dom s.engine.store s.book m h c.ready.ensures.ready.order.fine.fit) c.query.result (
     subst (λ d. Questions dom m (Holds (ops d) new.engine.store new.book) (Before n) [] c.query.result) c.query.ensures.domain (c.query.ensures.answers m h))
 
 pub returns-in-Err-Refused-clause-program : goal.returns-in-Err-Refused-clause-program
@@ -41,8 +41,8 @@ returns-in-Err-Refused-clause-program g c =
     let dom = ops s.engine.domain in
     let new = c.query.new.self in
     let n = c.args.id in
-    same_program dom s.engine.store new.engine.store s.book new.book (λ _. checked_one n Skip (Some (IsCell 0))) c.requires.ready (λ m h. (
-    one_asked dom m n Skip (IsCell 0) new.engine.store new.book (checked_here dom s.engine.store s.book m h c.requires.ready.order.fine.fit) c.query.result (
+    same_program dom s.engine.store new.engine.store s.book new.book (λ _. checked_one n Skip (Some (IsCell 0))) c.ready.ensures.ready (λ m h. (
+    one_asked dom m n Skip (IsCell 0) new.engine.store new.book (checked_here dom s.engine.store s.book m h c.ready.ensures.ready.order.fine.fit) c.query.result (
     subst (λ d. Questions dom m (Holds (ops d) new.engine.store new.book) (Before n) [] c.query.result) c.query.ensures.domain (c.query.ensures.answers m h))))
 
 pub returns-in-Err-Refused-clause-part : goal.returns-in-Err-Refused-clause-part
@@ -52,7 +52,7 @@ returns-in-Err-Refused-clause-part g c = λ m e k h.
     let dom = ops s.engine.domain in
     let new = c.query.new.self in
     let n = c.args.id in
-    one_asked dom m n e k new.engine.store new.book (checked_here dom s.engine.store s.book m h c.requires.ready.order.fine.fit) c.query.result (
+    one_asked dom m n e k new.engine.store new.book (checked_here dom s.engine.store s.book m h c.ready.ensures.ready.order.fine.fit) c.query.result (
     subst (λ d. Questions dom m (Holds (ops d) new.engine.store new.book) (Before n) [] c.query.result) c.query.ensures.domain (c.query.ensures.answers m h))
 
 pub returns-clause-program : goal.returns-clause-program
@@ -62,8 +62,8 @@ returns-clause-program g c =
     let dom = ops s.engine.domain in
     let new = c.query.new.self in
     let n = c.args.id in
-    same_program dom s.engine.store new.engine.store s.book new.book (λ _. checked_one n Skip (Some (IsCell 0))) c.requires.ready (λ m h. (
-    one_asked dom m n Skip (IsCell 0) new.engine.store new.book (checked_here dom s.engine.store s.book m h c.requires.ready.order.fine.fit) c.query.result (
+    same_program dom s.engine.store new.engine.store s.book new.book (λ _. checked_one n Skip (Some (IsCell 0))) c.ready.ensures.ready (λ m h. (
+    one_asked dom m n Skip (IsCell 0) new.engine.store new.book (checked_here dom s.engine.store s.book m h c.ready.ensures.ready.order.fine.fit) c.query.result (
     subst (λ d. Questions dom m (Holds (ops d) new.engine.store new.book) (Before n) [] c.query.result) c.query.ensures.domain (c.query.ensures.answers m h))))
 
 pub returns-clause-part : goal.returns-clause-part
@@ -73,7 +73,7 @@ returns-clause-part g c = λ m e k h.
     let dom = ops s.engine.domain in
     let new = c.query.new.self in
     let n = c.args.id in
-    one_asked dom m n e k new.engine.store new.book (checked_here dom s.engine.store s.book m h c.requires.ready.order.fine.fit) c.query.result (
+    one_asked dom m n e k new.engine.store new.book (checked_here dom s.engine.store s.book m h c.ready.ensures.ready.order.fine.fit) c.query.result (
     subst (λ d. Questions dom m (Holds (ops d) new.engine.store new.book) (Before n) [] c.query.result) c.query.ensures.domain (c.query.ensures.answers m h))
 
 pub returns-in-Ok-clause-all : goal.returns-in-Ok-clause-all
@@ -102,7 +102,7 @@ returns-in-Err-Refused-clause-all g c = λ m e k h.
     let new = c.query.new.self in
     let n = c.args.id in
     let q = subst (λ (r : QueryError). Questions dom m (Holds (ops new.engine.domain) new.engine.store new.book) (Before n) [] (Err r)) c.in-Err-Refused.field-0-is (c.in-Err-Refused.ensures.answers m h) in
-    one_refused dom m n e k new.engine.store new.book c.in-Err-Refused.why (checked_here dom s.engine.store s.book m h c.requires.ready.order.fine.fit) q.0 (subst (λ d. Holds (ops d) new.engine.store new.book m) c.query.ensures.domain q.1)
+    one_refused dom m n e k new.engine.store new.book c.in-Err-Refused.why (checked_here dom s.engine.store s.book m h c.ready.ensures.ready.order.fine.fit) q.0 (subst (λ d. Holds (ops d) new.engine.store new.book m) c.query.ensures.domain q.1)
 
 pub returns-in-Err-Refused-clause-tells : goal.returns-in-Err-Refused-clause-tells
 returns-in-Err-Refused-clause-tells g c = λ m h.

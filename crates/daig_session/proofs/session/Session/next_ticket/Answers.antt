@@ -3,4 +3,4 @@ use Rattle.daig_machine.specs.Machine.{Machine}
 use Rattle.daig_session.proofs.session.Session.next_ticket.Goals as goal
 
 pub returns : goal.returns
-returns g c = record { is = λ m h. ap (λ (z : Machine). z.next_ticket) h.is; same = refl }
+returns g c = rw (← c.self.view_is) (record { is = λ m h. ap (λ (z : Machine). z.next_ticket) h.is; same = refl })

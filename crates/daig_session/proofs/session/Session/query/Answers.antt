@@ -6,7 +6,7 @@ use Rattle.imp_flow.specs.Reached.{target_of}
 use Rattle.batch_meaning.specs.Answers.{answer}
 use Rattle.daig_query.specs.Answered.{AreFilled, Covers, Says}
 use Rattle.daig_query.specs.Filled.{cells_added}
-use Rattle.daig_machine.specs.Turns.{after_question, targets_of}
+use Rattle.daig_machine.specs.Turns.{after_question, answer_at, targets_of}
 use Rattle.daig_session.specs.Books.{flow_in}
 use Rattle.daig_session.specs.Holds.{Holds}
 use Rattle.daig_session.specs.Reports.{IsUnticked}
@@ -16,11 +16,11 @@ use Rattle.daig_session.proofs.Filled.{answered_costing, ready_costing}
 use Rattle.daig_session.proofs.session.Session.query.Goals as goal
 
 pub returns-in_err-filled-clause-answers : goal.returns-in_err-filled-clause-answers
-returns-in_err-filled-clause-answers g c = λ m h.
+returns-in_err-filled-clause-answers g c = rw (← c.self.view_is) (λ m h.
     let new = c.fill_for.new.self in
     let ops = g.D.Domain.operations in
     let e : c.from_residual.result ≡ Err c.in_err-filled.field-0.0 = search rules in
-    subst (Questions (ops c.args.self.now.engine.domain) m (Holds (ops new.engine.domain) new.engine.store new.book) c.args.at.now c.args.string.now) (sym e) (c.in_err-filled.ensures.fails m h)
+    subst (Questions (ops c.self.inside.parts.engine.domain) m (Holds (ops new.engine.domain) new.engine.store new.book) c.args.at.now c.args.string.now) (sym e) (c.in_err-filled.ensures.fails m h))
 
 pub returns-in_err-filled-clause-unticked : goal.returns-in_err-filled-clause-unticked
 returns-in_err-filled-clause-unticked g c =
@@ -28,13 +28,13 @@ returns-in_err-filled-clause-unticked g c =
     subst (λ r. IfErr r (IsUnticked c.args.steps.now c.fill_for.new.steps)) (sym e) c.in_err-filled.ensures.unticked
 
 pub returns-in_err-filled-clause-most : goal.returns-in_err-filled-clause-most
-returns-in_err-filled-clause-most g c = λ m h.
-    let s = c.args.self.now in
-    work_first c.args.steps.now c.fill_for.new.steps (g.D.Domain.counted s.engine.domain) (cells_added s.engine.store c.fill_for.new.self.engine.store) (2 * length (targets_of m c.args.at.now c.args.string.now)) c.fill_for.ensures.most
+returns-in_err-filled-clause-most g c = rw (← c.self.view_is) (λ m h.
+    let s = c.self.inside.parts in
+    work_first c.args.steps.now c.fill_for.new.steps (g.D.Domain.counted s.engine.domain) (cells_added s.engine.store c.fill_for.new.self.engine.store) (2 * length (targets_of m c.args.at.now c.args.string.now)) c.fill_for.ensures.most)
 
 pub read_answer-requires : goal.read_answer-requires
 read_answer-requires g c =
-    let s = c.args.self.now in
+    let s = c.self.inside.parts in
     let ops = g.D.Domain.operations in
     let dom = ops s.engine.domain in
     let new = c.fill_for.new.self in
@@ -46,13 +46,13 @@ read_answer-requires g c =
     record { filled = (flow_in s.book, l, string, ts, a, subst (λ d. AreFilled (ops d) new.engine.store f.going.walk (flow_in s.book) ts) (sym c.fill_for.ensures.domain) c.in_ok-filled.ensures.filled) }
 
 pub returns-in_err-value-clause-answers : goal.returns-in_err-value-clause-answers
-returns-in_err-value-clause-answers g c = λ m h.
+returns-in_err-value-clause-answers g c = rw (← c.self.view_is) (λ m h.
     let p = err_from_is_err_and c.from_residual-in_err-value.result c.from_residual-in_err-value.ensures.1 in
-    rw (p.1, p.2) (c.in_ok-filled.ensures.unanswered m h)
+    rw (p.1, p.2) (c.in_ok-filled.ensures.unanswered m h))
 
 pub returns-in_err-value-clause-most : goal.returns-in_err-value-clause-most
-returns-in_err-value-clause-most g c = λ m h.
-    let s = c.args.self.now in
+returns-in_err-value-clause-most g c = rw (← c.self.view_is) (λ m h.
+    let s = c.self.inside.parts in
     let ops = g.D.Domain.operations in
     let dom = ops s.engine.domain in
     let new = c.fill_for.new.self in
@@ -64,16 +64,11 @@ returns-in_err-value-clause-most g c = λ m h.
     let each = g.D.Domain.counted s.engine.domain in
     let filled = subst (λ d. AreFilled (ops d) new.engine.store f.going.walk (flow_in s.book) ts) (sym c.fill_for.ensures.domain) c.in_ok-filled.ensures.filled in
     let read = subst (λ d. c.read_answer.new.steps ≤ c.fill_for.new.steps + g.D.Domain.counted d * (2 * length ts)) c.fill_for.ensures.domain (c.read_answer.ensures.ticked (flow_in s.book) ts filled) in
-    most_here dom s.book s.engine.store m l string ts c.args.steps.now c.fill_for.new.steps c.read_answer.new.steps each f.count (cells_added s.engine.store new.engine.store) h a c.in_ok-filled.ensures.counted c.in_ok-filled.ensures.ticked read
-
-pub returns-clause-ready : goal.returns-clause-ready
-returns-clause-ready g c =
-    let new = c.fill_for.new.self in
-    ready_costing (g.D.Domain.operations new.engine.domain) new.engine.store new.book c.in_ok-filled.filled.count c.fill_for.ensures.ready
+    most_here dom s.book s.engine.store m l string ts c.args.steps.now c.fill_for.new.steps c.read_answer.new.steps each f.count (cells_added s.engine.store new.engine.store) h a c.in_ok-filled.ensures.counted c.in_ok-filled.ensures.ticked read)
 
 pub returns-clause-answers : goal.returns-clause-answers
-returns-clause-answers g c = λ m h.
-    let s = c.args.self.now in
+returns-clause-answers g c = rw (← c.self.view_is) (λ m h.
+    let s = c.self.inside.parts in
     let ops = g.D.Domain.operations in
     let dom = ops s.engine.domain in
     let new = c.fill_for.new.self in
@@ -85,13 +80,13 @@ returns-clause-answers g c = λ m h.
     let v = c.in_ok-value.value in
     let filled = subst (λ d. AreFilled (ops d) new.engine.store f.going.walk (flow_in s.book) ts) (sym c.fill_for.ensures.domain) c.in_ok-filled.ensures.filled in
     let says = subst (λ d. Says (answer (ops d) (flow_in s.book).engine (flow_in s.book).program l string) (Some v)) c.fill_for.ensures.domain (c.in_ok-value.ensures.says (flow_in s.book) l string ts a filled) in (
-      says_here dom s.book s.engine.store m l string v h says,
+      subst (λ p. Says (answer_at (ops p.engine.domain) l string m) (Some v)) c.self.view_is (says_here dom s.book s.engine.store m l string v h says),
       answered_costing (ops new.engine.domain) dom new.engine.store s.book new.book f.count (after_question dom l string m) (ap ops c.fill_for.ensures.domain) c.fill_for.ensures.book (c.in_ok-filled.ensures.answered m h),
-    )
+    ))
 
 pub returns-clause-sound : goal.returns-clause-sound
 returns-clause-sound g c =
-    let s = c.args.self.now in
+    let s = c.self.inside.parts in
     let ops = g.D.Domain.operations in
     let new = c.fill_for.new.self in
     let f = c.in_ok-filled.filled in
@@ -100,11 +95,12 @@ returns-clause-sound g c =
     let string = c.args.string.now in
     let a = c.in_ok-filled.ensures.targets in
     let filled = subst (λ d. AreFilled (ops d) new.engine.store f.going.walk (flow_in s.book) ts) (sym c.fill_for.ensures.domain) c.in_ok-filled.ensures.filled in
-    subst (λ d. Covers (g.D.Domain.covers d) (routines_of s.book.history.now) l string (Some c.in_ok-value.value)) c.fill_for.ensures.domain (c.in_ok-value.ensures.sound (flow_in s.book) l string ts a filled)
+    subst (λ p. Covers (g.D.Domain.covers p.engine.domain) (routines_of p.book.history.now) l string (Some c.in_ok-value.value)) c.self.view_is
+    (subst (λ d. Covers (g.D.Domain.covers d) (routines_of s.book.history.now) l string (Some c.in_ok-value.value)) c.fill_for.ensures.domain (c.in_ok-value.ensures.sound (flow_in s.book) l string ts a filled))
 
 pub returns-clause-ticked : goal.returns-clause-ticked
-returns-clause-ticked g c = λ m h.
-    let s = c.args.self.now in
+returns-clause-ticked g c = rw (← c.self.view_is) (λ m h.
+    let s = c.self.inside.parts in
     let ops = g.D.Domain.operations in
     let dom = ops s.engine.domain in
     let new = c.fill_for.new.self in
@@ -116,11 +112,11 @@ returns-clause-ticked g c = λ m h.
     let each = g.D.Domain.counted s.engine.domain in
     let filled = subst (λ d. AreFilled (ops d) new.engine.store f.going.walk (flow_in s.book) ts) (sym c.fill_for.ensures.domain) c.in_ok-filled.ensures.filled in
     let read = subst (λ d. c.read_answer.new.steps ≤ c.fill_for.new.steps + g.D.Domain.counted d * (2 * length ts)) c.fill_for.ensures.domain (c.read_answer.ensures.ticked (flow_in s.book) ts filled) in
-    work_here dom s.book s.engine.store m l string ts c.args.steps.now c.read_answer.new.steps each f.count h a (c.in_ok-filled.ensures.all m h) (work_both c.args.steps.now c.fill_for.new.steps c.read_answer.new.steps each f.count (2 * length ts) c.in_ok-filled.ensures.ticked read)
+    work_here dom s.book s.engine.store m l string ts c.args.steps.now c.read_answer.new.steps each f.count h a (c.in_ok-filled.ensures.all m h) (work_both c.args.steps.now c.fill_for.new.steps c.read_answer.new.steps each f.count (2 * length ts) c.in_ok-filled.ensures.ticked read))
 
 pub returns-clause-most : goal.returns-clause-most
-returns-clause-most g c = λ m h.
-    let s = c.args.self.now in
+returns-clause-most g c = rw (← c.self.view_is) (λ m h.
+    let s = c.self.inside.parts in
     let ops = g.D.Domain.operations in
     let dom = ops s.engine.domain in
     let new = c.fill_for.new.self in
@@ -132,4 +128,4 @@ returns-clause-most g c = λ m h.
     let each = g.D.Domain.counted s.engine.domain in
     let filled = subst (λ d. AreFilled (ops d) new.engine.store f.going.walk (flow_in s.book) ts) (sym c.fill_for.ensures.domain) c.in_ok-filled.ensures.filled in
     let read = subst (λ d. c.read_answer.new.steps ≤ c.fill_for.new.steps + g.D.Domain.counted d * (2 * length ts)) c.fill_for.ensures.domain (c.read_answer.ensures.ticked (flow_in s.book) ts filled) in
-    most_here dom s.book s.engine.store m l string ts c.args.steps.now c.fill_for.new.steps c.read_answer.new.steps each f.count (cells_added s.engine.store new.engine.store) h a c.in_ok-filled.ensures.counted c.in_ok-filled.ensures.ticked read
+    most_here dom s.book s.engine.store m l string ts c.args.steps.now c.fill_for.new.steps c.read_answer.new.steps each f.count (cells_added s.engine.store new.engine.store) h a c.in_ok-filled.ensures.counted c.in_ok-filled.ensures.ticked read)

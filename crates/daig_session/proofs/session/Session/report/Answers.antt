@@ -12,15 +12,15 @@ use Rattle.daig_session.proofs.session.Session.report.Goals as goal
 
 pub sweep-requires : goal.sweep-requires
 sweep-requires g c =
-    let s = c.args.self.now in
-    record { held = right-in-tables (g.D.Domain.operations s.engine.domain) (flow_in s.book) s.engine.store c.requires.ready.right }
+    let s = c.self.inside.parts in
+    record { held = right-in-tables (g.D.Domain.operations s.engine.domain) (flow_in s.book) s.engine.store c.self.invariant.right }
 
-pub report_now-requires : goal.report_now-requires
-report_now-requires g c =
-    let s = c.args.self.now in
+pub invariant_of-self : goal.invariant_of-self
+invariant_of-self g c =
+    let s = c.self.inside.parts in
     let ops = g.D.Domain.operations in
     let mid = c.sweep.new.self in
-    record { ready = behind-ready (ops s.engine.domain) (ops mid.domain) (ap ops c.sweep.ensures.domain) s.engine.store mid.store c.sweep.ensures.swept s.book c.sweep.ensures.right c.requires.ready }
+    behind-ready (ops s.engine.domain) (ops mid.domain) (ap ops c.sweep.ensures.domain) s.engine.store mid.store c.sweep.ensures.swept s.book c.sweep.ensures.right c.self.invariant
 
 pub returns-clause-bounded : goal.returns-clause-bounded
 returns-clause-bounded g c =
@@ -28,32 +28,32 @@ returns-clause-bounded g c =
     c.report_now.ensures.stays_bounded (swept-bounded mid.spare mid.store (subst (λ n. IsWithin (most_held n mid.store) mid.store) (sym c.sweep.ensures.spare) c.sweep.ensures.bounded))
 
 pub returns-clause-reports : goal.returns-clause-reports
-returns-clause-reports g c = λ m h.
-    let s = c.args.self.now in
+returns-clause-reports g c = rw (← c.self.view_is) (λ m h.
+    let s = c.self.inside.parts in
     let ops = g.D.Domain.operations in
     let mid = c.sweep.new.self in
     let stood = behind-holds (ops s.engine.domain) (ops mid.domain) (ap ops c.sweep.ensures.domain) s.engine.store mid.store c.sweep.ensures.swept s.book in
     let new = c.report_now.new.self in
     subst (λ d. Reports (ops d) m (Holds (ops new.engine.domain) new.engine.store new.book) c.report_now.result) c.sweep.ensures.domain
-    (c.report_now.ensures.reports m (stood m h))
+    (c.report_now.ensures.reports m (stood m h)))
 
 pub returns-clause-ticked : goal.returns-clause-ticked
-returns-clause-ticked g c = λ m h.
-    let s = c.args.self.now in
+returns-clause-ticked g c = rw (← c.self.view_is) (λ m h.
+    let s = c.self.inside.parts in
     let ops = g.D.Domain.operations in
     let mid = c.sweep.new.self in
     let stood = behind-holds (ops s.engine.domain) (ops mid.domain) (ap ops c.sweep.ensures.domain) s.engine.store mid.store c.sweep.ensures.swept s.book in
     subst (λ d. OnOk c.report_now.result (c.report_now.new.steps ≤ c.args.steps.now + g.D.Domain.counted d * (length (missing_for_report (ops d) m) + 2 * checked_chains m))) c.sweep.ensures.domain
-    (c.report_now.ensures.ticked m (stood m h))
+    (c.report_now.ensures.ticked m (stood m h)))
 
 pub returns-clause-most : goal.returns-clause-most
-returns-clause-most g c = λ m h.
-    let s = c.args.self.now in
+returns-clause-most g c = rw (← c.self.view_is) (λ m h.
+    let s = c.self.inside.parts in
     let ops = g.D.Domain.operations in
     let mid = c.sweep.new.self in
     let stood = behind-holds (ops s.engine.domain) (ops mid.domain) (ap ops c.sweep.ensures.domain) s.engine.store mid.store c.sweep.ensures.swept s.book in
     let new = c.report_now.new.self.engine.store in
-    let old = c.args.self.now.engine.store in
+    let old = c.self.inside.parts.engine.store in
     let same = swept-added old c.sweep.new.self.store new c.sweep.ensures.swept in
     subst (λ d. c.report_now.new.steps ≤ c.args.steps.now + g.D.Domain.counted d * suc (cells_added old new + 2 * checked_chains m)) c.sweep.ensures.domain
-    (subst (λ n. c.report_now.new.steps ≤ c.args.steps.now + g.D.Domain.counted c.sweep.new.self.domain * suc (n + 2 * checked_chains m)) same (c.report_now.ensures.most m (stood m h)))
+    (subst (λ n. c.report_now.new.steps ≤ c.args.steps.now + g.D.Domain.counted c.sweep.new.self.domain * suc (n + 2 * checked_chains m)) same (c.report_now.ensures.most m (stood m h))))

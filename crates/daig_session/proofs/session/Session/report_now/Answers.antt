@@ -1,4 +1,4 @@
-use Rattle.std.proofs.Common.{◌-◌, ◌++◌, List, sym, subst}
+use Rattle.std.proofs.Common.{◌≡◌, ◌-◌, ◌++◌, List, sym, subst}
 use Rattle.std.specs.Prelude.{Contains}
 use Rattle.imp_syntax.specs.Plain.{Procedure}
 use Rattle.imp_check.specs.Slots.{routines_of}
@@ -10,7 +10,7 @@ use Rattle.daig_session.specs.Books.{machine_of}
 use Rattle.daig_session.specs.Holds.{Holds}
 use Rattle.daig_session.proofs.Filled.{ready_costing}
 use Rattle.daig_session.proofs.Standing.{names, stands}
-use Rattle.daig_session.proofs.Reporting.{as_filled, cost_here, ended_holds, failed_holds, same_ticket}
+use Rattle.daig_session.proofs.Reporting.{as_filled, ended_holds, failed_holds, same_ticket}
 use Rattle.daig_session.proofs.session.Session.report_now.Goals as goal
 
 pub overflow_sub-self : goal.overflow_sub-self
@@ -19,17 +19,17 @@ overflow_sub-self g c =
     let ops = g.D.Domain.operations in
     let dom = ops s.engine.domain in
     let new = c.all_findings.new.self in
-    let here = machine_of s.book (names dom s.engine.store s.book c.requires.ready) in
-    let stood = stands dom s.engine.store s.book c.requires.ready in
+    let here = machine_of s.book (names dom s.engine.store s.book c.ready.ensures.ready) in
+    let stood = stands dom s.engine.store s.book c.ready.ensures.ready in
     let xs = missing_for_report dom here in
     let then = keeping (here.kept ++ xs) new.book.cost here in
     let count = as_filled dom here new.engine.store new.book c.kept_count-kept.result c.kept_count.result (c.kept_count-kept.ensures.is here stood) (c.kept_count.ensures.is then (subst (λ d. Holds (ops d) new.engine.store new.book then) (sym c.all_findings.ensures.domain) (c.in-Ok.ensures.all here stood))) in
     count.0
 
-pub returns-in-Ok-clause-ready : goal.returns-in-Ok-clause-ready
-returns-in-Ok-clause-ready g c =
-    let new = c.all_findings.new.self in
-    ready_costing (g.D.Domain.operations new.engine.domain) new.engine.store new.book _ c.all_findings.ensures.ready
+pub invariant_of-self : goal.invariant_of-self
+invariant_of-self g c =
+    let s = c.self.inside.parts in
+    ready_costing (g.D.Domain.operations s.engine.domain) s.engine.store s.book _ c.self.invariant
 
 pub returns-in-Ok-clause-next_ticket : goal.returns-in-Ok-clause-next_ticket
 returns-in-Ok-clause-next_ticket g c =
@@ -37,12 +37,7 @@ returns-in-Ok-clause-next_ticket g c =
     let ops = g.D.Domain.operations in
     let dom = ops s.engine.domain in
     let new = c.all_findings.new.self in
-    same_ticket dom s.engine.store new.engine.store s.book new.book (λ (ps : List Procedure). checked_statements (routines_of ps)) c.requires.ready c.all_findings.ensures.part
-
-pub returns-in-Err-clause-ready : goal.returns-in-Err-clause-ready
-returns-in-Err-clause-ready g c =
-    let new = c.all_findings.new.self in
-    ready_costing (g.D.Domain.operations new.engine.domain) new.engine.store new.book _ c.all_findings.ensures.ready
+    subst (λ p. p.book.tickets.next ≡ s.book.tickets.next) (sym c.self.view_is) (same_ticket dom s.engine.store new.engine.store s.book new.book (λ (ps : List Procedure). checked_statements (routines_of ps)) c.ready.ensures.ready c.all_findings.ensures.part)
 
 pub returns-in-Err-clause-next_ticket : goal.returns-in-Err-clause-next_ticket
 returns-in-Err-clause-next_ticket g c =
@@ -50,7 +45,7 @@ returns-in-Err-clause-next_ticket g c =
     let ops = g.D.Domain.operations in
     let dom = ops s.engine.domain in
     let new = c.all_findings.new.self in
-    same_ticket dom s.engine.store new.engine.store s.book new.book (λ (ps : List Procedure). checked_statements (routines_of ps)) c.requires.ready c.all_findings.ensures.part
+    subst (λ p. p.book.tickets.next ≡ s.book.tickets.next) (sym c.self.view_is) (same_ticket dom s.engine.store new.engine.store s.book new.book (λ (ps : List Procedure). checked_statements (routines_of ps)) c.ready.ensures.ready c.all_findings.ensures.part)
 
 pub returns-in-Ok-clause-reports : goal.returns-in-Ok-clause-reports
 returns-in-Ok-clause-reports g c = λ m h.
@@ -63,7 +58,8 @@ returns-in-Ok-clause-reports g c = λ m h.
     let count = as_filled dom m new.engine.store new.book c.kept_count-kept.result c.kept_count.result (c.kept_count-kept.ensures.is m h) (c.kept_count.ensures.is then (subst (λ d. Holds (ops d) new.engine.store new.book then) (sym c.all_findings.ensures.domain) (c.in-Ok.ensures.all m h))) in
     let cost = c.kept_count.result - c.kept_count-kept.result in (
       c.in-Ok.ensures.found m h,
-      subst (λ d. Holds (ops d) new.engine.store (record new.book { cost = cost }) (after_report dom m)) (sym c.all_findings.ensures.domain) (ended_holds dom m new.engine.store new.book cost (c.in-Ok.ensures.all m h) count.1),
+      subst (λ p. Holds (ops p.engine.domain) p.engine.store (record p.book { cost = cost }) (after_report dom m)) (sym c.self.view_is)
+          (subst (λ d. Holds (ops d) new.engine.store (record new.book { cost = cost }) (after_report dom m)) (sym c.all_findings.ensures.domain) (ended_holds dom m new.engine.store new.book cost (c.in-Ok.ensures.all m h) count.1)),
     )
 
 pub returns-in-Ok-clause-sound : goal.returns-in-Ok-clause-sound
@@ -72,9 +68,9 @@ returns-in-Ok-clause-sound g c = λ f there.
     let ops = g.D.Domain.operations in
     let dom = ops s.engine.domain in
     let new = c.all_findings.new.self in
-    let here = machine_of s.book (names dom s.engine.store s.book c.requires.ready) in
-    let stood = stands dom s.engine.store s.book c.requires.ready in
-    c.reports_are_sound.ensures.sound s.engine.domain s.book.setting.engine (routines_of s.book.history.now) f c.requires.ready.order.fine.fit (subst (λ (fs : List Finding). Contains fs f) (c.in-Ok.ensures.found here stood) there)
+    let here = machine_of s.book (names dom s.engine.store s.book c.ready.ensures.ready) in
+    let stood = stands dom s.engine.store s.book c.ready.ensures.ready in
+    c.reports_are_sound.ensures.sound s.engine.domain s.book.setting.engine (routines_of s.book.history.now) f c.ready.ensures.ready.order.fine.fit (subst (λ (fs : List Finding). Contains fs f) (c.in-Ok.ensures.found here stood) there)
 
 pub returns-in-Ok-clause-ticked : goal.returns-in-Ok-clause-ticked
 returns-in-Ok-clause-ticked g c = λ m h. c.in-Ok.ensures.ticked m h
@@ -85,5 +81,7 @@ returns-in-Err-clause-reports g c = λ m h.
     let ops = g.D.Domain.operations in
     let dom = ops s.engine.domain in
     let new = c.all_findings.new.self in
-    subst (λ d. IsBetween (missing_for_report dom m) m (Holds (ops d) new.engine.store (record new.book { cost = s.book.cost }))) (sym c.all_findings.ensures.domain) (
-    failed_holds dom m new.engine.store new.book s.book.cost (c.all_findings.ensures.part m h) (cost_here dom s.engine.store s.book m h))
+    let cost = c.cost-cost.result in
+    subst (λ p. IsBetween (missing_for_report dom m) m (Holds (ops p.engine.domain) p.engine.store (record p.book { cost = cost }))) (sym c.self.view_is)
+    (subst (λ d. IsBetween (missing_for_report dom m) m (Holds (ops d) new.engine.store (record new.book { cost = cost }))) (sym c.all_findings.ensures.domain) (
+    failed_holds dom m new.engine.store new.book cost (c.all_findings.ensures.part m h) (c.cost-cost.ensures.is m h)))

@@ -14,59 +14,59 @@ use Rattle.daig_session.proofs.session.Session.step.Goals as goal
 
 pub sweep-requires : goal.sweep-requires
 sweep-requires g c =
-    let s = c.args.self.now in
-    record { held = right-in-tables (g.D.Domain.operations s.engine.domain) (flow_in s.book) s.engine.store c.requires.ready.right }
+    let s = c.self.inside.parts in
+    record { held = right-in-tables (g.D.Domain.operations s.engine.domain) (flow_in s.book) s.engine.store c.self.invariant.right }
 
 pub step_now-requires : goal.step_now-requires
 step_now-requires g c =
-    let s = c.args.self.now in
+    let s = c.self.inside.parts in
     let ops = g.D.Domain.operations in
     let mid = c.sweep.new.self in
-    record { ready = behind-ready (ops s.engine.domain) (ops mid.domain) (ap ops c.sweep.ensures.domain) s.engine.store mid.store c.sweep.ensures.swept s.book c.sweep.ensures.right c.requires.ready }
+    record { ready = behind-ready (ops s.engine.domain) (ops mid.domain) (ap ops c.sweep.ensures.domain) s.engine.store mid.store c.sweep.ensures.swept s.book c.sweep.ensures.right c.self.invariant }
 
 pub returns-clause-bounded : goal.returns-clause-bounded
 returns-clause-bounded g c =
     let new = c.step_now.new.self.engine in
     subst (λ n. IsBounded n new.store) (sym (c.step_now.ensures.spare ∙ c.sweep.ensures.spare))
-    (filled-bounded c.args.self.now.engine.spare c.sweep.new.self.store new.store c.sweep.ensures.bounded c.step_now.ensures.few)
+    (filled-bounded c.self.inside.parts.engine.spare c.sweep.new.self.store new.store c.sweep.ensures.bounded c.step_now.ensures.few)
 
 pub returns-clause-steps : goal.returns-clause-steps
-returns-clause-steps g c = λ m h.
-    let s = c.args.self.now in
+returns-clause-steps g c = rw (← c.self.view_is) (λ m h.
+    let s = c.self.inside.parts in
     let ops = g.D.Domain.operations in
     let mid = c.sweep.new.self in
     let stood = behind-holds (ops s.engine.domain) (ops mid.domain) (ap ops c.sweep.ensures.domain) s.engine.store mid.store c.sweep.ensures.swept s.book in
     let new = c.step_now.new.self in
     subst (λ d. IsStepOf (ops d) m (Holds (ops new.engine.domain) new.engine.store new.book) c.args.most (ticket_of c.args.ticket m.tickets) c.step_now.result) c.sweep.ensures.domain
-    (c.step_now.ensures.steps m (stood m h))
+    (c.step_now.ensures.steps m (stood m h)))
 
 pub returns-clause-sound : goal.returns-clause-sound
-returns-clause-sound g c = λ m h.
-    let s = c.args.self.now in
+returns-clause-sound g c = rw (← c.self.view_is) (λ m h.
+    let s = c.self.inside.parts in
     let ops = g.D.Domain.operations in
     let mid = c.sweep.new.self in
     let stood = behind-holds (ops s.engine.domain) (ops mid.domain) (ap ops c.sweep.ensures.domain) s.engine.store mid.store c.sweep.ensures.swept s.book in
-    subst (λ d. IfOk c.step_now.result (λ turn. IfSome (ticket_of c.args.ticket m.tickets) (λ t. CoversDone (g.D.Domain.covers d) (routines_of c.args.self.now.book.history.now) t turn))) c.sweep.ensures.domain
-    (c.step_now.ensures.sound m (stood m h))
+    subst (λ d. IfOk c.step_now.result (λ turn. IfSome (ticket_of c.args.ticket m.tickets) (λ t. CoversDone (g.D.Domain.covers d) (routines_of c.self.inside.parts.book.history.now) t turn))) c.sweep.ensures.domain
+    (c.step_now.ensures.sound m (stood m h)))
 
 pub returns-clause-ticked : goal.returns-clause-ticked
-returns-clause-ticked g c = λ m h.
-    let s = c.args.self.now in
+returns-clause-ticked g c = rw (← c.self.view_is) (λ m h.
+    let s = c.self.inside.parts in
     let ops = g.D.Domain.operations in
     let mid = c.sweep.new.self in
     let stood = behind-holds (ops s.engine.domain) (ops mid.domain) (ap ops c.sweep.ensures.domain) s.engine.store mid.store c.sweep.ensures.swept s.book in
     subst (λ d. IfOk c.step_now.result (λ turn. IfSome (ticket_of c.args.ticket m.tickets) (λ t. c.step_now.new.steps ≤ c.args.steps.now + g.D.Domain.counted d * work_of (ops d) m t turn))) c.sweep.ensures.domain
-    (c.step_now.ensures.ticked m (stood m h))
+    (c.step_now.ensures.ticked m (stood m h)))
 
 pub returns-clause-most : goal.returns-clause-most
-returns-clause-most g c = λ m h.
-    let s = c.args.self.now in
+returns-clause-most g c = rw (← c.self.view_is) (λ m h.
+    let s = c.self.inside.parts in
     let ops = g.D.Domain.operations in
     let mid = c.sweep.new.self in
     let stood = behind-holds (ops s.engine.domain) (ops mid.domain) (ap ops c.sweep.ensures.domain) s.engine.store mid.store c.sweep.ensures.swept s.book in
     let new = c.step_now.new.self.engine.store in
-    let old = c.args.self.now.engine.store in
+    let old = c.self.inside.parts.engine.store in
     let same = swept-added old c.sweep.new.self.store new c.sweep.ensures.swept in
     subst (λ d. MatchOption (ticket_of c.args.ticket m.tickets) (c.step_now.new.steps ≡ c.args.steps.now) (λ t. c.step_now.new.steps ≤ c.args.steps.now + g.D.Domain.counted d * suc (cells_added old new + 2 * length (targets_of m t.at t.string)))) c.sweep.ensures.domain
     (subst (λ n. MatchOption (ticket_of c.args.ticket m.tickets) (c.step_now.new.steps ≡ c.args.steps.now) (λ t. c.step_now.new.steps ≤ c.args.steps.now + g.D.Domain.counted c.sweep.new.self.domain * suc (n + 2 * length (targets_of m t.at t.string)))) same
-    (c.step_now.ensures.most m (stood m h)))
+    (c.step_now.ensures.most m (stood m h))))

@@ -10,19 +10,21 @@ use Rattle.daig_session.proofs.session.Session.ticket_at.Goals as goal
 
 pub returns-in-None : goal.returns-in-None
 returns-in-None g c =
-    let s = c.args.self.now in
-    record { is = λ m h. sym (ap (option_map (λ (t : Ticket). t.at)) (no_ticket (g.D.Domain.operations s.engine.domain) s.engine.store s.book m c.args.ticket h c.in-None.ensures.is)) }
+    rw (← c.self.view_is) (
+    let s = c.self.inside.parts in
+    record { is = λ m h. sym (ap (option_map (λ (t : Ticket). t.at)) (no_ticket (g.D.Domain.operations s.engine.domain) s.engine.store s.book m c.args.ticket h c.in-None.ensures.is)) })
 
 pub index-one-requires : goal.index-one-requires
 index-one-requires g c =
-    let os = c.args.self.now.book.tickets.open_ones in
+    let os = c.self.inside.parts.book.tickets.open_ones in
     let at = c.in-Some.ensures.is in
     let within = slice_get_within os.items c.in-Some.place at.one at.there in
     omega (arith, within, os.ok.0)
 
 pub returns-in-Some : goal.returns-in-Some
 returns-in-Some g c =
-    let s = c.args.self.now in
+    rw (← c.self.view_is) (
+    let s = c.self.inside.parts in
     let at = c.in-Some.ensures.is in
     let is = read_is s.book.tickets.open_ones.items c.in-Some.place c.index-one.result.now at.one c.index-one.ensures at.there in
-    record { is = λ m h. ap (λ (o : OpenTicket Going). Some o.at) is ∙ sym (ap (option_map (λ (t : Ticket). t.at)) (ticket_here (g.D.Domain.operations s.engine.domain) s.engine.store s.book m c.args.ticket c.in-Some.place at.one h c.requires.ready.order.are_open at.there at.same)) }
+    record { is = λ m h. ap (λ (o : OpenTicket Going). Some o.at) is ∙ sym (ap (option_map (λ (t : Ticket). t.at)) (ticket_here (g.D.Domain.operations s.engine.domain) s.engine.store s.book m c.args.ticket c.in-Some.place at.one h c.self.invariant.order.are_open at.there at.same)) })

@@ -6,8 +6,9 @@ use Rattle.edit_history.specs.After.{changed_program, Leads, LeadsOn}
 use Rattle.edit_keeps.specs.Apart.{flow_of}
 use Rattle.daig_query.specs.Right.{IsRight}
 use Rattle.daig_session.specs.Moves.{IsMoving, IsNearest}
+use Rattle.daig_session.specs.Sides.{programs_of}
 use Rattle.daig_session.proofs.Moved.{leads_first, moving_first}
-use Rattle.daig_session.proofs.session.Session.nearest_move.Goals as goal
+use Rattle.daig_session.proofs.parts.Parts.nearest_move.Goals as goal
 
 pub planned_move-requires-clause-right : goal.planned_move-requires-clause-right
 planned_move-requires-clause-right g c =
@@ -18,9 +19,10 @@ pub planned_move-requires-clause-leads : goal.planned_move-requires-clause-leads
 planned_move-requires-clause-leads g c =
     let b = c.args.self.now.book in
     let h = b.history in
-    let near : LeadsOn h.places h.now c.in-Some.change.now c.requires.leads.0 = subst (λ o. IsNearest b o (λ c. c.now) c.requires.leads.0) c.in-Some.is c.requires.leads.1 in
+    let side = programs_of c.args.side b in
+    let near : LeadsOn h.places h.now c.in-Some.change.now side = c.in-Some.ensures.is in
     subst (λ r. Leads r c.table-table.result.now.program c.in-Some.change.now) (sym c.table-table.ensures.places) (
-    subst (λ (p : List Procedure). Leads h.places p c.in-Some.change.now) (sym c.table-table.ensures.is) (leads_first h.places h.now c.in-Some.change.now c.requires.leads.0 near))
+    subst (λ (p : List Procedure). Leads h.places p c.in-Some.change.now) (sym c.table-table.ensures.is) (leads_first h.places h.now c.in-Some.change.now side near))
 
 pub planned_move-requires-clause-set : goal.planned_move-requires-clause-set
 planned_move-requires-clause-set g c =
@@ -28,9 +30,10 @@ planned_move-requires-clause-set g c =
     subst (λ (p : List Procedure). b.setting ≡ setting_of b.setting.engine (routines_of p)) (sym c.table-table.ensures.is) c.requires.ready.order.set
 
 pub returns-clause-moving : goal.returns-clause-moving
-returns-clause-moving g c = λ side is.
+returns-clause-moving g c =
     let s = c.args.self.now in
     let h = s.book.history in
-    let near : LeadsOn h.places h.now c.in-Some.change.now side = subst (λ o. IsNearest s.book o (λ c. c.now) side) c.in-Some.is is in
+    let side = programs_of c.args.side s.book in
+    let near : LeadsOn h.places h.now c.in-Some.change.now side = c.in-Some.ensures.is in
     moving_first s.engine.store s.book.setting.engine h.places h.now c.in-Some.change.now side c.in_ok-moving.moving near (
     subst (λ (p : List Procedure). IsMoving s.engine.store s.book.setting.engine p (changed_program p c.in-Some.change.now) c.in_ok-moving.moving) c.table-table.ensures.is c.in_ok-moving.ensures.moving)

@@ -15,7 +15,7 @@ use Rattle.daig_session.specs.Holds.{Holds}
 use Rattle.daig_session.specs.Turns.{work_of, CoversDone, IsStepOf}
 use Rattle.daig_session.proofs.Answering.{answer_here, between_none}
 use Rattle.daig_session.proofs.Ticketed.{closed_holds, closed_ready, no_ticket, ticket_here, without_flow, without_holds, without_ready, without_there}
-use Rattle.daig_session.proofs.session.Session.step_now.Goals as goal
+use Rattle.daig_session.proofs.parts.Parts.step_now.Goals as goal
 
 pub returns-in_default-clause-steps : goal.returns-in_default-clause-steps
 returns-in_default-clause-steps g c = λ m h.

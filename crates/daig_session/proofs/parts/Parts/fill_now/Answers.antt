@@ -16,7 +16,7 @@ use Rattle.daig_session.specs.Reports.{IsUnticked}
 use Rattle.daig_session.specs.Turns.{Fails}
 use Rattle.daig_session.proofs.Answering.{between_some, fails_refused, no_steps}
 use Rattle.daig_session.proofs.Filled.{asked_holds, fills_ready, missing_here}
-use Rattle.daig_session.proofs.session.Session.fill_now.Goals as goal
+use Rattle.daig_session.proofs.parts.Parts.fill_now.Goals as goal
 
 pub begun-requires : goal.begun-requires
 begun-requires g c =

@@ -11,7 +11,7 @@ use Rattle.daig_session.specs.Books.{AreBelow}
 use Rattle.daig_session.specs.Moves.{IsMoving}
 use Rattle.daig_session.proofs.Accepted.{low_after}
 use Rattle.daig_session.proofs.Moved.{plan_after, plan_leads}
-use Rattle.daig_session.proofs.session.Session.planned.Goals as goal
+use Rattle.daig_session.proofs.parts.Parts.planned.Goals as goal
 
 pub apply-requires-clause-positive : goal.apply-requires-clause-positive
 apply-requires-clause-positive g c = c.requires.ready.order.some

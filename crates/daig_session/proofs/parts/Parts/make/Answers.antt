@@ -8,7 +8,7 @@ use Rattle.daig_session.specs.Holds.{Holds, IsReady}
 use Rattle.daig_query.proofs.Sweeps.{right-in-tables}
 use Rattle.daig_session.specs.Books.{flow_in}
 use Rattle.daig_session.proofs.Moved.{edit_apart, edit_holds, edit_ready}
-use Rattle.daig_session.proofs.session.Session.make.Goals as goal
+use Rattle.daig_session.proofs.parts.Parts.make.Goals as goal
 
 pub leave-requires : goal.leave-requires
 leave-requires g c =

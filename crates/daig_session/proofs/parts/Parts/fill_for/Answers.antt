@@ -10,7 +10,7 @@ use Rattle.daig_session.specs.Books.{flow_in}
 use Rattle.daig_session.specs.Holds.{Holds}
 use Rattle.daig_session.specs.Turns.{Fails}
 use Rattle.daig_session.proofs.Swept.{behind-holds, behind-ready, swept-added}
-use Rattle.daig_session.proofs.session.Session.fill_for.Goals as goal
+use Rattle.daig_session.proofs.parts.Parts.fill_for.Goals as goal
 
 pub sweep-requires : goal.sweep-requires
 sweep-requires g c =

@@ -10,7 +10,7 @@ use Rattle.daig_session.specs.Going.{IsGoing, IsRefused}
 use Rattle.daig_session.proofs.Answering.{answer_here}
 use Rattle.daig_session.proofs.Asked.{too_long}
 use Rattle.daig_session.proofs.Ticketed.{ask_refused, tickets_count}
-use Rattle.daig_session.proofs.session.Session.asked_going.Goals as goal
+use Rattle.daig_session.proofs.parts.Parts.asked_going.Goals as goal
 
 pub returns-then-string-gt2-clause-unopened : goal.returns-then-string-gt2-clause-unopened
 returns-then-string-gt2-clause-unopened g c = λ m h.

@@ -18,7 +18,7 @@ use Rattle.daig_session.proofs.Stepped.{all_of, as_many_as, is_more}
 use Rattle.daig_session.proofs.TicketLemmas.{numbers_set, still_open, tickets_set}
 use Rattle.daig_session.proofs.Ticketed.{closed_ready, done_holds, pending_holds, ticketed_ready}
 use Rattle.daig_session.proofs.Waiting.{waiting_get, waiting_set}
-use Rattle.daig_session.proofs.session.Session.step_on.Goals as goal
+use Rattle.daig_session.proofs.parts.Parts.step_on.Goals as goal
 use Rattle.std.proofs.lemmas.Option.{same_Some, slice_get_within}
 
 pub fill_some-requires-clause-going : goal.fill_some-requires-clause-going
