@@ -6,6 +6,7 @@ ghost use Rattle.dbm_narrow.specs.Held.{IsSmallOf};
 ghost use Rattle.dbm_narrow.specs.Lowerings.{HasOwnWeights};
 ghost use Rattle.dbm_narrow.specs.Rounds.{IsNarrow};
 
+use crate::width::Width;
 use crate::closing::ClosingResult;
 use crate::lower::lower;
 use crate::steps::finish;
@@ -14,20 +15,20 @@ use dbm_incremental::Bound;
 
 /// The bound in 32 bits, if it lies within the limits.
 #[inline]
-pub fn small_bound(bound: i128) -> Option<i32>
+pub fn small_bound<W: Width>(bound: i128) -> Option<W>
     ensures small { IsSmallOf bound result }
 {
-    if bound < -33554432 {
+    if bound < W::LEAST.number() {
         return None;
     }
-    if bound > 33554432 {
+    if W::GREATEST.number() < bound {
         return None;
     }
-    Some(bound as i32)
+    Some(W::of(bound))
 }
 
 /// Lowers the bounds, in place. After an answer other than `Done` the entries are of no use.
-pub fn lower_all(kinds: &[bool], entries: &mut [i32], bounds: &[Bound]) -> Walks
+pub fn lower_all<W: Width>(kinds: &[bool], entries: &mut [W], bounds: &[Bound]) -> Walks
     requires narrow { IsNarrow kinds.now entries.old }
     requires weights { HasOwnWeights kinds.now entries.old }
     requires bounds { AreBounds (2 * length kinds.now) bounds.now }
@@ -48,18 +49,14 @@ pub fn lower_all(kinds: &[bool], entries: &mut [i32], bounds: &[Bound]) -> Walks
 
 /// Closes the entries with the bounds lowered, in place. After an answer other than `Closed` they are
 /// of no use.
-pub fn close_lowered(kinds: &[bool], entries: &mut [i32], bounds: &[Bound]) -> ClosingResult
+pub fn close_lowered<W: Width>(kinds: &[bool], entries: &mut [W], bounds: &[Bound]) -> ClosingResult
     requires narrow { IsNarrow kinds.now entries.old }
     requires weights { HasOwnWeights kinds.now entries.old }
     requires bounds { AreBounds (2 * length kinds.now) bounds.now }
     ensures outcome { IsLoweredOutcome kinds.now entries.old entries.new bounds.now result }
 {
     match lower_all(kinds, entries, bounds) {
-        Walks::Done => if finish(kinds, entries) {
-            ClosingResult::Closed
-        } else {
-            ClosingResult::Empty
-        },
+        Walks::Done => finish(kinds, entries),
         Walks::Negative => ClosingResult::Empty,
         Walks::TooWide => ClosingResult::TooWide,
     }

@@ -4,20 +4,21 @@ ghost use Rattle.dbm_core.specs.Half.{row_start, row_width};
 ghost use Rattle.dbm_narrow.specs.Between.{IsBetween};
 ghost use Rattle.dbm_narrow.specs.Entries.{AreEntries, at};
 
+use crate::width::Width;
 use crate::rows::place;
 
 /// The bounds from a slot's two nodes to those of another.
 #[derive(Clone, Copy)]
-pub struct Between {
-    pub first_even: i32,
-    pub first_odd: i32,
-    pub second_even: i32,
-    pub second_odd: i32,
+pub struct Between<W> {
+    pub first_even: W,
+    pub first_odd: W,
+    pub second_even: W,
+    pub second_odd: W,
 }
 
 /// The bounds from the nodes of slot q to those of another, or of its own.
 #[inline]
-pub fn bounds_between(entries: &[i32], slots: usize, q: usize, slot: usize) -> Between
+pub fn bounds_between<W: Width>(entries: &[W], slots: usize, q: usize, slot: usize) -> Between<W>
     requires few { slots ≤ 16 }
     requires middle { q < slots }
     requires slot { slot < slots }
@@ -43,7 +44,7 @@ pub fn bounds_between(entries: &[i32], slots: usize, q: usize, slot: usize) -> B
 
 // The entry of a kept pair.
 #[inline]
-fn kept_at(entries: &[i32], slots: usize, i: usize, j: usize) -> i32
+fn kept_at<W: Width>(entries: &[W], slots: usize, i: usize, j: usize) -> W
     requires few { slots ≤ 16 }
     requires row { i < 2 * slots }
     requires column { j < row_width i }

@@ -5,6 +5,7 @@ ghost use Rattle.dbm_incremental.specs.ClosedMatrices.{IsClosed, IsStrong};
 ghost use Rattle.dbm_narrow.specs.Carried.{IsClosingStood};
 ghost use Rattle.dbm_narrow.specs.Closed.{IsClosing};
 
+use crate::width::Width;
 use crate::Narrow;
 use crate::closed::Closing;
 use crate::closing::{ClosingResult, close_strong};
@@ -14,13 +15,13 @@ use std::alloc::Global;
 
 /// A closed matrix in which slot q stands for node y plus c, its own or another's, closed: it stays as
 /// it is, unless a range is empty.
-pub fn close_carried(
+pub fn close_carried<W: Width>(
     alloc: Global,
-    closed: &Narrow,
+    closed: &Narrow<W>,
     q: usize,
     y: usize,
     c: i128,
-) -> Result<Closing, Memory>
+) -> Result<Closing<W>, Memory>
     requires slot { q < length closed.now.kinds }
     requires node { y < nodes closed.now }
     requires closed { IsClosed closed.now }
@@ -34,7 +35,7 @@ pub fn close_carried(
 }
 
 // Closes the matrix that is made.
-fn close_set(set: Narrow) -> Closing
+fn close_set<W: Width>(set: Narrow<W>) -> Closing<W>
     requires strong { IsStrong (nodes set) (entry set) }
     ensures closing { IsClosing set result }
 {

@@ -6,6 +6,7 @@ ghost use Rattle.dbm_incremental.specs.ClosedMatrices.{IsClosed, IsWhole};
 ghost use Rattle.dbm_incremental.specs.Steps.{AreBounds};
 ghost use Rattle.dbm_narrow.specs.Closed.{IsClosing, IsClosingEquated, IsClosingLowered};
 
+use crate::width::Width;
 use crate::Narrow;
 use crate::adding::close_lowered;
 use crate::closing::{ClosingResult, close_entries, close_own};
@@ -16,18 +17,18 @@ use std::alloc::Global;
 
 /// What closing answers.
 #[derive(Drop)]
-pub enum Closing {
+pub enum Closing<W: Width> {
     /// No values satisfy the matrix.
     Empty,
     /// The closed matrix.
-    Matrix(Narrow),
+    Matrix(Narrow<W>),
     /// A bound has left the limits: nothing is said.
     TooWide,
 }
 
 /// Closes a matrix whose diagonal is 0 or less, as the definition of closing says, unless a bound
 /// leaves the limits on the way.
-pub fn close(alloc: Global, m: &Narrow) -> Result<Closing, Memory>
+pub fn close<W: Width>(alloc: Global, m: &Narrow<W>) -> Result<Closing<W>, Memory>
     requires diagonal { IsZeroAtMost (nodes m.now) (entry m.now) }
     ensures closing { IfOk result (IsClosing m.now) }
 {
@@ -42,7 +43,7 @@ pub fn close(alloc: Global, m: &Narrow) -> Result<Closing, Memory>
 
 /// Closes a matrix that obeys the triangle law: its entries are the least weights of its walks, so this
 /// is one pass of tightening and strengthening.
-pub fn close_whole(alloc: Global, m: &Narrow) -> Result<Closing, Memory>
+pub fn close_whole<W: Width>(alloc: Global, m: &Narrow<W>) -> Result<Closing<W>, Memory>
     requires diagonal { HasZeroDiagonal (nodes m.now) (entry m.now) }
     requires whole { IsWhole m.now }
     ensures closing { IfOk result (IsClosing m.now) }
@@ -57,11 +58,11 @@ pub fn close_whole(alloc: Global, m: &Narrow) -> Result<Closing, Memory>
 }
 
 /// Closes a closed matrix with bounds lowered, once, unless a bound leaves the limits on the way.
-pub fn close_after_bounds(
+pub fn close_after_bounds<W: Width>(
     alloc: Global,
-    closed: &Narrow,
+    closed: &Narrow<W>,
     bounds: &[Bound],
-) -> Result<Closing, Memory>
+) -> Result<Closing<W>, Memory>
     requires bounds { AreBounds (nodes closed.now) bounds.now }
     requires closed { IsClosed closed.now }
     ensures closing { IfOk result (IsClosingLowered closed.now bounds.now) }
@@ -77,13 +78,13 @@ pub fn close_after_bounds(
 
 /// Closes a closed matrix in which slot q's bounds are dropped and q is made node y, of another slot,
 /// plus c, unless a bound leaves the limits on the way.
-pub fn close_equation(
+pub fn close_equation<W: Width>(
     alloc: Global,
-    closed: &Narrow,
+    closed: &Narrow<W>,
     q: usize,
     y: usize,
     c: i128,
-) -> Result<Closing, Memory>
+) -> Result<Closing<W>, Memory>
     requires slot { q < length closed.now.kinds }
     requires node { y < nodes closed.now }
     requires apart { y / 2 ≢ q }

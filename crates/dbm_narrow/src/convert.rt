@@ -3,16 +3,17 @@ ghost use Rattle.std.specs.Prelude.{◌≡◌, ◌<◌, IfOk};
 ghost use Rattle.dbm_core.specs.Half.{entry, nodes};
 ghost use Rattle.dbm_narrow.specs.Held.{IsEntryOf, IsNarrowOf};
 
+use crate::width::Width;
 use crate::Narrow;
 use crate::adding::small_bound;
-use crate::entries::NONE;
+use crate::entries::wide_bound;
 use crate::kinds::Kinds;
 use base_values::Memory;
 use dbm_core::Matrix;
 use std::alloc::Global;
 
 /// The matrix in narrow entries, None exactly where a bound lies outside the limits.
-pub fn narrowed(alloc: Global, matrix: &Matrix) -> Result<Option<Narrow>, Memory>
+pub fn narrowed<W: Width>(alloc: Global, matrix: &Matrix) -> Result<Option<Narrow<W>>, Memory>
     ensures same { IfOk result (IsNarrowOf matrix.now) }
 {
     let kept = matrix.kept();
@@ -28,17 +29,68 @@ pub fn narrowed(alloc: Global, matrix: &Matrix) -> Result<Option<Narrow>, Memory
 }
 
 /// The entry of a bound, if it lies within the limits.
-pub fn narrow_entry(bound: Option<i128>) -> Option<i32>
+pub fn narrow_entry<W: Width>(bound: Option<i128>) -> Option<W>
     ensures entry { IsEntryOf bound result }
 {
     match bound {
-        None => Some(NONE),
+        None => Some(W::NONE),
         Some(x) => small_bound(x),
     }
 }
 
+/// The same matrix in entries of another width, None exactly where a bound lies outside its limits.
+pub fn refitted<V: Width, W: Width>(
+    alloc: Global,
+    matrix: &Narrow<V>,
+) -> Result<Option<Narrow<W>>, Memory> {
+    let from = matrix.entries.as_slice();
+    for k in 0..from.len() {
+        if !fits::<W>(wide_bound(from[k])) {
+            return Ok(None);
+        }
+    }
+    let mut entries = Vec::with_capacity(alloc, from.len())?;
+    for k in 0..from.len() {
+        entries.push(entry_of(wide_bound(from[k])))?;
+    }
+    let kinds = matrix.kinds.share()?;
+    Ok(Some(Narrow { kinds, entries }))
+}
+
+#[inline]
+fn fits<W: Width>(bound: Option<i128>) -> bool {
+    match bound {
+        None => true,
+        Some(x) => W::LEAST.number() <= x && x <= W::GREATEST.number(),
+    }
+}
+
+#[inline]
+fn entry_of<W: Width>(bound: Option<i128>) -> W {
+    match bound {
+        None => W::NONE,
+        Some(x) => W::of(x),
+    }
+}
+
+/// Whether no entry is 2^63 or more.
+pub fn is_near<W: Width>(matrix: &Narrow<W>) -> bool {
+    let entries = matrix.entries.as_slice();
+    for k in 0..entries.len() {
+        match wide_bound(entries[k]) {
+            None => {}
+            Some(x) => {
+                if x >= 9223372036854775808 {
+                    return false;
+                }
+            }
+        }
+    }
+    true
+}
+
 /// The same matrix in the entries of `dbm_core`.
-pub fn widened(alloc: Global, narrow: &Narrow) -> Result<Matrix, Memory>
+pub fn widened<W: Width>(alloc: Global, narrow: &Narrow<W>) -> Result<Matrix, Memory>
     ensures same { IfOk result (λ m. m ≡ narrow.now) }
 {
     let kinds = narrow.kinds();

@@ -5,14 +5,14 @@ ghost use Rattle.dbm_narrow.specs.Entries.{AreEntries, dropped};
 ghost use Rattle.dbm_narrow.specs.Held.{Forgets};
 ghost use Rattle.dbm_narrow.specs.Rows.{EachIs, RestStays, RowIs, RowsAre};
 
+use crate::width::Width;
 use crate::Narrow;
-use crate::entries::NONE;
 use crate::rows::{row_at, row_len};
 use base_values::Memory;
 use std::alloc::Global;
 
 /// The bounds on a slot dropped: the slot may then have any value. The diagonal stays.
-pub fn forget(alloc: Global, narrow: &Narrow, slot: usize) -> Result<Narrow, Memory>
+pub fn forget<W: Width>(alloc: Global, narrow: &Narrow<W>, slot: usize) -> Result<Narrow<W>, Memory>
     ensures entries { IfOk result (Forgets narrow.now slot) }
 {
     let kinds = narrow.kinds.share()?;
@@ -23,7 +23,7 @@ pub fn forget(alloc: Global, narrow: &Narrow, slot: usize) -> Result<Narrow, Mem
 
 // Drops the bounds on the slot, in place.
 #[inline]
-fn drop_rows(entries: &mut [i32], slots: usize, slot: usize)
+fn drop_rows<W: Width>(entries: &mut [W], slots: usize, slot: usize)
     requires few { slots ≤ 16 }
     requires size { length entries.old ≡ row_start (2 * slots) }
     requires entries { AreEntries (2 ^ 25) entries.old }
@@ -37,7 +37,7 @@ fn drop_rows(entries: &mut [i32], slots: usize, slot: usize)
 
 // The same in row i.
 #[inline]
-fn drop_row(entries: &mut [i32], i: usize, slot: usize)
+fn drop_row<W: Width>(entries: &mut [W], i: usize, slot: usize)
     requires row { i < 32 }
     requires size { row_start i + row_width i ≤ length entries.old }
     requires entries { AreEntries (2 ^ 25) entries.old }
@@ -53,7 +53,7 @@ fn drop_row(entries: &mut [i32], i: usize, slot: usize)
 
 // The same of the row itself.
 #[inline]
-fn drop_each(row: &mut [i32], i: usize, slot: usize)
+fn drop_each<W: Width>(row: &mut [W], i: usize, slot: usize)
     requires size { length row.old ≤ 32 }
     requires row { AreEntries (2 ^ 25) row.old }
     ensures kept { EachIs (dropped slot i) row.old row.new }
@@ -66,17 +66,17 @@ fn drop_each(row: &mut [i32], i: usize, slot: usize)
 
 // An entry without the bounds on the slot.
 #[inline]
-fn dropped_entry(slot: usize, i: usize, j: usize, entry: i32) -> i32
+fn dropped_entry<W: Width>(slot: usize, i: usize, j: usize, entry: W) -> W
     ensures value { result ≡ dropped slot i j entry }
 {
     if i == j {
         return entry;
     }
     if i / 2 == slot {
-        return NONE;
+        return W::NONE;
     }
     if j / 2 == slot {
-        return NONE;
+        return W::NONE;
     }
     entry
 }

@@ -3,7 +3,7 @@ ghost use Rattle.std.specs.Prelude.{◌≡◌};
 ghost use Rattle.std.specs.List.{fold};
 ghost use Rattle.dbm_narrow.specs.Feeding.{bound_number, bounds_fed, entries_fed, matrix_fed};
 
-use crate::entries::NONE;
+use crate::width::Width;
 use dbm_core::Matrix;
 use std::hash::Hasher;
 
@@ -28,7 +28,7 @@ fn number_of(bound: Option<i128>) -> i64
     ensures value { result ≡ bound_number bound }
 {
     match bound {
-        None => i64::from(NONE),
+        None => 536870912,
         Some(x) => {
             if x < -9223372036854775808 {
                 0
@@ -43,10 +43,10 @@ fn number_of(bound: Option<i128>) -> i64
 
 /// Feeds a hasher narrow entries.
 #[inline]
-pub fn feed_entries<H: Hasher>(entries: &[i32], state: &mut H)
+pub fn feed_entries<W: Width, H: Hasher>(entries: &[W], state: &mut H)
     ensures fed { state.new ≡ fold H.write state.old (entries_fed entries.now) }
 {
     for k in 0..entries.len() {
-        state.write_i64(i64::from(entries[k]));
+        state.write_i64(entries[k].fed());
     }
 }

@@ -5,13 +5,14 @@ ghost use Rattle.dbm_core.specs.Operations.{joined};
 ghost use Rattle.dbm_narrow.specs.Entries.{AreEntries};
 ghost use Rattle.dbm_narrow.specs.Rows.{AreGreater};
 
+use crate::width::Width;
 use crate::Narrow;
 use crate::entries::greater;
 use base_values::Memory;
 use std::alloc::Global;
 
 /// The greater of the two bounds at each pair: the result fits, as both do.
-pub fn join(alloc: Global, left: &Narrow, right: &Narrow) -> Result<Narrow, Memory>
+pub fn join<W: Width>(alloc: Global, left: &Narrow<W>, right: &Narrow<W>) -> Result<Narrow<W>, Memory>
     requires same_kinds { right.now.kinds ≡ left.now.kinds }
     ensures entries { IfOk result (HasEntries left.now.kinds (joined left.now right.now)) }
 {
@@ -23,7 +24,7 @@ pub fn join(alloc: Global, left: &Narrow, right: &Narrow) -> Result<Narrow, Memo
 
 // Makes each entry at least the other's.
 #[inline]
-fn raise(entries: &mut [i32], others: &[i32])
+fn raise<W: Width>(entries: &mut [W], others: &[W])
     requires size { length others.now ≡ length entries.old }
     requires entries { AreEntries (2 ^ 25) entries.old }
     requires others { AreEntries (2 ^ 25) others.now }

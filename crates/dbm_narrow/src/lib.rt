@@ -31,10 +31,11 @@ mod stands;
 mod steps;
 mod walks;
 mod widening;
+mod width;
 
 pub use carried::close_carried;
 pub use closed::{Closing, close, close_after_bounds, close_equation, close_whole};
-pub use convert::{narrowed, widened};
+pub use convert::{is_near, narrowed, refitted, widened};
 pub use dropping::forget;
 pub use feeding::feed_matrix;
 pub use joins::join;
@@ -43,3 +44,4 @@ pub use narrow::Narrow;
 pub use ranges::slot_range;
 pub use stands::stood;
 pub use widening::widen;
+pub use width::Width;

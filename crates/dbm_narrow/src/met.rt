@@ -8,13 +8,14 @@ ghost use Rattle.dbm_narrow.specs.Addings.{AllLowered};
 ghost use Rattle.dbm_narrow.specs.Lowerings.{HasOwnWeights};
 ghost use Rattle.dbm_narrow.specs.Rounds.{IsNarrow};
 
+use crate::width::Width;
 use crate::Narrow;
 use crate::adding::small_bound;
 use crate::rows::entry_at;
 use dbm_incremental::Bound;
 
 /// Whether a closed matrix has each of the bounds anyway: closing it with them gives it again.
-pub fn meets(closed: &Narrow, bounds: &[Bound]) -> bool
+pub fn meets<W: Width>(closed: &Narrow<W>, bounds: &[Bound]) -> bool
     requires bounds { AreBounds (nodes closed.now) bounds.now }
     requires closed { IsClosed closed.now }
     ensures met { result ≡ true → ClosesAllLowered closed.now bounds.now (wide.Matrix closed.now) }
@@ -23,7 +24,7 @@ pub fn meets(closed: &Narrow, bounds: &[Bound]) -> bool
 }
 
 // The same over entries.
-fn are_met(kinds: &[bool], entries: &[i32], bounds: &[Bound]) -> bool
+fn are_met<W: Width>(kinds: &[bool], entries: &[W], bounds: &[Bound]) -> bool
     requires narrow { IsNarrow kinds.now entries.now }
     requires weights { HasOwnWeights kinds.now entries.now }
     requires bounds { AreBounds (2 * length kinds.now) bounds.now }
@@ -31,11 +32,11 @@ fn are_met(kinds: &[bool], entries: &[i32], bounds: &[Bound]) -> bool
 {
     let slots = kinds.len();
     for bound in bounds {
-        match small_bound(bound.bound) {
+        match small_bound::<W>(bound.bound) {
             None => return false,
             Some(small) => {
                 let current = entry_at(entries, slots, bound.row, bound.column);
-                if small < current {
+                if small.is_less(current) {
                     return false;
                 }
             }

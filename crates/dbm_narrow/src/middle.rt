@@ -8,28 +8,29 @@ ghost use Rattle.dbm_narrow.specs.Putting.{IsNarrowBetween, PutsFrom, PutsTo, Pu
 ghost use Rattle.dbm_narrow.specs.Rounds.{IsNarrow};
 ghost use Rattle.dbm_narrow.specs.Rows.{ColumnsAre, LesserFit, SumsFit, over_at, stepped_at};
 
+use crate::width::Width;
 use crate::between::{Between, bounds_between};
-use crate::entries::{NONE, lesser, plus};
+use crate::entries::{lesser, plus};
 
 /// The bounds to and from both nodes of one slot, those of the second node when walks may go
 /// through the first.
 #[derive(Drop)]
-pub struct Middle {
-    pub to_first: [i32; 32],
-    pub from_first: [i32; 32],
-    pub to_second: [i32; 32],
-    pub from_second: [i32; 32],
+pub struct Middle<W> {
+    pub to_first: [W; 32],
+    pub from_first: [W; 32],
+    pub to_second: [W; 32],
+    pub from_second: [W; 32],
 }
 
 /// What stands at the node of the other sign, of the nodes of this many slots.
 #[inline]
-pub fn flipped(row: &[i32; 32], slots: usize) -> [i32; 32]
+pub fn flipped<W: Width>(row: &[W; 32], slots: usize) -> [W; 32]
     requires few { slots ≤ 16 }
     requires entries { AreEntries (2 ^ 25) row.now }
     ensures flipped { (i : ℕ) → i < 2 * slots → at result i ≡ at row.now (flip i) }
     ensures beyond { (i : ℕ) → 2 * slots ≤ i → at result i ≡ none }
 {
-    let mut turned = [NONE; 32];
+    let mut turned = [W::NONE; 32];
     for slot in 0..slots {
         turned[2 * slot] = row[2 * slot + 1];
         turned[2 * slot + 1] = row[2 * slot];
@@ -39,14 +40,14 @@ pub fn flipped(row: &[i32; 32], slots: usize) -> [i32; 32]
 
 /// Each entry, or where it is less, the sum of a step and the next one.
 #[inline]
-pub fn over(row: &[i32; 32], step: i32, next: &[i32; 32]) -> [i32; 32]
+pub fn over<W: Width>(row: &[W; 32], step: W, next: &[W; 32]) -> [W; 32]
     requires row { AreEntries (2 ^ 25) row.now }
     requires step { IsEntry (2 ^ 26) step }
     requires next { AreEntries (2 ^ 26) next.now }
     ensures over { ColumnsAre 32 (over_at row.now step next.now) result }
     ensures entries { LesserFit step next.now result }
 {
-    let mut sums = [NONE; 32];
+    let mut sums = [W::NONE; 32];
     for j in 0..32 {
         sums[j] = lesser(row[j], plus(step, next[j]));
     }
@@ -55,13 +56,13 @@ pub fn over(row: &[i32; 32], step: i32, next: &[i32; 32]) -> [i32; 32]
 
 /// Each entry and a step.
 #[inline]
-pub fn stepped(step: i32, row: &[i32; 32]) -> [i32; 32]
+pub fn stepped<W: Width>(step: W, row: &[W; 32]) -> [W; 32]
     requires step { IsEntry (2 ^ 27) step }
     requires row { AreEntries (2 ^ 27) row.now }
     ensures sums { ColumnsAre 32 (stepped_at step row.now) result }
     ensures entries { SumsFit step row.now result }
 {
-    let mut sums = [NONE; 32];
+    let mut sums = [W::NONE; 32];
     for j in 0..32 {
         sums[j] = plus(step, row[j]);
     }
@@ -70,20 +71,20 @@ pub fn stepped(step: i32, row: &[i32; 32]) -> [i32; 32]
 
 /// A middle to be filled.
 #[inline]
-pub fn no_middle() -> Middle
+pub fn no_middle<W: Width>() -> Middle<W>
     ensures entries { IsNarrowMiddle result }
 {
     Middle {
-        to_first: [NONE; 32],
-        from_first: [NONE; 32],
-        to_second: [NONE; 32],
-        from_second: [NONE; 32],
+        to_first: [W::NONE; 32],
+        from_first: [W::NONE; 32],
+        to_second: [W::NONE; 32],
+        from_second: [W::NONE; 32],
     }
 }
 
 /// Fills it with the bounds to and from both nodes of slot q.
 #[inline]
-pub fn fill_middle(kinds: &[bool], entries: &[i32], q: usize, middle: &mut Middle)
+pub fn fill_middle<W: Width>(kinds: &[bool], entries: &[W], q: usize, middle: &mut Middle<W>)
     requires narrow { IsNarrow kinds.now entries.now }
     requires middle { q < length kinds.now }
     requires entries { IsNarrowMiddle middle.old }
@@ -102,7 +103,7 @@ pub fn fill_middle(kinds: &[bool], entries: &[i32], q: usize, middle: &mut Middl
 // Puts the bounds from both nodes to those of another slot: `back` leads from the second node to
 // the first.
 #[inline]
-fn put_from(middle: &mut Middle, slot: usize, here: Between, back: i32)
+fn put_from<W: Width>(middle: &mut Middle<W>, slot: usize, here: Between<W>, back: W)
     requires slot { slot < 16 }
     requires narrow { IsNarrowBetween here }
     requires back { IsEntry (2 ^ 25) back }
@@ -122,7 +123,7 @@ fn put_from(middle: &mut Middle, slot: usize, here: Between, back: i32)
 // Puts the bounds to both nodes from those of another slot: `ahead` leads from the first node to
 // the second.
 #[inline]
-fn put_to(middle: &mut Middle, slot: usize, here: Between, ahead: i32)
+fn put_to<W: Width>(middle: &mut Middle<W>, slot: usize, here: Between<W>, ahead: W)
     requires slot { slot < 16 }
     requires narrow { IsNarrowBetween here }
     requires ahead { IsEntry (2 ^ 25) ahead }
@@ -141,7 +142,7 @@ fn put_to(middle: &mut Middle, slot: usize, here: Between, ahead: i32)
 
 // Puts the entries at both nodes of a slot.
 #[inline]
-fn put(row: &mut [i32; 32], slot: usize, even: i32, odd: i32)
+fn put<W: Width>(row: &mut [W; 32], slot: usize, even: W, odd: W)
     requires slot { slot < 16 }
     ensures put { PutsTwo slot even odd row.old row.new }
 {

@@ -6,6 +6,7 @@ ghost use Rattle.dbm_core.specs.Limits.{AreWithin};
 ghost use Rattle.dbm_core.specs.Same.{same_matrix, same_matrix-equiv, same_matrix-hash};
 ghost use Rattle.dbm_narrow.specs.Feeding.{matrix_fed};
 
+use crate::width::Width;
 use crate::entries::wide_bound;
 use crate::feeding::feed_entries;
 use crate::kinds::Kinds;
@@ -19,12 +20,12 @@ use std::marker::Model;
 ///
 /// Its value is that of the matrix of `dbm_core` with the same bounds.
 #[derive(Drop)]
-pub struct Narrow {
+pub struct Narrow<W: Width> {
     pub(crate) kinds: Kinds,
-    pub(crate) entries: Vec<i32>,
+    pub(crate) entries: Vec<W>,
 }
 
-impl Model for Narrow {
+impl<W: Width> Model for Narrow<W> {
     ghost use Rattle.dbm_core.specs.Half.{HalfMatrix};
     ghost use Rattle.dbm_narrow.specs.Entries.{held};
     ghost use Rattle.dbm_narrow.specs.Rounds.{IsNarrow};
@@ -37,21 +38,21 @@ impl Model for Narrow {
 }
 
 /// Two matrices are equal where their kinds and their entries are.
-impl PartialEq for Narrow {
+impl<W: Width> PartialEq for Narrow<W> {
     ghost eq = { same_matrix };
 
     ghost laws = { partial_equiv_from_equiv same_matrix-equiv };
 
-    fn eq(&self, other: &Narrow) -> bool {
+    fn eq(&self, other: &Narrow<W>) -> bool {
         self.kinds.list() == other.kinds.list() && self.entries == other.entries
     }
 }
 
-impl Eq for Narrow {
+impl<W: Width> Eq for Narrow<W> {
     ghost laws = { same_matrix-equiv };
 }
 
-impl Hash for Narrow {
+impl<W: Width> Hash for Narrow<W> {
     ghost hash_input = { matrix_fed };
 
     ghost respects_eq = { same_matrix-hash matrix_fed };
@@ -61,7 +62,7 @@ impl Hash for Narrow {
     }
 }
 
-impl Narrow {
+impl<W: Width> Narrow<W> {
     /// The kinds of the slots: true for an array's length.
     pub fn kinds(&self) -> &[bool]
         ensures value { result.now ≡ self.now.kinds }
@@ -81,7 +82,7 @@ impl Narrow {
     }
 
     /// The same matrix.
-    pub fn copy(&self, alloc: Global) -> Result<Narrow, Memory>
+    pub fn copy(&self, alloc: Global) -> Result<Narrow<W>, Memory>
         ensures same { IfOk result (λ m. m ≡ self.now) }
     {
         let kinds = self.kinds.share()?;

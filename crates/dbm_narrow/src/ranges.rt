@@ -6,13 +6,14 @@ ghost use Rattle.dbm_narrow.specs.Entries.{held};
 ghost use Rattle.dbm_narrow.specs.Held.{HoldsValues};
 ghost use Rattle.dbm_narrow.specs.Rounds.{IsNarrow};
 
+use crate::width::Width;
 use crate::Narrow;
 use crate::rows::place;
 use crate::steps::{high_end, low_end};
 
 /// The ends of a slot's range: the least and the greatest value that its own two bounds leave
 /// within the extremes of its kind. Whatever satisfies the matrix lies there.
-pub fn slot_range(narrow: &Narrow, slot: usize) -> (i64, i64)
+pub fn slot_range<W: Width>(narrow: &Narrow<W>, slot: usize) -> (i128, i128)
     requires slot { slot < length narrow.now.kinds }
     ensures low { result.0 ≡ slot_low narrow.now.kinds (entry narrow.now) slot }
     ensures high { result.1 ≡ slot_high narrow.now.kinds (entry narrow.now) slot }
@@ -24,7 +25,7 @@ pub fn slot_range(narrow: &Narrow, slot: usize) -> (i64, i64)
 }
 
 // The low end, over entries.
-fn low_of(kinds: &[bool], entries: &[i32], slot: usize) -> i64
+fn low_of<W: Width>(kinds: &[bool], entries: &[W], slot: usize) -> i128
     requires narrow { IsNarrow kinds.now entries.now }
     requires slot { slot < length kinds.now }
     ensures low { result ≡ slot_low kinds.now (entry (held kinds.now entries.now)) slot }
@@ -34,7 +35,7 @@ fn low_of(kinds: &[bool], entries: &[i32], slot: usize) -> i64
 }
 
 // The high end, over entries.
-fn high_of(kinds: &[bool], entries: &[i32], slot: usize) -> i64
+fn high_of<W: Width>(kinds: &[bool], entries: &[W], slot: usize) -> i128
     requires narrow { IsNarrow kinds.now entries.now }
     requires slot { slot < length kinds.now }
     ensures high { result ≡ slot_high kinds.now (entry (held kinds.now entries.now)) slot }

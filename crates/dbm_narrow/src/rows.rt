@@ -5,7 +5,8 @@ ghost use Rattle.dbm_core.specs.Nodes.{flip};
 ghost use Rattle.dbm_narrow.specs.Entries.{AreEntries, IsEntry, at, none, pair_at};
 ghost use Rattle.dbm_narrow.specs.Rows.{AreEntriesFrom, AreGone, EachIs, GoneThrough, strengthened_at, through_at};
 
-use crate::entries::{GREATEST, LEAST, NONE, bound_or_zero, greater, lesser, over_both, settled};
+use crate::width::Width;
+use crate::entries::{bound_or_zero, greater, lesser, over_both, settled};
 use dbm_core::other_sign;
 
 /// Where row i starts.
@@ -45,7 +46,7 @@ pub fn row_len(i: usize) -> usize
 
 /// The entry of a pair.
 #[inline]
-pub fn entry_at(entries: &[i32], slots: usize, i: usize, j: usize) -> i32
+pub fn entry_at<W: Width>(entries: &[W], slots: usize, i: usize, j: usize) -> W
     requires few { slots ≤ 16 }
     requires row { i < 2 * slots }
     requires column { j < 2 * slots }
@@ -63,7 +64,7 @@ pub fn entry_at(entries: &[i32], slots: usize, i: usize, j: usize) -> i32
 
 /// The entries of row i, whose node of the other sign is `other`; none beyond the nodes.
 #[inline]
-pub fn whole_row(entries: &[i32], slots: usize, i: usize, other: usize) -> [i32; 32]
+pub fn whole_row<W: Width>(entries: &[W], slots: usize, i: usize, other: usize) -> [W; 32]
     requires few { slots ≤ 16 }
     requires row { i < 2 * slots }
     requires other { other ≡ flip i }
@@ -72,7 +73,7 @@ pub fn whole_row(entries: &[i32], slots: usize, i: usize, other: usize) -> [i32;
     ensures entries { (j : ℕ) → j < 2 * slots → at result j ≡ pair_at entries.now i j }
     ensures beyond { (j : ℕ) → 2 * slots ≤ j → at result j ≡ none }
 {
-    let mut row = [NONE; 32];
+    let mut row = [W::NONE; 32];
     let start = row_at(i);
     let kept = row_len(i);
     for j in 0..kept {
@@ -90,12 +91,12 @@ pub fn whole_row(entries: &[i32], slots: usize, i: usize, other: usize) -> [i32;
 
 /// Walks from a node may go over both nodes of a slot, in place, four entries at a time.
 #[inline]
-pub fn go_through(
-    row: &mut [i32],
-    to_first: i32,
-    to_second: i32,
-    from_first: &[i32; 32],
-    from_second: &[i32; 32],
+pub fn go_through<W: Width>(
+    row: &mut [W],
+    to_first: W,
+    to_second: W,
+    from_first: &[W; 32],
+    from_second: &[W; 32],
 )
     requires size { length row.old ≤ 32 }
     requires even { length row.old % 2 ≡ 0 }
@@ -118,13 +119,13 @@ pub fn go_through(
 
 // The same of four entries. All are read before one is written, so that this is vector code.
 #[inline]
-fn go_four(
-    row: &mut [i32],
+fn go_four<W: Width>(
+    row: &mut [W],
     j: usize,
-    to_first: i32,
-    to_second: i32,
-    from_first: &[i32; 32],
-    from_second: &[i32; 32],
+    to_first: W,
+    to_second: W,
+    from_first: &[W; 32],
+    from_second: &[W; 32],
 )
     requires size { length row.old ≤ 32 }
     requires columns { j + 4 ≤ length row.old }
@@ -148,13 +149,13 @@ fn go_four(
 
 // The same of two.
 #[inline]
-fn go_two(
-    row: &mut [i32],
+fn go_two<W: Width>(
+    row: &mut [W],
     j: usize,
-    to_first: i32,
-    to_second: i32,
-    from_first: &[i32; 32],
-    from_second: &[i32; 32],
+    to_first: W,
+    to_second: W,
+    from_first: &[W; 32],
+    from_second: &[W; 32],
 )
     requires size { length row.old ≤ 32 }
     requires columns { j + 2 ≤ length row.old }
@@ -174,14 +175,14 @@ fn go_two(
 
 // The entry at column j when walks may go over both nodes.
 #[inline]
-fn gone_at(
-    row: &[i32],
+fn gone_at<W: Width>(
+    row: &[W],
     j: usize,
-    to_first: i32,
-    to_second: i32,
-    from_first: &[i32; 32],
-    from_second: &[i32; 32],
-) -> i32
+    to_first: W,
+    to_second: W,
+    from_first: &[W; 32],
+    from_second: &[W; 32],
+) -> W
     requires size { length row.now ≤ 32 }
     requires column { j < length row.now }
     requires entry { IsEntry (2 ^ 25) (at row.now j) }
@@ -197,23 +198,23 @@ fn gone_at(
 
 /// Whether each bound lies within the limits.
 #[inline]
-pub fn are_within(entries: &[i32]) -> bool
+pub fn are_within<W: Width>(entries: &[W]) -> bool
     requires entries { AreEntries (7 * 2 ^ 25) entries.now }
     ensures within { result ≡ true → AreEntries (2 ^ 25) entries.now }
 {
-    let mut low = 0;
-    let mut high = 0;
+    let mut low = W::ZERO;
+    let mut high = W::ZERO;
     for j in 0..entries.len() {
         let bound = entries[j];
         low = lesser(low, bound);
         high = greater(high, bound_or_zero(bound));
     }
-    LEAST <= low && high <= GREATEST
+    !low.is_less(W::LEAST) && !W::GREATEST.is_less(high)
 }
 
 /// A row in which each bound is at most the sum of halves.
 #[inline]
-pub fn strengthen(row: &mut [i32], to: i32, from: &[i32; 32])
+pub fn strengthen<W: Width>(row: &mut [W], to: W, from: &[W; 32])
     requires size { length row.old ≤ 32 }
     requires row { AreEntries (2 ^ 25) row.old }
     requires to { IsEntry (2 ^ 24) to }
@@ -222,6 +223,6 @@ pub fn strengthen(row: &mut [i32], to: i32, from: &[i32; 32])
     ensures within { AreEntries (2 ^ 25) row.new }
 {
     for j in 0..row.len() {
-        row[j] = settled(lesser(row[j], to + from[j]));
+        row[j] = settled(lesser(row[j], to.sum(from[j])));
     }
 }

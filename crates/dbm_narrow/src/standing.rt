@@ -7,6 +7,7 @@ ghost use Rattle.dbm_narrow.specs.Rounds.{IsNarrow};
 ghost use Rattle.dbm_narrow.specs.Rows.{ColumnsAre, EachIs, RestStays, RowIs, RowsAre};
 ghost use Rattle.dbm_narrow.specs.Standing.{IsEquatedOutcome, StandsTo, replaced, stood_at};
 
+use crate::width::Width;
 use crate::adding::small_bound;
 use crate::closing::ClosingResult;
 use crate::entries::plus;
@@ -17,9 +18,9 @@ use dbm_core::other_sign;
 
 /// Closes the entries with slot q made node y plus c, in place. After an answer other than `Closed`
 /// they are of no use.
-pub fn close_stood(
+pub fn close_stood<W: Width>(
     kinds: &[bool],
-    entries: &mut [i32],
+    entries: &mut [W],
     q: usize,
     y: usize,
     c: i128,
@@ -38,7 +39,7 @@ pub fn close_stood(
 }
 
 // The same of a number within the limits.
-fn close_small(kinds: &[bool], entries: &mut [i32], q: usize, y: usize, c: i32) -> ClosingResult
+fn close_small<W: Width>(kinds: &[bool], entries: &mut [W], q: usize, y: usize, c: W) -> ClosingResult
     requires narrow { IsNarrow kinds.now entries.old }
     requires closed { IsClosed (held kinds.now entries.old) }
     requires slot { q < length kinds.now }
@@ -51,16 +52,12 @@ fn close_small(kinds: &[bool], entries: &mut [i32], q: usize, y: usize, c: i32) 
     if !stand(kinds, entries, q, y, c) {
         return ClosingResult::TooWide;
     }
-    if finish_strong(kinds, entries) {
-        ClosingResult::Closed
-    } else {
-        ClosingResult::Empty
-    }
+    finish_strong(kinds, entries)
 }
 
 // Makes slot q stand for node y plus c, in place: whether each bound stays within the limits.
 #[inline]
-fn stand(kinds: &[bool], entries: &mut [i32], q: usize, y: usize, c: i32) -> bool
+fn stand<W: Width>(kinds: &[bool], entries: &mut [W], q: usize, y: usize, c: W) -> bool
     requires narrow { IsNarrow kinds.now entries.old }
     requires closed { IsClosed (held kinds.now entries.old) }
     requires slot { q < length kinds.now }
@@ -76,8 +73,8 @@ fn stand(kinds: &[bool], entries: &mut [i32], q: usize, y: usize, c: i32) -> boo
     let less = negative(c);
     let twice_less = twice_of(less);
     let twice = twice_of(c);
-    let first = stood_row(&node, q, y, 0, twice_less, less);
-    let second = stood_row(&behind, q, y, twice, 0, c);
+    let first = stood_row(&node, q, y, W::ZERO, twice_less, less);
+    let second = stood_row(&behind, q, y, twice, W::ZERO, c);
     if !are_within(&first) {
         return false;
     }
@@ -89,7 +86,7 @@ fn stand(kinds: &[bool], entries: &mut [i32], q: usize, y: usize, c: i32) -> boo
 }
 
 /// Makes slot q stand for node y plus c, in place: whether c and each bound lie within the limits.
-pub fn stand_by(kinds: &[bool], entries: &mut [i32], q: usize, y: usize, c: i128) -> bool
+pub fn stand_by<W: Width>(kinds: &[bool], entries: &mut [W], q: usize, y: usize, c: i128) -> bool
     requires narrow { IsNarrow kinds.now entries.old }
     requires closed { IsClosed (held kinds.now entries.old) }
     requires slot { q < length kinds.now }
@@ -104,27 +101,27 @@ pub fn stand_by(kinds: &[bool], entries: &mut [i32], q: usize, y: usize, c: i128
 
 // The number's negative.
 #[inline]
-fn negative(c: i32) -> i32
+fn negative<W: Width>(c: W) -> W
     requires low { neg_ℤ (pos (2 ^ 25)) ≤ℤ c }
     requires high { c ≤ℤ pos (2 ^ 25) }
     ensures value { result ≡ neg_ℤ c }
 {
-    -c
+    c.negative()
 }
 
 // Twice the number.
 #[inline]
-fn twice_of(c: i32) -> i32
+fn twice_of<W: Width>(c: W) -> W
     requires low { neg_ℤ (pos (2 ^ 25)) ≤ℤ c }
     requires high { c ≤ℤ pos (2 ^ 25) }
     ensures value { result ≡ c +ℤ c }
 {
-    c + c
+    c.sum(c)
 }
 
 // The entry at a column.
 #[inline]
-fn column_at(row: &[i32; 32], j: usize) -> i32
+fn column_at<W: Width>(row: &[W; 32], j: usize) -> W
     requires column { j < 32 }
     requires row { AreEntries (2 ^ 25) row.now }
     ensures value { result ≡ at row.now j }
@@ -134,7 +131,7 @@ fn column_at(row: &[i32; 32], j: usize) -> i32
 
 // The row of one of slot q's nodes, from the row of the node that it stands for.
 #[inline]
-fn stood_row(row: &[i32; 32], q: usize, y: usize, first: i32, second: i32, others: i32) -> [i32; 32]
+fn stood_row<W: Width>(row: &[W; 32], q: usize, y: usize, first: W, second: W, others: W) -> [W; 32]
     requires slot { q < 16 }
     requires node { y < 32 }
     requires row { AreEntries (2 ^ 25) row.now }
@@ -155,7 +152,7 @@ fn stood_row(row: &[i32; 32], q: usize, y: usize, first: i32, second: i32, other
 
 // Puts the rows of slot q's nodes, in place.
 #[inline]
-fn replace_rows(entries: &mut [i32], slots: usize, q: usize, first: &[i32; 32], second: &[i32; 32])
+fn replace_rows<W: Width>(entries: &mut [W], slots: usize, q: usize, first: &[W; 32], second: &[W; 32])
     requires few { slots ≤ 16 }
     requires size { length entries.old ≡ row_start (2 * slots) }
     requires entries { AreEntries (2 ^ 25) entries.old }
@@ -172,7 +169,7 @@ fn replace_rows(entries: &mut [i32], slots: usize, q: usize, first: &[i32; 32], 
 
 // The same in row i.
 #[inline]
-fn replace_row(entries: &mut [i32], i: usize, q: usize, first: &[i32; 32], second: &[i32; 32])
+fn replace_row<W: Width>(entries: &mut [W], i: usize, q: usize, first: &[W; 32], second: &[W; 32])
     requires row { i < 32 }
     requires slot { q < 16 }
     requires size { row_start i + row_width i ≤ length entries.old }
@@ -191,7 +188,7 @@ fn replace_row(entries: &mut [i32], i: usize, q: usize, first: &[i32; 32], secon
 
 // The same of the row itself.
 #[inline]
-fn replace_each(row: &mut [i32], i: usize, q: usize, first: &[i32; 32], second: &[i32; 32])
+fn replace_each<W: Width>(row: &mut [W], i: usize, q: usize, first: &[W; 32], second: &[W; 32])
     requires size { length row.old ≡ row_width i }
     requires row { AreEntries (2 ^ 25) row.old }
     requires node { i < 32 }
@@ -218,7 +215,7 @@ fn replace_each(row: &mut [i32], i: usize, q: usize, first: &[i32; 32], second: 
 
 // Makes a row the first entries of another.
 #[inline]
-fn copy_row(row: &mut [i32], from: &[i32; 32])
+fn copy_row<W: Width>(row: &mut [W], from: &[W; 32])
     requires size { length row.old ≤ 32 }
     requires row { AreEntries (2 ^ 25) row.old }
     requires from { AreEntries (2 ^ 25) from.now }

@@ -9,13 +9,15 @@ ghost use Rattle.dbm_narrow.specs.Held.{HoldsHalves, TellsFinish, TellsHalves, T
 ghost use Rattle.dbm_narrow.specs.Rounds.{IsNarrow};
 ghost use Rattle.dbm_narrow.specs.Rows.{RestStays, RowIs, Strengthened, strengthened_at};
 
-use crate::entries::{FREE, NONE, half, plus};
+use crate::width::Width;
+use crate::closing::ClosingResult;
+use crate::entries::{half, plus};
 use crate::middle::flipped;
 use crate::rows::{place, row_at, row_len, strengthen};
 
 /// Steps 2 to 6, in place: false where no values are left.
 #[inline]
-pub fn finish(kinds: &[bool], entries: &mut [i32]) -> bool
+pub fn finish<W: Width>(kinds: &[bool], entries: &mut [W]) -> ClosingResult
     requires narrow { IsNarrow kinds.now entries.old }
     ensures finish { TellsFinish kinds.now entries.old entries.new result }
 {
@@ -23,36 +25,49 @@ pub fn finish(kinds: &[bool], entries: &mut [i32]) -> bool
     let halves = halves_of(kinds, entries);
     let behind = flipped(&halves, slots);
     if has_negative_halves(&halves, &behind, slots) {
-        return false;
+        return ClosingResult::Empty;
     }
     strengthen_rows(entries, slots, &halves, &behind);
-    if has_empty_range(kinds, entries) {
-        return false;
-    }
-    true
+    finish_strong(kinds, entries)
 }
 
 /// The same of strong entries, which these steps leave as they are.
 #[inline]
-pub fn finish_strong(kinds: &[bool], entries: &[i32]) -> bool
+pub fn finish_strong<W: Width>(kinds: &[bool], entries: &[W]) -> ClosingResult
     requires narrow { IsNarrow kinds.now entries.now }
     requires strong { IsStrong (2 * length kinds.now) (entry (held kinds.now entries.now)) }
     ensures finish { TellsFinish kinds.now entries.now entries.now result }
 {
-    if has_empty_range(kinds, entries) {
-        return false;
+    if !are_uncut(entries) {
+        return ClosingResult::TooWide;
     }
-    true
+    if has_empty_range(kinds, entries) {
+        return ClosingResult::Empty;
+    }
+    ClosingResult::Closed
+}
+
+// Whether step 5 cuts no entry, and none is too low for it.
+#[inline]
+fn are_uncut<W: Width>(entries: &[W]) -> bool {
+    if !W::CUTS {
+        return true;
+    }
+    let mut uncut = true;
+    for k in 0..entries.len() {
+        uncut = uncut & entries[k].is_uncut();
+    }
+    uncut
 }
 
 // Half of the bound from each node to that of the other sign, rounded down.
 #[inline]
-fn halves_of(kinds: &[bool], entries: &[i32]) -> [i32; 32]
+fn halves_of<W: Width>(kinds: &[bool], entries: &[W]) -> [W; 32]
     requires narrow { IsNarrow kinds.now entries.now }
     ensures halves { HoldsHalves kinds.now entries.now result }
     ensures entries { AreEntries (2 ^ 24) result }
 {
-    let mut halves = [NONE; 32];
+    let mut halves = [W::NONE; 32];
     for slot in 0..kinds.len() {
         let even = place(2 * slot, 2 * slot + 1);
         let odd = place(2 * slot + 1, 2 * slot);
@@ -66,7 +81,7 @@ fn halves_of(kinds: &[bool], entries: &[i32]) -> [i32; 32]
 
 // Step 3: whether both halves of a slot leave no number.
 #[inline]
-fn has_negative_halves(halves: &[i32; 32], behind: &[i32; 32], slots: usize) -> bool
+fn has_negative_halves<W: Width>(halves: &[W; 32], behind: &[W; 32], slots: usize) -> bool
     requires few { slots ≤ 16 }
     requires halves { AreEntries (2 ^ 24) halves.now }
     requires behind { AreEntries (2 ^ 24) behind.now }
@@ -75,7 +90,7 @@ fn has_negative_halves(halves: &[i32; 32], behind: &[i32; 32], slots: usize) -> 
 {
     for i in 0..2 * slots {
         let sum = plus(halves[i], behind[i]);
-        if sum < 0 {
+        if sum.is_less(W::ZERO) {
             return true;
         }
     }
@@ -84,7 +99,7 @@ fn has_negative_halves(halves: &[i32; 32], behind: &[i32; 32], slots: usize) -> 
 
 // Steps 2 and 4, in place.
 #[inline]
-fn strengthen_rows(entries: &mut [i32], slots: usize, halves: &[i32; 32], behind: &[i32; 32])
+fn strengthen_rows<W: Width>(entries: &mut [W], slots: usize, halves: &[W; 32], behind: &[W; 32])
     requires few { slots ≤ 16 }
     requires size { length entries.old ≡ row_start (2 * slots) }
     requires entries { AreEntries (2 ^ 25) entries.old }
@@ -100,7 +115,7 @@ fn strengthen_rows(entries: &mut [i32], slots: usize, halves: &[i32; 32], behind
 
 // The same in row i.
 #[inline]
-fn strengthen_row(entries: &mut [i32], i: usize, to: i32, behind: &[i32; 32])
+fn strengthen_row<W: Width>(entries: &mut [W], i: usize, to: W, behind: &[W; 32])
     requires row { i < 32 }
     requires size { row_start i + row_width i ≤ length entries.old }
     requires entries { AreEntries (2 ^ 25) entries.old }
@@ -110,7 +125,7 @@ fn strengthen_row(entries: &mut [i32], i: usize, to: i32, behind: &[i32; 32])
     ensures rest { RestStays i entries.old entries.new }
     ensures entries { AreEntries (2 ^ 25) entries.new }
 {
-    if to >= FREE {
+    if !to.is_less(W::FREE) {
         return;
     }
     let start = row_at(i);
@@ -122,35 +137,35 @@ fn strengthen_row(entries: &mut [i32], i: usize, to: i32, behind: &[i32; 32])
 /// The least value of a slot, by the bound on twice its negative.
 #[inline]
 #[tactic(auto, unfolding(crate::specs::Entries::wide))]
-pub fn low_end(array: bool, bound: i32) -> i64
+pub fn low_end<W: Width>(array: bool, bound: W) -> i128
     requires bound { IsEntry (2 ^ 25) bound }
     ensures low { result ≡ range_low array (wide bound) }
 {
     let extreme = if array { 0 } else { -9223372036854775808 };
-    if bound >= FREE {
+    if !bound.is_less(W::FREE) {
         return extreme;
     }
-    let end = -i64::from(bound).div_euclid(2);
+    let end = -bound.half_number();
     if end < extreme { extreme } else { end }
 }
 
 /// The greatest value of a slot, by the bound on twice it.
 #[inline]
 #[tactic(auto, unfolding(crate::specs::Entries::wide))]
-pub fn high_end(array: bool, bound: i32) -> i64
+pub fn high_end<W: Width>(array: bool, bound: W) -> i128
     ensures high { result ≡ range_high array (wide bound) }
 {
     let extreme = if array { 1000000 } else { 9223372036854775807 };
-    if bound >= FREE {
+    if !bound.is_less(W::FREE) {
         return extreme;
     }
-    let end = i64::from(bound).div_euclid(2);
+    let end = bound.half_number();
     if end < extreme { end } else { extreme }
 }
 
 // Step 6: whether a slot's range is empty.
 #[inline]
-fn has_empty_range(kinds: &[bool], entries: &[i32]) -> bool
+fn has_empty_range<W: Width>(kinds: &[bool], entries: &[W]) -> bool
     requires narrow { IsNarrow kinds.now entries.now }
     ensures empty { TellsRanges kinds.now entries.now result }
 {

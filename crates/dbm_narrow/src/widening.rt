@@ -8,9 +8,9 @@ ghost use Rattle.dbm_narrow.specs.Entries.{AreEntries, IsEntry, wide};
 ghost use Rattle.dbm_narrow.specs.Rows.{RestStays};
 ghost use Rattle.dbm_narrow.specs.Widenings.{EachWidens, IsThresholdEntry, IsWidenedIf, RowWidens, WidensIf, WidensOn, start_at};
 
+use crate::width::Width;
 use crate::Narrow;
 use crate::convert::narrow_entry;
-use crate::entries::{FREE, NONE};
 use crate::rows::{row_at, row_len};
 use base_values::Memory;
 use dbm_core::other_sign;
@@ -18,12 +18,12 @@ use std::alloc::Global;
 
 /// The widening of a matrix by another, as that of `dbm_core`: None where a bound goes to a threshold
 /// outside the limits.
-pub fn widen(
+pub fn widen<W: Width>(
     alloc: Global,
     thresholds: &[i64],
-    left: &Narrow,
-    right: &Narrow,
-) -> Result<Option<Narrow>, Memory>
+    left: &Narrow<W>,
+    right: &Narrow<W>,
+) -> Result<Option<Narrow<W>>, Memory>
     requires same_kinds { right.now.kinds ≡ left.now.kinds }
     ensures widens { IfOk result (WidensIf thresholds.now left.now right.now) }
 {
@@ -43,7 +43,7 @@ pub fn widen(
 
 // Widens the entries by the others, in place: whether each bound stays within the limits.
 #[inline]
-fn raise_rows(entries: &mut [i32], others: &[i32], slots: usize, thresholds: &[i64]) -> bool
+fn raise_rows<W: Width>(entries: &mut [W], others: &[W], slots: usize, thresholds: &[i64]) -> bool
     requires few { slots ≤ 16 }
     requires size { length entries.old ≡ row_start (2 * slots) }
     requires as_many { length others.now ≡ length entries.old }
@@ -62,7 +62,7 @@ fn raise_rows(entries: &mut [i32], others: &[i32], slots: usize, thresholds: &[i
 
 // The same in row i.
 #[inline]
-fn raise_row(entries: &mut [i32], others: &[i32], i: usize, thresholds: &[i64]) -> bool
+fn raise_row<W: Width>(entries: &mut [W], others: &[W], i: usize, thresholds: &[i64]) -> bool
     requires row { i < 32 }
     requires size { row_start i + row_width i ≤ length entries.old }
     requires as_many { length others.now ≡ length entries.old }
@@ -81,7 +81,7 @@ fn raise_row(entries: &mut [i32], others: &[i32], i: usize, thresholds: &[i64]) 
 
 // The same of the row itself.
 #[inline]
-fn raise_each(row: &mut [i32], others: &[i32], i: usize, thresholds: &[i64]) -> bool
+fn raise_each<W: Width>(row: &mut [W], others: &[W], i: usize, thresholds: &[i64]) -> bool
     requires node { i < 32 }
     requires size { length row.old ≤ 32 }
     requires as_many { length others.now ≡ length row.old }
@@ -102,29 +102,29 @@ fn raise_each(row: &mut [i32], others: &[i32], i: usize, thresholds: &[i64]) -> 
 
 // An entry stays where the new one is not greater, else it goes to the next threshold, if that fits.
 #[inline]
-fn widened_entry(thresholds: &[i64], doubled: bool, old: i32, new: i32) -> Option<i32>
+fn widened_entry<W: Width>(thresholds: &[i64], doubled: bool, old: W, new: W) -> Option<W>
     requires old { IsEntry (2 ^ 25) old }
     requires new { IsEntry (2 ^ 25) new }
     ensures widened { IsWidenedIf thresholds.now doubled old new result }
 {
-    if new <= old {
+    if !old.is_less(new) {
         return Some(old);
     }
-    if new >= FREE {
-        return Some(NONE);
+    if !new.is_less(W::FREE) {
+        return Some(W::NONE);
     }
     threshold_entry(thresholds, doubled, new)
 }
 
 // The entry of the next threshold, if it fits.
-fn threshold_entry(thresholds: &[i64], doubled: bool, bound: i32) -> Option<i32>
+fn threshold_entry<W: Width>(thresholds: &[i64], doubled: bool, bound: W) -> Option<W>
     ensures threshold { IsThresholdEntry (next_threshold thresholds.now doubled bound) result }
 {
     narrow_entry(threshold_from(thresholds, doubled, bound))
 }
 
 // The least of the thresholds, or of the thresholds doubled, that is not less than the bound.
-fn threshold_from(thresholds: &[i64], doubled: bool, bound: i32) -> Option<i128>
+fn threshold_from<W: Width>(thresholds: &[i64], doubled: bool, bound: W) -> Option<i128>
     ensures threshold { result ≡ next_threshold thresholds.now doubled bound }
 {
     match least_from(thresholds, start_of(doubled, bound)) {
@@ -135,10 +135,10 @@ fn threshold_from(thresholds: &[i64], doubled: bool, bound: i32) -> Option<i128>
 
 // What a threshold is not less than where it, or its double, is not less than the bound.
 #[inline]
-fn start_of(doubled: bool, bound: i32) -> i64
+fn start_of<W: Width>(doubled: bool, bound: W) -> i128
     ensures start { result ≡ start_at doubled bound }
 {
-    let number = i64::from(bound);
+    let number = bound.number();
     if doubled {
         (number + 1).div_euclid(2)
     } else {
@@ -147,7 +147,7 @@ fn start_of(doubled: bool, bound: i32) -> i64
 }
 
 // The least of the thresholds that is not less than a number.
-fn least_from(thresholds: &[i64], from: i64) -> Option<i64>
+fn least_from(thresholds: &[i64], from: i128) -> Option<i64>
     ensures threshold { result ≡ next_threshold thresholds.now false from }
 {
     let mut next = None;
@@ -158,10 +158,10 @@ fn least_from(thresholds: &[i64], from: i64) -> Option<i64>
 }
 
 // The threshold where it is not less than a number and less than the next one that was found.
-fn nearer_threshold(next: Option<i64>, threshold: i64, from: i64) -> Option<i64>
+fn nearer_threshold(next: Option<i64>, threshold: i64, from: i128) -> Option<i64>
     ensures nearer { result ≡ cond (int_lt threshold from) next (least next (Some threshold)) }
 {
-    if threshold < from {
+    if i128::from(threshold) < from {
         return next;
     }
     match next {

@@ -7,7 +7,7 @@ ghost use Rattle.std.specs.Cmp.{partial_equiv_from_equiv};
 
 use base_values::Memory;
 use dbm_core::Matrix;
-use dbm_narrow::{Narrow, feed_matrix, narrowed, widened};
+use dbm_narrow::{Narrow, Width, narrowed, refitted, widened};
 use std::alloc::Global;
 use std::hash::{Hash, Hasher};
 use std::marker::Model;
@@ -24,9 +24,9 @@ pub struct Bounds {
 #[derive(Drop)]
 pub enum Held {
     /// Each bound lies from -2^25 to 2^25.
-    Small(Rc<Narrow>),
+    Small(Rc<Narrow<i32>>),
     /// Some bound does not.
-    Large(Rc<Matrix>),
+    Large(Rc<Narrow<i128>>),
 }
 
 impl Model for Bounds {
@@ -74,7 +74,7 @@ impl Hash for Bounds {
     fn hash<H: Hasher>(&self, state: &mut H) {
         match &self.held {
             Held::Small(narrow) => narrow.as_ref().hash(state),
-            Held::Large(matrix) => feed_matrix(matrix.as_ref(), state),
+            Held::Large(matrix) => matrix.as_ref().hash(state),
         }
     }
 }
@@ -125,7 +125,7 @@ impl Bounds {
 }
 
 /// The narrow matrix.
-pub fn small(alloc: Global, narrow: Narrow) -> Result<Bounds, Memory>
+pub fn small(alloc: Global, narrow: Narrow<i32>) -> Result<Bounds, Memory>
     ensures same { IfOk result (λ m. m ≡ narrow) }
 {
     let narrow = Rc::new(alloc, narrow)?;
@@ -134,18 +134,57 @@ pub fn small(alloc: Global, narrow: Narrow) -> Result<Bounds, Memory>
     })
 }
 
+/// A width whose matrices are held.
+pub trait Form: Width {
+    fn hold(alloc: Global, matrix: Narrow<Self>) -> Result<Bounds, Memory>;
+}
+
+impl Form for i32 {
+    fn hold(alloc: Global, matrix: Narrow<i32>) -> Result<Bounds, Memory> {
+        small(alloc, matrix)
+    }
+}
+
+impl Form for i128 {
+    fn hold(alloc: Global, matrix: Narrow<i128>) -> Result<Bounds, Memory> {
+        match refitted::<i128, i32>(alloc, &matrix)? {
+            Some(narrow) => small(alloc, narrow),
+            None => {
+                let matrix = Rc::new(alloc, matrix)?;
+                Ok(Bounds {
+                    held: Held::Large(matrix),
+                })
+            }
+        }
+    }
+}
+
+/// The matrix in wide entries.
+pub fn large(alloc: Global, m: &Bounds) -> Result<Narrow<i128>, Memory> {
+    match &m.held {
+        Held::Small(narrow) => match refitted::<i32, i128>(alloc, narrow.as_ref())? {
+            Some(wide) => Ok(wide),
+            None => Err(Memory),
+        },
+        Held::Large(wide) => wide.as_ref().copy(alloc),
+    }
+}
+
 /// The matrix, in the narrow form where it fits.
 pub fn bounds_of(alloc: Global, matrix: Matrix) -> Result<Bounds, Memory>
     ensures same { IfOk result (λ m. m ≡ matrix) }
 {
-    match narrowed(alloc, &matrix)? {
+    match narrowed::<i32>(alloc, &matrix)? {
         Some(narrow) => small(alloc, narrow),
-        None => {
-            let matrix = Rc::new(alloc, matrix)?;
-            Ok(Bounds {
-                held: Held::Large(matrix),
-            })
-        }
+        None => match narrowed::<i128>(alloc, &matrix)? {
+            Some(wide) => {
+                let matrix = Rc::new(alloc, wide)?;
+                Ok(Bounds {
+                    held: Held::Large(matrix),
+                })
+            }
+            None => Err(Memory),
+        },
     }
 }
 
@@ -155,6 +194,6 @@ pub fn matrix_of_bounds(alloc: Global, m: &Bounds) -> Result<Matrix, Memory>
 {
     match &m.held {
         Held::Small(narrow) => widened(alloc, narrow.as_ref()),
-        Held::Large(matrix) => matrix.as_ref().copy(alloc),
+        Held::Large(wide) => widened(alloc, wide.as_ref()),
     }
 }

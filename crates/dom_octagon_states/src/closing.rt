@@ -12,14 +12,13 @@ ghost use Rattle.dom_octagon_states.specs.Held.{IsClosedIf, closed_if};
 ghost use Rattle.dom_octagon_states.specs.Limits.{IsReady, IsTight, ObeysTriangles};
 
 use crate::OctagonState;
-use crate::bounds::{Bounds, Held, bounds_of, matrix_of_bounds, small};
+use crate::bounds::{Bounds, Form, Held, bounds_of, large};
 use crate::close::{bounded, empty};
 use crate::operations::is_whole;
 use base_values::Memory;
 use dbm_close::{Closed, close};
-use dbm_core::Matrix;
 use dbm_incremental::Bound;
-use dbm_narrow::{Closing, Narrow};
+use dbm_narrow::{Closing, Narrow, widened};
 use std::alloc::Global;
 
 // The state that closing has answered.
@@ -34,13 +33,11 @@ fn answered(alloc: Global, answer: Closed) -> Result<OctagonState, Memory>
 }
 
 // The state that closing a narrow matrix has answered, where that fits.
-fn answered_if(alloc: Global, answer: Closing) -> Result<Option<OctagonState>, Memory>
-    requires closed { IsClosedIf answer }
-    ensures exact { IfOk result (λ o. o ≡ closed_if answer) }
+fn answered_if<W: Form>(alloc: Global, answer: Closing<W>) -> Result<Option<OctagonState>, Memory>
 {
     match answer {
         Closing::Empty => Ok(Some(empty())),
-        Closing::Matrix(m) => Ok(Some(bounded(small(alloc, m)?))),
+        Closing::Matrix(m) => Ok(Some(bounded(W::hold(alloc, m)?))),
         Closing::TooWide => Ok(None),
     }
 }
@@ -51,31 +48,26 @@ pub fn closed_matrix(alloc: Global, m: &Bounds) -> Result<OctagonState, Memory>
     ensures exact { IfOk result (λ s. s ≡ close_of m.now) }
 {
     match &m.held {
-        Held::Small(narrow) => match close_small(alloc, narrow.as_ref())? {
+        Held::Small(narrow) => match close_form(alloc, narrow.as_ref())? {
             Some(state) => Ok(state),
-            None => close_wide(alloc, m),
+            None => close_large(alloc, &large(alloc, m)?),
         },
-        Held::Large(_) => close_wide(alloc, m),
+        Held::Large(wide) => close_large(alloc, wide.as_ref()),
     }
 }
 
-// The same of a narrow matrix, where that fits.
-fn close_small(alloc: Global, m: &Narrow) -> Result<Option<OctagonState>, Memory>
-    requires ready { IsReady m.now }
-    ensures exact { IfOk result (λ o. IfSome o (λ s. s ≡ close_of m.now)) }
-{
-    let _kinds = m.kinds();
+fn close_form<W: Form>(alloc: Global, m: &Narrow<W>) -> Result<Option<OctagonState>, Memory> {
     answered_if(alloc, dbm_narrow::close(alloc, m)?)
 }
 
-// The same by the entries of `dbm_core`.
-fn close_wide(alloc: Global, m: &Bounds) -> Result<OctagonState, Memory>
-    requires ready { IsReady m.now }
-    ensures exact { IfOk result (λ s. s ≡ close_of m.now) }
-{
-    let _kinds = m.kinds();
-    let matrix = matrix_of_bounds(alloc, m)?;
-    answered(alloc, close(alloc, &matrix)?)
+fn close_large(alloc: Global, m: &Narrow<i128>) -> Result<OctagonState, Memory> {
+    match close_form(alloc, m)? {
+        Some(state) => Ok(state),
+        None => {
+            let matrix = widened(alloc, m)?;
+            answered(alloc, close(alloc, &matrix)?)
+        }
+    }
 }
 
 /// Closes what an operation has made of a closed matrix, where it keeps the triangle law: one that
@@ -99,33 +91,26 @@ fn close_whole(alloc: Global, set: &Bounds) -> Result<OctagonState, Memory>
     ensures exact { IfOk result (λ s. s ≡ close_of set.now) }
 {
     match &set.held {
-        Held::Small(narrow) => match whole_small(alloc, narrow.as_ref())? {
+        Held::Small(narrow) => match whole_form(alloc, narrow.as_ref())? {
             Some(state) => Ok(state),
-            None => whole_wide(alloc, set),
+            None => whole_large(alloc, &large(alloc, set)?),
         },
-        Held::Large(_) => whole_wide(alloc, set),
+        Held::Large(wide) => whole_large(alloc, wide.as_ref()),
     }
 }
 
-// The same of a narrow matrix, where that fits.
-fn whole_small(alloc: Global, m: &Narrow) -> Result<Option<OctagonState>, Memory>
-    requires ready { IsReady m.now }
-    requires obeys { ObeysTriangles m.now }
-    ensures exact { IfOk result (λ o. IfSome o (λ s. s ≡ close_of m.now)) }
-{
-    let _kinds = m.kinds();
+fn whole_form<W: Form>(alloc: Global, m: &Narrow<W>) -> Result<Option<OctagonState>, Memory> {
     answered_if(alloc, dbm_narrow::close_whole(alloc, m)?)
 }
 
-// The same by the entries of `dbm_core`.
-fn whole_wide(alloc: Global, m: &Bounds) -> Result<OctagonState, Memory>
-    requires ready { IsReady m.now }
-    requires obeys { ObeysTriangles m.now }
-    ensures exact { IfOk result (λ s. s ≡ close_of m.now) }
-{
-    let _kinds = m.kinds();
-    let matrix = matrix_of_bounds(alloc, m)?;
-    answered(alloc, dbm_incremental::close_whole(matrix))
+fn whole_large(alloc: Global, m: &Narrow<i128>) -> Result<OctagonState, Memory> {
+    match whole_form(alloc, m)? {
+        Some(state) => Ok(state),
+        None => {
+            let matrix = widened(alloc, m)?;
+            answered(alloc, dbm_incremental::close_whole(matrix))
+        }
+    }
 }
 
 /// Closes a closed matrix with at most four bounds lowered, once.
@@ -147,38 +132,36 @@ pub fn close_after_bounds(
                 let same = m.copy()?;
                 return Ok(bounded(same));
             }
-            match bounds_small(alloc, narrow.as_ref(), bounds)? {
+            match bounds_form(alloc, narrow.as_ref(), bounds)? {
                 Some(state) => Ok(state),
-                None => bounds_wide(alloc, m, bounds),
+                None => bounds_large(alloc, &large(alloc, m)?, bounds),
             }
         }
-        Held::Large(_) => bounds_wide(alloc, m, bounds),
+        Held::Large(wide) => {
+            if dbm_narrow::meets(wide.as_ref(), bounds) {
+                let same = m.copy()?;
+                return Ok(bounded(same));
+            }
+            bounds_large(alloc, wide.as_ref(), bounds)
+        }
     }
 }
 
-// The same of a narrow matrix, where that fits.
-fn bounds_small(alloc: Global, m: &Narrow, bounds: &[Bound]) -> Result<Option<OctagonState>, Memory>
-    requires bounds { AreBounds (nodes m.now) bounds.now }
-    requires closed { IsClosed m.now }
-    ensures closed { IfOk result (λ o. IfSome o (ClosesAllLowered m.now bounds.now)) }
-{
+fn bounds_form<W: Form>(alloc: Global, m: &Narrow<W>, bounds: &[Bound]) -> Result<Option<OctagonState>, Memory> {
     answered_if(alloc, dbm_narrow::close_after_bounds(alloc, m, bounds)?)
 }
 
-// The same by the entries of `dbm_core`.
-fn bounds_wide(alloc: Global, m: &Bounds, bounds: &[Bound]) -> Result<OctagonState, Memory>
-    requires few { length bounds.now ≤ 4 }
-    requires bounds { AreBounds (nodes m.now) bounds.now }
-    requires closed { IsClosed m.now }
-    requires whole { IsWhole m.now }
-    requires within { AreWithin (nodes m.now) (2 ^ 64) (entry m.now) }
-    ensures closed { IfOk result (ClosesAllLowered m.now bounds.now) }
-{
-    let matrix = matrix_of_bounds(alloc, m)?;
-    answered(
-        alloc,
-        dbm_incremental::close_after_bounds(alloc, &matrix, bounds)?,
-    )
+fn bounds_large(alloc: Global, m: &Narrow<i128>, bounds: &[Bound]) -> Result<OctagonState, Memory> {
+    match bounds_form(alloc, m, bounds)? {
+        Some(state) => Ok(state),
+        None => {
+            let matrix = widened(alloc, m)?;
+            answered(
+                alloc,
+                dbm_incremental::close_after_bounds(alloc, &matrix, bounds)?,
+            )
+        }
+    }
 }
 
 /// Closes a closed matrix in which slot q's bounds are dropped and q is made node y, of another slot,
@@ -200,53 +183,41 @@ pub fn close_equation(
     ensures closed { IfOk result (ClosesEquated m.now q y c) }
 {
     match &m.held {
-        Held::Small(narrow) => match equation_small(alloc, narrow.as_ref(), q, y, c)? {
+        Held::Small(narrow) => match equation_form(alloc, narrow.as_ref(), q, y, c)? {
             Some(state) => Ok(state),
-            None => equation_wide(alloc, m, q, y, c),
+            None => equation_large(alloc, &large(alloc, m)?, q, y, c),
         },
-        Held::Large(_) => equation_wide(alloc, m, q, y, c),
+        Held::Large(wide) => equation_large(alloc, wide.as_ref(), q, y, c),
     }
 }
 
-// The same of a narrow matrix, where that fits.
-fn equation_small(
+fn equation_form<W: Form>(
     alloc: Global,
-    m: &Narrow,
+    m: &Narrow<W>,
     q: usize,
     y: usize,
     c: i128,
-) -> Result<Option<OctagonState>, Memory>
-    requires slot { q < length m.now.kinds }
-    requires node { y < nodes m.now }
-    requires apart { y / 2 ≢ q }
-    requires closed { IsClosed m.now }
-    ensures closed { IfOk result (λ o. IfSome o (ClosesEquated m.now q y c)) }
-{
+) -> Result<Option<OctagonState>, Memory> {
     answered_if(alloc, dbm_narrow::close_equation(alloc, m, q, y, c)?)
 }
 
-// The same by the entries of `dbm_core`.
-fn equation_wide(
+fn equation_large(
     alloc: Global,
-    m: &Bounds,
+    m: &Narrow<i128>,
     q: usize,
     y: usize,
     c: i128,
-) -> Result<OctagonState, Memory>
-    requires slot { q < length m.now.kinds }
-    requires node { y < nodes m.now }
-    requires apart { y / 2 ≢ q }
-    requires closed { IsClosed m.now }
-    requires whole { IsWhole m.now }
-    requires within { AreWithin (nodes m.now) (2 ^ 64) (entry m.now) }
-    requires small { IsWithin (2 ^ 70) (Some c) }
-    ensures closed { IfOk result (ClosesEquated m.now q y c) }
-{
-    let matrix = matrix_of_bounds(alloc, m)?;
-    answered(
-        alloc,
-        dbm_incremental::close_equation(alloc, &matrix, q, y, c)?,
-    )
+) -> Result<OctagonState, Memory> {
+    match equation_form(alloc, m, q, y, c)? {
+        Some(state) => Ok(state),
+        None => {
+            let matrix = widened(alloc, m)?;
+            answered(
+                alloc,
+                dbm_incremental::close_equation(alloc, &matrix, q, y, c)?,
+            )
+        }
+    }
 }
 
 /// A closed matrix in which slot q stands for node y plus c, its own or another's, closed, if it fits the
@@ -264,23 +235,20 @@ pub fn close_stood(
     ensures stood { IfOk result (λ o. IfSome o (ClosesStood m.now q y c)) }
 {
     match &m.held {
-        Held::Small(narrow) => stood_small(alloc, narrow.as_ref(), q, y, c),
-        Held::Large(_) => Ok(None),
+        Held::Small(narrow) => match stood_form(alloc, narrow.as_ref(), q, y, c)? {
+            Some(state) => Ok(Some(state)),
+            None => stood_form(alloc, &large(alloc, m)?, q, y, c),
+        },
+        Held::Large(wide) => stood_form(alloc, wide.as_ref(), q, y, c),
     }
 }
 
-// The same of a narrow matrix.
-fn stood_small(
+fn stood_form<W: Form>(
     alloc: Global,
-    m: &Narrow,
+    m: &Narrow<W>,
     q: usize,
     y: usize,
     c: i128,
-) -> Result<Option<OctagonState>, Memory>
-    requires slot { q < length m.now.kinds }
-    requires node { y < nodes m.now }
-    requires closed { IsClosed m.now }
-    ensures stood { IfOk result (λ o. IfSome o (ClosesStood m.now q y c)) }
-{
+) -> Result<Option<OctagonState>, Memory> {
     answered_if(alloc, dbm_narrow::close_carried(alloc, m, q, y, c)?)
 }

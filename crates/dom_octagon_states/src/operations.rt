@@ -9,10 +9,9 @@ ghost use Rattle.dbm_narrow.specs.Widenings.{WidensIf};
 ghost use Rattle.dom_octagon_states.specs.Held.{IsSmallIf};
 ghost use Rattle.dom_octagon_states.specs.Limits.{IsInLimits};
 
-use crate::bounds::{Bounds, Held, bounds_of, matrix_of_bounds, small};
+use crate::bounds::{Bounds, Form, Held, large, small};
 use crate::transitive::is_transitive;
 use base_values::Memory;
-use dbm_core::Matrix;
 use dbm_narrow::Narrow;
 use std::alloc::Global;
 
@@ -26,10 +25,9 @@ pub fn slot_range(m: &Bounds, slot: usize) -> (i128, i128)
 {
     match &m.held {
         Held::Small(narrow) => {
-            let (low, high) = dbm_narrow::slot_range(narrow.as_ref(), slot);
-            (i128::from(low), i128::from(high))
+            dbm_narrow::slot_range(narrow.as_ref(), slot)
         }
-        Held::Large(matrix) => dbm_close::slot_range(matrix.as_ref(), slot),
+        Held::Large(wide) => dbm_narrow::slot_range(wide.as_ref(), slot),
     }
 }
 
@@ -39,7 +37,7 @@ pub fn forget(alloc: Global, m: &Bounds, slot: usize) -> Result<Bounds, Memory>
 {
     match &m.held {
         Held::Small(narrow) => small(alloc, dbm_narrow::forget(alloc, narrow.as_ref(), slot)?),
-        Held::Large(matrix) => bounds_of(alloc, matrix.as_ref().forget(alloc, slot)?),
+        Held::Large(wide) => i128::hold(alloc, dbm_narrow::forget(alloc, wide.as_ref(), slot)?),
     }
 }
 
@@ -49,21 +47,15 @@ pub fn join(alloc: Global, a: &Bounds, b: &Bounds) -> Result<Bounds, Memory>
     ensures entries { IfOk result (HasEntries a.now.kinds (joined a.now b.now)) }
 {
     match (&a.held, &b.held) {
-        (Held::Small(m), Held::Small(n)) => {
-            small(alloc, dbm_narrow::join(alloc, m.as_ref(), n.as_ref())?)
-        }
-        _ => join_large(alloc, a, b),
+        (Held::Small(m), Held::Small(n)) => join_form(alloc, m.as_ref(), n.as_ref()),
+        (Held::Large(m), Held::Large(n)) => join_form(alloc, m.as_ref(), n.as_ref()),
+        (Held::Small(_), Held::Large(n)) => join_form(alloc, &large(alloc, a)?, n.as_ref()),
+        (Held::Large(m), Held::Small(_)) => join_form(alloc, m.as_ref(), &large(alloc, b)?),
     }
 }
 
-// The same where one of them is large.
-fn join_large(alloc: Global, a: &Bounds, b: &Bounds) -> Result<Bounds, Memory>
-    requires same_kinds { b.now.kinds ≡ a.now.kinds }
-    ensures entries { IfOk result (HasEntries a.now.kinds (joined a.now b.now)) }
-{
-    let left = matrix_of_bounds(alloc, a)?;
-    let right = matrix_of_bounds(alloc, b)?;
-    bounds_of(alloc, left.join(alloc, &right)?)
+fn join_form<W: Form>(alloc: Global, a: &Narrow<W>, b: &Narrow<W>) -> Result<Bounds, Memory> {
+    W::hold(alloc, dbm_narrow::join(alloc, a, b)?)
 }
 
 /// The left matrix widened by the right one.
@@ -74,44 +66,36 @@ pub fn widen(alloc: Global, thresholds: &[i64], a: &Bounds, b: &Bounds) -> Resul
 {
     match (&a.held, &b.held) {
         (Held::Small(m), Held::Small(n)) => {
-            match widen_small(alloc, thresholds, m.as_ref(), n.as_ref())? {
+            match widen_form(alloc, thresholds, m.as_ref(), n.as_ref())? {
                 Some(widening) => Ok(widening),
-                None => widen_large(alloc, thresholds, a, b),
+                None => widen_large(alloc, thresholds, &large(alloc, a)?, &large(alloc, b)?),
             }
         }
-        _ => widen_large(alloc, thresholds, a, b),
+        (Held::Large(m), Held::Large(n)) => widen_large(alloc, thresholds, m.as_ref(), n.as_ref()),
+        (Held::Small(_), Held::Large(n)) => widen_large(alloc, thresholds, &large(alloc, a)?, n.as_ref()),
+        (Held::Large(m), Held::Small(_)) => widen_large(alloc, thresholds, m.as_ref(), &large(alloc, b)?),
+    }
+}
+
+fn widen_large(alloc: Global, thresholds: &[i64], a: &Narrow<i128>, b: &Narrow<i128>) -> Result<Bounds, Memory> {
+    match widen_form(alloc, thresholds, a, b)? {
+        Some(widening) => Ok(widening),
+        None => Err(Memory),
     }
 }
 
 // The same of narrow matrices, where that fits.
-fn widen_small(
+fn widen_form<W: Form>(
     alloc: Global,
     thresholds: &[i64],
-    a: &Narrow,
-    b: &Narrow,
+    a: &Narrow<W>,
+    b: &Narrow<W>,
 ) -> Result<Option<Bounds>, Memory>
-    requires same_kinds { b.now.kinds ≡ a.now.kinds }
-    ensures widens { IfOk result (WidensIf thresholds.now a.now b.now) }
-    ensures within { IfOk result IsSmallIf }
 {
     match dbm_narrow::widen(alloc, thresholds, a, b)? {
-        Some(widening) => {
-            let _kinds = widening.kinds();
-            Ok(Some(small(alloc, widening)?))
-        }
+        Some(widening) => Ok(Some(W::hold(alloc, widening)?)),
         None => Ok(None),
     }
-}
-
-// The same where one of them is large, or what it gives.
-fn widen_large(alloc: Global, thresholds: &[i64], a: &Bounds, b: &Bounds) -> Result<Bounds, Memory>
-    requires same_kinds { b.now.kinds ≡ a.now.kinds }
-    ensures entries { IfOk result (HasEntries a.now.kinds (widened thresholds.now a.now b.now)) }
-    ensures limited { IsInLimits a.now → IsInLimits b.now → IfOk result IsInLimits }
-{
-    let left = matrix_of_bounds(alloc, a)?;
-    let right = matrix_of_bounds(alloc, b)?;
-    bounds_of(alloc, left.widen(alloc, thresholds, &right)?)
 }
 
 /// Whether a matrix obeys the triangle law, if it is closed: no bound is 2^63 or more, or its bounds are
@@ -126,7 +110,7 @@ pub fn is_whole(m: &Bounds) -> bool
 }
 
 // No bound of a narrow matrix is 2^63 or more.
-fn is_small(narrow: &Narrow) -> bool
+fn is_small(narrow: &Narrow<i32>) -> bool
     ensures whole { result ≡ true → IsClosed narrow.now → IsWhole narrow.now }
 {
     let _kinds = narrow.kinds();
@@ -134,8 +118,8 @@ fn is_small(narrow: &Narrow) -> bool
 }
 
 // The same of one that does not fit the narrow form.
-fn is_large_whole(m: &Matrix) -> bool
+fn is_large_whole(m: &Narrow<i128>) -> bool
     ensures whole { result ≡ true → IsClosed m.now → IsWhole m.now }
 {
-    dbm_incremental::is_whole(m) || is_transitive(m)
+    dbm_narrow::is_near(m) || is_transitive(m)
 }
