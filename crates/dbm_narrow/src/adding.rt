@@ -6,6 +6,7 @@ ghost use Rattle.dbm_narrow.specs.Held.{IsSmallOf};
 ghost use Rattle.dbm_narrow.specs.Lowerings.{HasOwnWeights};
 ghost use Rattle.dbm_narrow.specs.Rounds.{IsNarrow};
 
+use crate::entry::Entry;
 use crate::width::Width;
 use crate::closing::ClosingResult;
 use crate::lower::lower;
@@ -15,20 +16,20 @@ use dbm_incremental::Bound;
 
 /// The bound in 32 bits, if it lies within the limits.
 #[inline]
-pub fn small_bound<W: Width>(bound: i128) -> Option<W>
+pub fn small_bound<W: Width>(bound: i128) -> Option<Entry<W>>
     ensures small { IsSmallOf bound result }
 {
-    if bound < W::LEAST.number() {
+    if bound < Entry::least().number() {
         return None;
     }
-    if W::GREATEST.number() < bound {
+    if Entry::greatest().number() < bound {
         return None;
     }
-    Some(W::of(bound))
+    Some(Entry::of(bound))
 }
 
 /// Lowers the bounds, in place. After an answer other than `Done` the entries are of no use.
-pub fn lower_all<W: Width>(kinds: &[bool], entries: &mut [W], bounds: &[Bound]) -> Walks
+pub fn lower_all<W: Width>(kinds: &[bool], entries: &mut [Entry<W>], bounds: &[Bound]) -> Walks
     requires narrow { IsNarrow kinds.now entries.old }
     requires weights { HasOwnWeights kinds.now entries.old }
     requires bounds { AreBounds (2 * length kinds.now) bounds.now }
@@ -49,7 +50,7 @@ pub fn lower_all<W: Width>(kinds: &[bool], entries: &mut [W], bounds: &[Bound]) 
 
 /// Closes the entries with the bounds lowered, in place. After an answer other than `Closed` they are
 /// of no use.
-pub fn close_lowered<W: Width>(kinds: &[bool], entries: &mut [W], bounds: &[Bound]) -> ClosingResult
+pub fn close_lowered<W: Width>(kinds: &[bool], entries: &mut [Entry<W>], bounds: &[Bound]) -> ClosingResult
     requires narrow { IsNarrow kinds.now entries.old }
     requires weights { HasOwnWeights kinds.now entries.old }
     requires bounds { AreBounds (2 * length kinds.now) bounds.now }

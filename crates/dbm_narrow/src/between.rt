@@ -4,21 +4,22 @@ ghost use Rattle.dbm_core.specs.Half.{row_start, row_width};
 ghost use Rattle.dbm_narrow.specs.Between.{IsBetween};
 ghost use Rattle.dbm_narrow.specs.Entries.{AreEntries, at};
 
+use crate::entry::Entry;
 use crate::width::Width;
 use crate::rows::place;
 
 /// The bounds from a slot's two nodes to those of another.
 #[derive(Clone, Copy)]
 pub struct Between<W> {
-    pub first_even: W,
-    pub first_odd: W,
-    pub second_even: W,
-    pub second_odd: W,
+    pub first_even: Entry<W>,
+    pub first_odd: Entry<W>,
+    pub second_even: Entry<W>,
+    pub second_odd: Entry<W>,
 }
 
 /// The bounds from the nodes of slot q to those of another, or of its own.
 #[inline]
-pub fn bounds_between<W: Width>(entries: &[W], slots: usize, q: usize, slot: usize) -> Between<W>
+pub fn bounds_between<W: Width>(entries: &[Entry<W>], slots: usize, q: usize, slot: usize) -> Between<W>
     requires few { slots ≤ 16 }
     requires middle { q < slots }
     requires slot { slot < slots }
@@ -44,7 +45,7 @@ pub fn bounds_between<W: Width>(entries: &[W], slots: usize, q: usize, slot: usi
 
 // The entry of a kept pair.
 #[inline]
-fn kept_at<W: Width>(entries: &[W], slots: usize, i: usize, j: usize) -> W
+fn kept_at<W: Width>(entries: &[Entry<W>], slots: usize, i: usize, j: usize) -> Entry<W>
     requires few { slots ≤ 16 }
     requires row { i < 2 * slots }
     requires column { j < row_width i }

@@ -8,6 +8,7 @@ ghost use Rattle.dbm_narrow.specs.Held.{HasLowDiagonal};
 ghost use Rattle.dbm_narrow.specs.Lowerings.{HasOwnWeights};
 ghost use Rattle.dbm_narrow.specs.Rounds.{IsNarrow};
 
+use crate::entry::Entry;
 use crate::width::Width;
 use crate::steps::{finish, finish_strong};
 use crate::walks::{Walks, least_weights};
@@ -24,7 +25,7 @@ pub enum ClosingResult {
 }
 
 /// Closes the entries, in place. After an answer other than `Closed` they are of no use.
-pub fn close_entries<W: Width>(kinds: &[bool], entries: &mut [W]) -> ClosingResult
+pub fn close_entries<W: Width>(kinds: &[bool], entries: &mut [Entry<W>]) -> ClosingResult
     requires narrow { IsNarrow kinds.now entries.old }
     requires diagonal { HasLowDiagonal kinds.now entries.old }
     ensures outcome { IsOutcome kinds.now entries.old entries.new result }
@@ -37,7 +38,7 @@ pub fn close_entries<W: Width>(kinds: &[bool], entries: &mut [W]) -> ClosingResu
 }
 
 /// Closes entries that are the least weights of their own walks, in place.
-pub fn close_own<W: Width>(kinds: &[bool], entries: &mut [W]) -> ClosingResult
+pub fn close_own<W: Width>(kinds: &[bool], entries: &mut [Entry<W>]) -> ClosingResult
     requires narrow { IsNarrow kinds.now entries.old }
     requires weights { HasOwnWeights kinds.now entries.old }
     ensures outcome { IsOutcome kinds.now entries.old entries.new result }
@@ -46,7 +47,7 @@ pub fn close_own<W: Width>(kinds: &[bool], entries: &mut [W]) -> ClosingResult
 }
 
 /// Closes strong entries, which stay as they are.
-pub fn close_strong<W: Width>(kinds: &[bool], entries: &[W]) -> ClosingResult
+pub fn close_strong<W: Width>(kinds: &[bool], entries: &[Entry<W>]) -> ClosingResult
     requires narrow { IsNarrow kinds.now entries.now }
     requires strong { IsStrong (2 * length kinds.now) (entry (held kinds.now entries.now)) }
     ensures outcome { IsOutcome kinds.now entries.now entries.now result }

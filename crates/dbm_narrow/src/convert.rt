@@ -3,6 +3,7 @@ ghost use Rattle.std.specs.Prelude.{◌≡◌, ◌<◌, IfOk};
 ghost use Rattle.dbm_core.specs.Half.{entry, nodes};
 ghost use Rattle.dbm_narrow.specs.Held.{IsEntryOf, IsNarrowOf};
 
+use crate::entry::Entry;
 use crate::width::Width;
 use crate::Narrow;
 use crate::adding::small_bound;
@@ -29,11 +30,11 @@ pub fn narrowed<W: Width>(alloc: Global, matrix: &Matrix) -> Result<Option<Narro
 }
 
 /// The entry of a bound, if it lies within the limits.
-pub fn narrow_entry<W: Width>(bound: Option<i128>) -> Option<W>
+pub fn narrow_entry<W: Width>(bound: Option<i128>) -> Option<Entry<W>>
     ensures entry { IsEntryOf bound result }
 {
     match bound {
-        None => Some(W::NONE),
+        None => Some(Entry::none()),
         Some(x) => small_bound(x),
     }
 }
@@ -61,15 +62,15 @@ pub fn refitted<V: Width, W: Width>(
 fn fits<W: Width>(bound: Option<i128>) -> bool {
     match bound {
         None => true,
-        Some(x) => W::LEAST.number() <= x && x <= W::GREATEST.number(),
+        Some(x) => Entry::least().number() <= x && x <= Entry::greatest().number(),
     }
 }
 
 #[inline]
-fn entry_of<W: Width>(bound: Option<i128>) -> W {
+fn entry_of<W: Width>(bound: Option<i128>) -> Entry<W> {
     match bound {
-        None => W::NONE,
-        Some(x) => W::of(x),
+        None => Entry::none(),
+        Some(x) => Entry::of(x),
     }
 }
 

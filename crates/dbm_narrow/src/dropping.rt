@@ -5,6 +5,7 @@ ghost use Rattle.dbm_narrow.specs.Entries.{AreEntries, dropped};
 ghost use Rattle.dbm_narrow.specs.Held.{Forgets};
 ghost use Rattle.dbm_narrow.specs.Rows.{EachIs, RestStays, RowIs, RowsAre};
 
+use crate::entry::Entry;
 use crate::width::Width;
 use crate::Narrow;
 use crate::rows::{row_at, row_len};
@@ -23,7 +24,7 @@ pub fn forget<W: Width>(alloc: Global, narrow: &Narrow<W>, slot: usize) -> Resul
 
 // Drops the bounds on the slot, in place.
 #[inline]
-fn drop_rows<W: Width>(entries: &mut [W], slots: usize, slot: usize)
+fn drop_rows<W: Width>(entries: &mut [Entry<W>], slots: usize, slot: usize)
     requires few { slots ≤ 16 }
     requires size { length entries.old ≡ row_start (2 * slots) }
     requires entries { AreEntries (2 ^ 25) entries.old }
@@ -37,7 +38,7 @@ fn drop_rows<W: Width>(entries: &mut [W], slots: usize, slot: usize)
 
 // The same in row i.
 #[inline]
-fn drop_row<W: Width>(entries: &mut [W], i: usize, slot: usize)
+fn drop_row<W: Width>(entries: &mut [Entry<W>], i: usize, slot: usize)
     requires row { i < 32 }
     requires size { row_start i + row_width i ≤ length entries.old }
     requires entries { AreEntries (2 ^ 25) entries.old }
@@ -53,7 +54,7 @@ fn drop_row<W: Width>(entries: &mut [W], i: usize, slot: usize)
 
 // The same of the row itself.
 #[inline]
-fn drop_each<W: Width>(row: &mut [W], i: usize, slot: usize)
+fn drop_each<W: Width>(row: &mut [Entry<W>], i: usize, slot: usize)
     requires size { length row.old ≤ 32 }
     requires row { AreEntries (2 ^ 25) row.old }
     ensures kept { EachIs (dropped slot i) row.old row.new }
@@ -66,17 +67,17 @@ fn drop_each<W: Width>(row: &mut [W], i: usize, slot: usize)
 
 // An entry without the bounds on the slot.
 #[inline]
-fn dropped_entry<W: Width>(slot: usize, i: usize, j: usize, entry: W) -> W
+fn dropped_entry<W: Width>(slot: usize, i: usize, j: usize, entry: Entry<W>) -> Entry<W>
     ensures value { result ≡ dropped slot i j entry }
 {
     if i == j {
         return entry;
     }
     if i / 2 == slot {
-        return W::NONE;
+        return Entry::none();
     }
     if j / 2 == slot {
-        return W::NONE;
+        return Entry::none();
     }
     entry
 }

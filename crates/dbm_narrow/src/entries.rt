@@ -3,20 +3,21 @@ ghost use Rattle.std.specs.Prelude.{◌≡◌, ◌*◌, ◌^◌, ◌+ℤ◌};
 ghost use Rattle.std.specs.Int.{int_max, int_min};
 ghost use Rattle.dbm_narrow.specs.Entries.{IsEntry, half_entry, or_zero, settle, through_both, wide};
 
+use crate::entry::Entry;
 use crate::width::Width;
 
 /// A sum as an entry.
 #[inline]
 #[tactic(auto, unfolding(crate::specs::Entries::settle))]
-pub fn settled<W: Width>(sum: W) -> W
+pub fn settled<W: Width>(sum: Entry<W>) -> Entry<W>
     ensures value { result ≡ settle sum }
 {
-    if sum.is_less(W::FREE) { sum } else { W::NONE }
+    if sum.is_less(Entry::free()) { sum } else { Entry::none() }
 }
 
 /// The sum of two entries.
 #[inline]
-pub fn plus<W: Width>(a: W, b: W) -> W
+pub fn plus<W: Width>(a: Entry<W>, b: Entry<W>) -> Entry<W>
     requires left { IsEntry (2 ^ 27) a }
     requires right { IsEntry (2 ^ 27) b }
     ensures sum { result ≡ settle (a +ℤ b) }
@@ -26,7 +27,7 @@ pub fn plus<W: Width>(a: W, b: W) -> W
 
 /// An entry when walks may go over two more.
 #[inline]
-pub fn over_both<W: Width>(a: W, to_first: W, from_first: W, to_second: W, from_second: W) -> W
+pub fn over_both<W: Width>(a: Entry<W>, to_first: Entry<W>, from_first: Entry<W>, to_second: Entry<W>, from_second: Entry<W>) -> Entry<W>
     requires to_first { IsEntry (3 * 2 ^ 25) to_first }
     requires from_first { IsEntry (2 ^ 27) from_first }
     requires to_second { IsEntry (3 * 2 ^ 25) to_second }
@@ -39,7 +40,7 @@ pub fn over_both<W: Width>(a: W, to_first: W, from_first: W, to_second: W, from_
 
 /// The lesser of two numbers.
 #[inline]
-pub fn lesser<W: Width>(a: W, b: W) -> W
+pub fn lesser<W: Width>(a: Entry<W>, b: Entry<W>) -> Entry<W>
     ensures value { result ≡ int_min a b }
 {
     if b.is_less(a) { b } else { a }
@@ -47,7 +48,7 @@ pub fn lesser<W: Width>(a: W, b: W) -> W
 
 /// The greater of two numbers.
 #[inline]
-pub fn greater<W: Width>(a: W, b: W) -> W
+pub fn greater<W: Width>(a: Entry<W>, b: Entry<W>) -> Entry<W>
     ensures value { result ≡ int_max a b }
 {
     if a.is_less(b) { b } else { a }
@@ -55,26 +56,26 @@ pub fn greater<W: Width>(a: W, b: W) -> W
 
 /// The bound, 0 where there is none.
 #[inline]
-pub fn bound_or_zero<W: Width>(a: W) -> W
+pub fn bound_or_zero<W: Width>(a: Entry<W>) -> Entry<W>
     ensures value { result ≡ or_zero a }
 {
-    if a.is_less(W::FREE) { a } else { W::ZERO }
+    if a.is_less(Entry::free()) { a } else { Entry::zero() }
 }
 
 /// The bound that an entry stands for.
 #[inline]
 #[tactic(auto, unfolding(crate::specs::Entries::wide))]
-pub fn wide_bound<W: Width>(a: W) -> Option<i128>
+pub fn wide_bound<W: Width>(a: Entry<W>) -> Option<i128>
     ensures bound { result ≡ wide a }
 {
-    if a.is_less(W::FREE) { Some(a.number()) } else { None }
+    if a.is_less(Entry::free()) { Some(a.number()) } else { None }
 }
 
 /// Half of an entry, rounded down.
 #[inline]
 #[tactic(auto, unfolding(crate::specs::Entries::half_entry))]
-pub fn half<W: Width>(a: W) -> W
+pub fn half<W: Width>(a: Entry<W>) -> Entry<W>
     ensures half { result ≡ half_entry a }
 {
-    if a.is_less(W::FREE) { a.halved() } else { W::NONE }
+    if a.is_less(Entry::free()) { a.halved() } else { Entry::none() }
 }

@@ -3,6 +3,7 @@ ghost use Rattle.std.specs.Prelude.{◌≡◌};
 ghost use Rattle.std.specs.List.{fold};
 ghost use Rattle.dbm_narrow.specs.Feeding.{bound_number, bounds_fed, entries_fed, matrix_fed};
 
+use crate::entry::Entry;
 use crate::width::Width;
 use dbm_core::Matrix;
 use std::hash::Hasher;
@@ -43,7 +44,7 @@ fn number_of(bound: Option<i128>) -> i64
 
 /// Feeds a hasher narrow entries.
 #[inline]
-pub fn feed_entries<W: Width, H: Hasher>(entries: &[W], state: &mut H)
+pub fn feed_entries<W: Width, H: Hasher>(entries: &[Entry<W>], state: &mut H)
     ensures fed { state.new ≡ fold H.write state.old (entries_fed entries.now) }
 {
     for k in 0..entries.len() {

@@ -5,6 +5,7 @@ ghost use Rattle.dbm_core.specs.Operations.{joined};
 ghost use Rattle.dbm_narrow.specs.Entries.{AreEntries};
 ghost use Rattle.dbm_narrow.specs.Rows.{AreGreater};
 
+use crate::entry::Entry;
 use crate::width::Width;
 use crate::Narrow;
 use crate::entries::greater;
@@ -24,7 +25,7 @@ pub fn join<W: Width>(alloc: Global, left: &Narrow<W>, right: &Narrow<W>) -> Res
 
 // Makes each entry at least the other's.
 #[inline]
-fn raise<W: Width>(entries: &mut [W], others: &[W])
+fn raise<W: Width>(entries: &mut [Entry<W>], others: &[Entry<W>])
     requires size { length others.now ≡ length entries.old }
     requires entries { AreEntries (2 ^ 25) entries.old }
     requires others { AreEntries (2 ^ 25) others.now }

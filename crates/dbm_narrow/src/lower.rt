@@ -6,6 +6,7 @@ ghost use Rattle.dbm_narrow.specs.Lowerings.{AreEnds, HasOwnWeights, IsLowering}
 ghost use Rattle.dbm_narrow.specs.Middles.{IsNarrowMiddle};
 ghost use Rattle.dbm_narrow.specs.Rounds.{IsNarrow};
 
+use crate::entry::Entry;
 use crate::width::Width;
 use crate::middle::{Middle, flipped, over, stepped};
 use crate::rows::{entry_at, whole_row};
@@ -15,7 +16,7 @@ use dbm_core::other_sign;
 /// The bounds to and from the edge from i to j, which weighs the bound, and those to and from its
 /// mirror image when walks may use the edge.
 #[inline]
-fn ends_of<W: Width>(entries: &[W], slots: usize, i: usize, j: usize, bound: W) -> Middle<W>
+fn ends_of<W: Width>(entries: &[Entry<W>], slots: usize, i: usize, j: usize, bound: Entry<W>) -> Middle<W>
     requires few { slots ≤ 16 }
     requires row { i < 2 * slots }
     requires column { j < 2 * slots }
@@ -48,7 +49,7 @@ fn ends_of<W: Width>(entries: &[W], slots: usize, i: usize, j: usize, bound: W) 
 /// Lowers a bound, and so its mirror image, in place. After an answer other than `Done` the entries
 /// are of no use.
 #[inline]
-pub fn lower<W: Width>(kinds: &[bool], entries: &mut [W], i: usize, j: usize, bound: W) -> Walks
+pub fn lower<W: Width>(kinds: &[bool], entries: &mut [Entry<W>], i: usize, j: usize, bound: Entry<W>) -> Walks
     requires narrow { IsNarrow kinds.now entries.old }
     requires weights { HasOwnWeights kinds.now entries.old }
     requires row { i < 2 * length kinds.now }
@@ -64,12 +65,12 @@ pub fn lower<W: Width>(kinds: &[bool], entries: &mut [W], i: usize, j: usize, bo
     }
     let ends = ends_of(entries, slots, i, j, bound);
     let first = ends.from_first[i];
-    if first.is_less(W::ZERO) {
+    if first.is_less(Entry::zero()) {
         return Walks::Negative;
     }
     let behind = other_sign(j);
     let second = ends.from_second[behind];
-    if second.is_less(W::ZERO) {
+    if second.is_less(Entry::zero()) {
         return Walks::Negative;
     }
     if go_through_rows(entries, slots, &ends) {

@@ -8,6 +8,7 @@ ghost use Rattle.dbm_narrow.specs.Addings.{AllLowered};
 ghost use Rattle.dbm_narrow.specs.Lowerings.{HasOwnWeights};
 ghost use Rattle.dbm_narrow.specs.Rounds.{IsNarrow};
 
+use crate::entry::Entry;
 use crate::width::Width;
 use crate::Narrow;
 use crate::adding::small_bound;
@@ -24,7 +25,7 @@ pub fn meets<W: Width>(closed: &Narrow<W>, bounds: &[Bound]) -> bool
 }
 
 // The same over entries.
-fn are_met<W: Width>(kinds: &[bool], entries: &[W], bounds: &[Bound]) -> bool
+fn are_met<W: Width>(kinds: &[bool], entries: &[Entry<W>], bounds: &[Bound]) -> bool
     requires narrow { IsNarrow kinds.now entries.now }
     requires weights { HasOwnWeights kinds.now entries.now }
     requires bounds { AreBounds (2 * length kinds.now) bounds.now }

@@ -8,6 +8,7 @@ ghost use Rattle.dbm_narrow.specs.Putting.{IsNarrowBetween, PutsFrom, PutsTo, Pu
 ghost use Rattle.dbm_narrow.specs.Rounds.{IsNarrow};
 ghost use Rattle.dbm_narrow.specs.Rows.{ColumnsAre, LesserFit, SumsFit, over_at, stepped_at};
 
+use crate::entry::Entry;
 use crate::width::Width;
 use crate::between::{Between, bounds_between};
 use crate::entries::{lesser, plus};
@@ -16,21 +17,21 @@ use crate::entries::{lesser, plus};
 /// through the first.
 #[derive(Drop)]
 pub struct Middle<W> {
-    pub to_first: [W; 32],
-    pub from_first: [W; 32],
-    pub to_second: [W; 32],
-    pub from_second: [W; 32],
+    pub to_first: [Entry<W>; 32],
+    pub from_first: [Entry<W>; 32],
+    pub to_second: [Entry<W>; 32],
+    pub from_second: [Entry<W>; 32],
 }
 
 /// What stands at the node of the other sign, of the nodes of this many slots.
 #[inline]
-pub fn flipped<W: Width>(row: &[W; 32], slots: usize) -> [W; 32]
+pub fn flipped<W: Width>(row: &[Entry<W>; 32], slots: usize) -> [Entry<W>; 32]
     requires few { slots ≤ 16 }
     requires entries { AreEntries (2 ^ 25) row.now }
     ensures flipped { (i : ℕ) → i < 2 * slots → at result i ≡ at row.now (flip i) }
     ensures beyond { (i : ℕ) → 2 * slots ≤ i → at result i ≡ none }
 {
-    let mut turned = [W::NONE; 32];
+    let mut turned = [Entry::none(); 32];
     for slot in 0..slots {
         turned[2 * slot] = row[2 * slot + 1];
         turned[2 * slot + 1] = row[2 * slot];
@@ -40,14 +41,14 @@ pub fn flipped<W: Width>(row: &[W; 32], slots: usize) -> [W; 32]
 
 /// Each entry, or where it is less, the sum of a step and the next one.
 #[inline]
-pub fn over<W: Width>(row: &[W; 32], step: W, next: &[W; 32]) -> [W; 32]
+pub fn over<W: Width>(row: &[Entry<W>; 32], step: Entry<W>, next: &[Entry<W>; 32]) -> [Entry<W>; 32]
     requires row { AreEntries (2 ^ 25) row.now }
     requires step { IsEntry (2 ^ 26) step }
     requires next { AreEntries (2 ^ 26) next.now }
     ensures over { ColumnsAre 32 (over_at row.now step next.now) result }
     ensures entries { LesserFit step next.now result }
 {
-    let mut sums = [W::NONE; 32];
+    let mut sums = [Entry::none(); 32];
     for j in 0..32 {
         sums[j] = lesser(row[j], plus(step, next[j]));
     }
@@ -56,13 +57,13 @@ pub fn over<W: Width>(row: &[W; 32], step: W, next: &[W; 32]) -> [W; 32]
 
 /// Each entry and a step.
 #[inline]
-pub fn stepped<W: Width>(step: W, row: &[W; 32]) -> [W; 32]
+pub fn stepped<W: Width>(step: Entry<W>, row: &[Entry<W>; 32]) -> [Entry<W>; 32]
     requires step { IsEntry (2 ^ 27) step }
     requires row { AreEntries (2 ^ 27) row.now }
     ensures sums { ColumnsAre 32 (stepped_at step row.now) result }
     ensures entries { SumsFit step row.now result }
 {
-    let mut sums = [W::NONE; 32];
+    let mut sums = [Entry::none(); 32];
     for j in 0..32 {
         sums[j] = plus(step, row[j]);
     }
@@ -75,16 +76,16 @@ pub fn no_middle<W: Width>() -> Middle<W>
     ensures entries { IsNarrowMiddle result }
 {
     Middle {
-        to_first: [W::NONE; 32],
-        from_first: [W::NONE; 32],
-        to_second: [W::NONE; 32],
-        from_second: [W::NONE; 32],
+        to_first: [Entry::none(); 32],
+        from_first: [Entry::none(); 32],
+        to_second: [Entry::none(); 32],
+        from_second: [Entry::none(); 32],
     }
 }
 
 /// Fills it with the bounds to and from both nodes of slot q.
 #[inline]
-pub fn fill_middle<W: Width>(kinds: &[bool], entries: &[W], q: usize, middle: &mut Middle<W>)
+pub fn fill_middle<W: Width>(kinds: &[bool], entries: &[Entry<W>], q: usize, middle: &mut Middle<W>)
     requires narrow { IsNarrow kinds.now entries.now }
     requires middle { q < length kinds.now }
     requires entries { IsNarrowMiddle middle.old }
@@ -103,7 +104,7 @@ pub fn fill_middle<W: Width>(kinds: &[bool], entries: &[W], q: usize, middle: &m
 // Puts the bounds from both nodes to those of another slot: `back` leads from the second node to
 // the first.
 #[inline]
-fn put_from<W: Width>(middle: &mut Middle<W>, slot: usize, here: Between<W>, back: W)
+fn put_from<W: Width>(middle: &mut Middle<W>, slot: usize, here: Between<W>, back: Entry<W>)
     requires slot { slot < 16 }
     requires narrow { IsNarrowBetween here }
     requires back { IsEntry (2 ^ 25) back }
@@ -123,7 +124,7 @@ fn put_from<W: Width>(middle: &mut Middle<W>, slot: usize, here: Between<W>, bac
 // Puts the bounds to both nodes from those of another slot: `ahead` leads from the first node to
 // the second.
 #[inline]
-fn put_to<W: Width>(middle: &mut Middle<W>, slot: usize, here: Between<W>, ahead: W)
+fn put_to<W: Width>(middle: &mut Middle<W>, slot: usize, here: Between<W>, ahead: Entry<W>)
     requires slot { slot < 16 }
     requires narrow { IsNarrowBetween here }
     requires ahead { IsEntry (2 ^ 25) ahead }
@@ -142,7 +143,7 @@ fn put_to<W: Width>(middle: &mut Middle<W>, slot: usize, here: Between<W>, ahead
 
 // Puts the entries at both nodes of a slot.
 #[inline]
-fn put<W: Width>(row: &mut [W; 32], slot: usize, even: W, odd: W)
+fn put<W: Width>(row: &mut [Entry<W>; 32], slot: usize, even: Entry<W>, odd: Entry<W>)
     requires slot { slot < 16 }
     ensures put { PutsTwo slot even odd row.old row.new }
 {

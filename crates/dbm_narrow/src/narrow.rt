@@ -6,6 +6,7 @@ ghost use Rattle.dbm_core.specs.Limits.{AreWithin};
 ghost use Rattle.dbm_core.specs.Same.{same_matrix, same_matrix-equiv, same_matrix-hash};
 ghost use Rattle.dbm_narrow.specs.Feeding.{matrix_fed};
 
+use crate::entry::Entry;
 use crate::width::Width;
 use crate::entries::wide_bound;
 use crate::feeding::feed_entries;
@@ -22,7 +23,7 @@ use std::marker::Model;
 #[derive(Drop)]
 pub struct Narrow<W: Width> {
     pub(crate) kinds: Kinds,
-    pub(crate) entries: Vec<W>,
+    pub(crate) entries: Vec<Entry<W>>,
 }
 
 impl<W: Width> Model for Narrow<W> {

@@ -6,6 +6,7 @@ ghost use Rattle.dbm_narrow.specs.Entries.{held};
 ghost use Rattle.dbm_narrow.specs.Held.{HoldsValues};
 ghost use Rattle.dbm_narrow.specs.Rounds.{IsNarrow};
 
+use crate::entry::Entry;
 use crate::width::Width;
 use crate::Narrow;
 use crate::rows::place;
@@ -25,7 +26,7 @@ pub fn slot_range<W: Width>(narrow: &Narrow<W>, slot: usize) -> (i128, i128)
 }
 
 // The low end, over entries.
-fn low_of<W: Width>(kinds: &[bool], entries: &[W], slot: usize) -> i128
+fn low_of<W: Width>(kinds: &[bool], entries: &[Entry<W>], slot: usize) -> i128
     requires narrow { IsNarrow kinds.now entries.now }
     requires slot { slot < length kinds.now }
     ensures low { result ≡ slot_low kinds.now (entry (held kinds.now entries.now)) slot }
@@ -35,7 +36,7 @@ fn low_of<W: Width>(kinds: &[bool], entries: &[W], slot: usize) -> i128
 }
 
 // The high end, over entries.
-fn high_of<W: Width>(kinds: &[bool], entries: &[W], slot: usize) -> i128
+fn high_of<W: Width>(kinds: &[bool], entries: &[Entry<W>], slot: usize) -> i128
     requires narrow { IsNarrow kinds.now entries.now }
     requires slot { slot < length kinds.now }
     ensures high { result ≡ slot_high kinds.now (entry (held kinds.now entries.now)) slot }

@@ -5,6 +5,7 @@ ghost use Rattle.dbm_core.specs.Nodes.{flip};
 ghost use Rattle.dbm_narrow.specs.Entries.{AreEntries, IsEntry, at, none, pair_at};
 ghost use Rattle.dbm_narrow.specs.Rows.{AreEntriesFrom, AreGone, EachIs, GoneThrough, strengthened_at, through_at};
 
+use crate::entry::Entry;
 use crate::width::Width;
 use crate::entries::{bound_or_zero, greater, lesser, over_both, settled};
 use dbm_core::other_sign;
@@ -46,7 +47,7 @@ pub fn row_len(i: usize) -> usize
 
 /// The entry of a pair.
 #[inline]
-pub fn entry_at<W: Width>(entries: &[W], slots: usize, i: usize, j: usize) -> W
+pub fn entry_at<W: Width>(entries: &[Entry<W>], slots: usize, i: usize, j: usize) -> Entry<W>
     requires few { slots ≤ 16 }
     requires row { i < 2 * slots }
     requires column { j < 2 * slots }
@@ -64,7 +65,7 @@ pub fn entry_at<W: Width>(entries: &[W], slots: usize, i: usize, j: usize) -> W
 
 /// The entries of row i, whose node of the other sign is `other`; none beyond the nodes.
 #[inline]
-pub fn whole_row<W: Width>(entries: &[W], slots: usize, i: usize, other: usize) -> [W; 32]
+pub fn whole_row<W: Width>(entries: &[Entry<W>], slots: usize, i: usize, other: usize) -> [Entry<W>; 32]
     requires few { slots ≤ 16 }
     requires row { i < 2 * slots }
     requires other { other ≡ flip i }
@@ -73,7 +74,7 @@ pub fn whole_row<W: Width>(entries: &[W], slots: usize, i: usize, other: usize) 
     ensures entries { (j : ℕ) → j < 2 * slots → at result j ≡ pair_at entries.now i j }
     ensures beyond { (j : ℕ) → 2 * slots ≤ j → at result j ≡ none }
 {
-    let mut row = [W::NONE; 32];
+    let mut row = [Entry::none(); 32];
     let start = row_at(i);
     let kept = row_len(i);
     for j in 0..kept {
@@ -92,11 +93,11 @@ pub fn whole_row<W: Width>(entries: &[W], slots: usize, i: usize, other: usize) 
 /// Walks from a node may go over both nodes of a slot, in place, four entries at a time.
 #[inline]
 pub fn go_through<W: Width>(
-    row: &mut [W],
-    to_first: W,
-    to_second: W,
-    from_first: &[W; 32],
-    from_second: &[W; 32],
+    row: &mut [Entry<W>],
+    to_first: Entry<W>,
+    to_second: Entry<W>,
+    from_first: &[Entry<W>; 32],
+    from_second: &[Entry<W>; 32],
 )
     requires size { length row.old ≤ 32 }
     requires even { length row.old % 2 ≡ 0 }
@@ -120,12 +121,12 @@ pub fn go_through<W: Width>(
 // The same of four entries. All are read before one is written, so that this is vector code.
 #[inline]
 fn go_four<W: Width>(
-    row: &mut [W],
+    row: &mut [Entry<W>],
     j: usize,
-    to_first: W,
-    to_second: W,
-    from_first: &[W; 32],
-    from_second: &[W; 32],
+    to_first: Entry<W>,
+    to_second: Entry<W>,
+    from_first: &[Entry<W>; 32],
+    from_second: &[Entry<W>; 32],
 )
     requires size { length row.old ≤ 32 }
     requires columns { j + 4 ≤ length row.old }
@@ -150,12 +151,12 @@ fn go_four<W: Width>(
 // The same of two.
 #[inline]
 fn go_two<W: Width>(
-    row: &mut [W],
+    row: &mut [Entry<W>],
     j: usize,
-    to_first: W,
-    to_second: W,
-    from_first: &[W; 32],
-    from_second: &[W; 32],
+    to_first: Entry<W>,
+    to_second: Entry<W>,
+    from_first: &[Entry<W>; 32],
+    from_second: &[Entry<W>; 32],
 )
     requires size { length row.old ≤ 32 }
     requires columns { j + 2 ≤ length row.old }
@@ -176,13 +177,13 @@ fn go_two<W: Width>(
 // The entry at column j when walks may go over both nodes.
 #[inline]
 fn gone_at<W: Width>(
-    row: &[W],
+    row: &[Entry<W>],
     j: usize,
-    to_first: W,
-    to_second: W,
-    from_first: &[W; 32],
-    from_second: &[W; 32],
-) -> W
+    to_first: Entry<W>,
+    to_second: Entry<W>,
+    from_first: &[Entry<W>; 32],
+    from_second: &[Entry<W>; 32],
+) -> Entry<W>
     requires size { length row.now ≤ 32 }
     requires column { j < length row.now }
     requires entry { IsEntry (2 ^ 25) (at row.now j) }
@@ -198,23 +199,23 @@ fn gone_at<W: Width>(
 
 /// Whether each bound lies within the limits.
 #[inline]
-pub fn are_within<W: Width>(entries: &[W]) -> bool
+pub fn are_within<W: Width>(entries: &[Entry<W>]) -> bool
     requires entries { AreEntries (7 * 2 ^ 25) entries.now }
     ensures within { result ≡ true → AreEntries (2 ^ 25) entries.now }
 {
-    let mut low = W::ZERO;
-    let mut high = W::ZERO;
+    let mut low = Entry::zero();
+    let mut high = Entry::zero();
     for j in 0..entries.len() {
         let bound = entries[j];
         low = lesser(low, bound);
         high = greater(high, bound_or_zero(bound));
     }
-    !low.is_less(W::LEAST) && !W::GREATEST.is_less(high)
+    !low.is_less(Entry::least()) && !Entry::greatest().is_less(high)
 }
 
 /// A row in which each bound is at most the sum of halves.
 #[inline]
-pub fn strengthen<W: Width>(row: &mut [W], to: W, from: &[W; 32])
+pub fn strengthen<W: Width>(row: &mut [Entry<W>], to: Entry<W>, from: &[Entry<W>; 32])
     requires size { length row.old ≤ 32 }
     requires row { AreEntries (2 ^ 25) row.old }
     requires to { IsEntry (2 ^ 24) to }

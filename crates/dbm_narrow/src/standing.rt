@@ -7,6 +7,7 @@ ghost use Rattle.dbm_narrow.specs.Rounds.{IsNarrow};
 ghost use Rattle.dbm_narrow.specs.Rows.{ColumnsAre, EachIs, RestStays, RowIs, RowsAre};
 ghost use Rattle.dbm_narrow.specs.Standing.{IsEquatedOutcome, StandsTo, replaced, stood_at};
 
+use crate::entry::Entry;
 use crate::width::Width;
 use crate::adding::small_bound;
 use crate::closing::ClosingResult;
@@ -20,7 +21,7 @@ use dbm_core::other_sign;
 /// they are of no use.
 pub fn close_stood<W: Width>(
     kinds: &[bool],
-    entries: &mut [W],
+    entries: &mut [Entry<W>],
     q: usize,
     y: usize,
     c: i128,
@@ -39,7 +40,7 @@ pub fn close_stood<W: Width>(
 }
 
 // The same of a number within the limits.
-fn close_small<W: Width>(kinds: &[bool], entries: &mut [W], q: usize, y: usize, c: W) -> ClosingResult
+fn close_small<W: Width>(kinds: &[bool], entries: &mut [Entry<W>], q: usize, y: usize, c: Entry<W>) -> ClosingResult
     requires narrow { IsNarrow kinds.now entries.old }
     requires closed { IsClosed (held kinds.now entries.old) }
     requires slot { q < length kinds.now }
@@ -57,7 +58,7 @@ fn close_small<W: Width>(kinds: &[bool], entries: &mut [W], q: usize, y: usize, 
 
 // Makes slot q stand for node y plus c, in place: whether each bound stays within the limits.
 #[inline]
-fn stand<W: Width>(kinds: &[bool], entries: &mut [W], q: usize, y: usize, c: W) -> bool
+fn stand<W: Width>(kinds: &[bool], entries: &mut [Entry<W>], q: usize, y: usize, c: Entry<W>) -> bool
     requires narrow { IsNarrow kinds.now entries.old }
     requires closed { IsClosed (held kinds.now entries.old) }
     requires slot { q < length kinds.now }
@@ -73,8 +74,8 @@ fn stand<W: Width>(kinds: &[bool], entries: &mut [W], q: usize, y: usize, c: W) 
     let less = negative(c);
     let twice_less = twice_of(less);
     let twice = twice_of(c);
-    let first = stood_row(&node, q, y, W::ZERO, twice_less, less);
-    let second = stood_row(&behind, q, y, twice, W::ZERO, c);
+    let first = stood_row(&node, q, y, Entry::zero(), twice_less, less);
+    let second = stood_row(&behind, q, y, twice, Entry::zero(), c);
     if !are_within(&first) {
         return false;
     }
@@ -86,7 +87,7 @@ fn stand<W: Width>(kinds: &[bool], entries: &mut [W], q: usize, y: usize, c: W) 
 }
 
 /// Makes slot q stand for node y plus c, in place: whether c and each bound lie within the limits.
-pub fn stand_by<W: Width>(kinds: &[bool], entries: &mut [W], q: usize, y: usize, c: i128) -> bool
+pub fn stand_by<W: Width>(kinds: &[bool], entries: &mut [Entry<W>], q: usize, y: usize, c: i128) -> bool
     requires narrow { IsNarrow kinds.now entries.old }
     requires closed { IsClosed (held kinds.now entries.old) }
     requires slot { q < length kinds.now }
@@ -101,7 +102,7 @@ pub fn stand_by<W: Width>(kinds: &[bool], entries: &mut [W], q: usize, y: usize,
 
 // The number's negative.
 #[inline]
-fn negative<W: Width>(c: W) -> W
+fn negative<W: Width>(c: Entry<W>) -> Entry<W>
     requires low { neg_ℤ (pos (2 ^ 25)) ≤ℤ c }
     requires high { c ≤ℤ pos (2 ^ 25) }
     ensures value { result ≡ neg_ℤ c }
@@ -111,7 +112,7 @@ fn negative<W: Width>(c: W) -> W
 
 // Twice the number.
 #[inline]
-fn twice_of<W: Width>(c: W) -> W
+fn twice_of<W: Width>(c: Entry<W>) -> Entry<W>
     requires low { neg_ℤ (pos (2 ^ 25)) ≤ℤ c }
     requires high { c ≤ℤ pos (2 ^ 25) }
     ensures value { result ≡ c +ℤ c }
@@ -121,7 +122,7 @@ fn twice_of<W: Width>(c: W) -> W
 
 // The entry at a column.
 #[inline]
-fn column_at<W: Width>(row: &[W; 32], j: usize) -> W
+fn column_at<W: Width>(row: &[Entry<W>; 32], j: usize) -> Entry<W>
     requires column { j < 32 }
     requires row { AreEntries (2 ^ 25) row.now }
     ensures value { result ≡ at row.now j }
@@ -131,7 +132,7 @@ fn column_at<W: Width>(row: &[W; 32], j: usize) -> W
 
 // The row of one of slot q's nodes, from the row of the node that it stands for.
 #[inline]
-fn stood_row<W: Width>(row: &[W; 32], q: usize, y: usize, first: W, second: W, others: W) -> [W; 32]
+fn stood_row<W: Width>(row: &[Entry<W>; 32], q: usize, y: usize, first: Entry<W>, second: Entry<W>, others: Entry<W>) -> [Entry<W>; 32]
     requires slot { q < 16 }
     requires node { y < 32 }
     requires row { AreEntries (2 ^ 25) row.now }
@@ -152,7 +153,7 @@ fn stood_row<W: Width>(row: &[W; 32], q: usize, y: usize, first: W, second: W, o
 
 // Puts the rows of slot q's nodes, in place.
 #[inline]
-fn replace_rows<W: Width>(entries: &mut [W], slots: usize, q: usize, first: &[W; 32], second: &[W; 32])
+fn replace_rows<W: Width>(entries: &mut [Entry<W>], slots: usize, q: usize, first: &[Entry<W>; 32], second: &[Entry<W>; 32])
     requires few { slots ≤ 16 }
     requires size { length entries.old ≡ row_start (2 * slots) }
     requires entries { AreEntries (2 ^ 25) entries.old }
@@ -169,7 +170,7 @@ fn replace_rows<W: Width>(entries: &mut [W], slots: usize, q: usize, first: &[W;
 
 // The same in row i.
 #[inline]
-fn replace_row<W: Width>(entries: &mut [W], i: usize, q: usize, first: &[W; 32], second: &[W; 32])
+fn replace_row<W: Width>(entries: &mut [Entry<W>], i: usize, q: usize, first: &[Entry<W>; 32], second: &[Entry<W>; 32])
     requires row { i < 32 }
     requires slot { q < 16 }
     requires size { row_start i + row_width i ≤ length entries.old }
@@ -188,7 +189,7 @@ fn replace_row<W: Width>(entries: &mut [W], i: usize, q: usize, first: &[W; 32],
 
 // The same of the row itself.
 #[inline]
-fn replace_each<W: Width>(row: &mut [W], i: usize, q: usize, first: &[W; 32], second: &[W; 32])
+fn replace_each<W: Width>(row: &mut [Entry<W>], i: usize, q: usize, first: &[Entry<W>; 32], second: &[Entry<W>; 32])
     requires size { length row.old ≡ row_width i }
     requires row { AreEntries (2 ^ 25) row.old }
     requires node { i < 32 }
@@ -215,7 +216,7 @@ fn replace_each<W: Width>(row: &mut [W], i: usize, q: usize, first: &[W; 32], se
 
 // Makes a row the first entries of another.
 #[inline]
-fn copy_row<W: Width>(row: &mut [W], from: &[W; 32])
+fn copy_row<W: Width>(row: &mut [Entry<W>], from: &[Entry<W>; 32])
     requires size { length row.old ≤ 32 }
     requires row { AreEntries (2 ^ 25) row.old }
     requires from { AreEntries (2 ^ 25) from.now }

@@ -9,6 +9,7 @@ ghost use Rattle.dbm_narrow.specs.Held.{HoldsHalves, TellsFinish, TellsHalves, T
 ghost use Rattle.dbm_narrow.specs.Rounds.{IsNarrow};
 ghost use Rattle.dbm_narrow.specs.Rows.{RestStays, RowIs, Strengthened, strengthened_at};
 
+use crate::entry::Entry;
 use crate::width::Width;
 use crate::closing::ClosingResult;
 use crate::entries::{half, plus};
@@ -17,7 +18,7 @@ use crate::rows::{place, row_at, row_len, strengthen};
 
 /// Steps 2 to 6, in place: false where no values are left.
 #[inline]
-pub fn finish<W: Width>(kinds: &[bool], entries: &mut [W]) -> ClosingResult
+pub fn finish<W: Width>(kinds: &[bool], entries: &mut [Entry<W>]) -> ClosingResult
     requires narrow { IsNarrow kinds.now entries.old }
     ensures finish { TellsFinish kinds.now entries.old entries.new result }
 {
@@ -33,7 +34,7 @@ pub fn finish<W: Width>(kinds: &[bool], entries: &mut [W]) -> ClosingResult
 
 /// The same of strong entries, which these steps leave as they are.
 #[inline]
-pub fn finish_strong<W: Width>(kinds: &[bool], entries: &[W]) -> ClosingResult
+pub fn finish_strong<W: Width>(kinds: &[bool], entries: &[Entry<W>]) -> ClosingResult
     requires narrow { IsNarrow kinds.now entries.now }
     requires strong { IsStrong (2 * length kinds.now) (entry (held kinds.now entries.now)) }
     ensures finish { TellsFinish kinds.now entries.now entries.now result }
@@ -49,7 +50,7 @@ pub fn finish_strong<W: Width>(kinds: &[bool], entries: &[W]) -> ClosingResult
 
 // Whether step 5 cuts no entry, and none is too low for it.
 #[inline]
-fn are_uncut<W: Width>(entries: &[W]) -> bool {
+fn are_uncut<W: Width>(entries: &[Entry<W>]) -> bool {
     if !W::CUTS {
         return true;
     }
@@ -62,12 +63,12 @@ fn are_uncut<W: Width>(entries: &[W]) -> bool {
 
 // Half of the bound from each node to that of the other sign, rounded down.
 #[inline]
-fn halves_of<W: Width>(kinds: &[bool], entries: &[W]) -> [W; 32]
+fn halves_of<W: Width>(kinds: &[bool], entries: &[Entry<W>]) -> [Entry<W>; 32]
     requires narrow { IsNarrow kinds.now entries.now }
     ensures halves { HoldsHalves kinds.now entries.now result }
     ensures entries { AreEntries (2 ^ 24) result }
 {
-    let mut halves = [W::NONE; 32];
+    let mut halves = [Entry::none(); 32];
     for slot in 0..kinds.len() {
         let even = place(2 * slot, 2 * slot + 1);
         let odd = place(2 * slot + 1, 2 * slot);
@@ -81,7 +82,7 @@ fn halves_of<W: Width>(kinds: &[bool], entries: &[W]) -> [W; 32]
 
 // Step 3: whether both halves of a slot leave no number.
 #[inline]
-fn has_negative_halves<W: Width>(halves: &[W; 32], behind: &[W; 32], slots: usize) -> bool
+fn has_negative_halves<W: Width>(halves: &[Entry<W>; 32], behind: &[Entry<W>; 32], slots: usize) -> bool
     requires few { slots ≤ 16 }
     requires halves { AreEntries (2 ^ 24) halves.now }
     requires behind { AreEntries (2 ^ 24) behind.now }
@@ -90,7 +91,7 @@ fn has_negative_halves<W: Width>(halves: &[W; 32], behind: &[W; 32], slots: usiz
 {
     for i in 0..2 * slots {
         let sum = plus(halves[i], behind[i]);
-        if sum.is_less(W::ZERO) {
+        if sum.is_less(Entry::zero()) {
             return true;
         }
     }
@@ -99,7 +100,7 @@ fn has_negative_halves<W: Width>(halves: &[W; 32], behind: &[W; 32], slots: usiz
 
 // Steps 2 and 4, in place.
 #[inline]
-fn strengthen_rows<W: Width>(entries: &mut [W], slots: usize, halves: &[W; 32], behind: &[W; 32])
+fn strengthen_rows<W: Width>(entries: &mut [Entry<W>], slots: usize, halves: &[Entry<W>; 32], behind: &[Entry<W>; 32])
     requires few { slots ≤ 16 }
     requires size { length entries.old ≡ row_start (2 * slots) }
     requires entries { AreEntries (2 ^ 25) entries.old }
@@ -115,7 +116,7 @@ fn strengthen_rows<W: Width>(entries: &mut [W], slots: usize, halves: &[W; 32], 
 
 // The same in row i.
 #[inline]
-fn strengthen_row<W: Width>(entries: &mut [W], i: usize, to: W, behind: &[W; 32])
+fn strengthen_row<W: Width>(entries: &mut [Entry<W>], i: usize, to: Entry<W>, behind: &[Entry<W>; 32])
     requires row { i < 32 }
     requires size { row_start i + row_width i ≤ length entries.old }
     requires entries { AreEntries (2 ^ 25) entries.old }
@@ -125,7 +126,7 @@ fn strengthen_row<W: Width>(entries: &mut [W], i: usize, to: W, behind: &[W; 32]
     ensures rest { RestStays i entries.old entries.new }
     ensures entries { AreEntries (2 ^ 25) entries.new }
 {
-    if !to.is_less(W::FREE) {
+    if !to.is_less(Entry::free()) {
         return;
     }
     let start = row_at(i);
@@ -137,12 +138,12 @@ fn strengthen_row<W: Width>(entries: &mut [W], i: usize, to: W, behind: &[W; 32]
 /// The least value of a slot, by the bound on twice its negative.
 #[inline]
 #[tactic(auto, unfolding(crate::specs::Entries::wide))]
-pub fn low_end<W: Width>(array: bool, bound: W) -> i128
+pub fn low_end<W: Width>(array: bool, bound: Entry<W>) -> i128
     requires bound { IsEntry (2 ^ 25) bound }
     ensures low { result ≡ range_low array (wide bound) }
 {
     let extreme = if array { 0 } else { -9223372036854775808 };
-    if !bound.is_less(W::FREE) {
+    if !bound.is_less(Entry::free()) {
         return extreme;
     }
     let end = -bound.half_number();
@@ -152,11 +153,11 @@ pub fn low_end<W: Width>(array: bool, bound: W) -> i128
 /// The greatest value of a slot, by the bound on twice it.
 #[inline]
 #[tactic(auto, unfolding(crate::specs::Entries::wide))]
-pub fn high_end<W: Width>(array: bool, bound: W) -> i128
+pub fn high_end<W: Width>(array: bool, bound: Entry<W>) -> i128
     ensures high { result ≡ range_high array (wide bound) }
 {
     let extreme = if array { 1000000 } else { 9223372036854775807 };
-    if !bound.is_less(W::FREE) {
+    if !bound.is_less(Entry::free()) {
         return extreme;
     }
     let end = bound.half_number();
@@ -165,7 +166,7 @@ pub fn high_end<W: Width>(array: bool, bound: W) -> i128
 
 // Step 6: whether a slot's range is empty.
 #[inline]
-fn has_empty_range<W: Width>(kinds: &[bool], entries: &[W]) -> bool
+fn has_empty_range<W: Width>(kinds: &[bool], entries: &[Entry<W>]) -> bool
     requires narrow { IsNarrow kinds.now entries.now }
     ensures empty { TellsRanges kinds.now entries.now result }
 {

@@ -7,6 +7,7 @@ ghost use Rattle.dbm_narrow.specs.Middles.{AllThrough, IsNarrowMiddle, through_m
 ghost use Rattle.dbm_narrow.specs.Rounds.{AreRounds, IsNarrow, IsRound};
 ghost use Rattle.dbm_narrow.specs.Rows.{IsRowWithin, RestStays, RowIs};
 
+use crate::entry::Entry;
 use crate::width::Width;
 use crate::middle::{Middle, fill_middle, no_middle};
 use crate::rows::{are_within, go_through, row_at, row_len};
@@ -25,7 +26,7 @@ pub enum Walks {
 /// Step 1: the least weights of all walks, in place. After an answer other than `Done` the entries
 /// are of no use.
 #[inline]
-pub fn least_weights<W: Width>(kinds: &[bool], entries: &mut [W]) -> Walks
+pub fn least_weights<W: Width>(kinds: &[bool], entries: &mut [Entry<W>]) -> Walks
     requires narrow { IsNarrow kinds.now entries.old }
     requires diagonal { HasLowDiagonal kinds.now entries.old }
     ensures weights { AreRounds kinds.now entries.old entries.new result }
@@ -46,7 +47,7 @@ pub fn least_weights<W: Width>(kinds: &[bool], entries: &mut [W]) -> Walks
 
 // One round: walks may go through both nodes of slot q, whose bounds are put into `middle`.
 #[inline]
-fn make_round<W: Width>(kinds: &[bool], entries: &mut [W], q: usize, middle: &mut Middle<W>) -> Walks
+fn make_round<W: Width>(kinds: &[bool], entries: &mut [Entry<W>], q: usize, middle: &mut Middle<W>) -> Walks
     requires narrow { IsNarrow kinds.now entries.old }
     requires middle { q < length kinds.now }
     requires bounds { IsNarrowMiddle middle.old }
@@ -54,10 +55,10 @@ fn make_round<W: Width>(kinds: &[bool], entries: &mut [W], q: usize, middle: &mu
     ensures bounds { IsNarrowMiddle middle.new }
 {
     fill_middle(kinds, entries, q, middle);
-    if middle.from_first[2 * q].is_less(W::ZERO) {
+    if middle.from_first[2 * q].is_less(Entry::zero()) {
         return Walks::Negative;
     }
-    if middle.from_second[2 * q + 1].is_less(W::ZERO) {
+    if middle.from_second[2 * q + 1].is_less(Entry::zero()) {
         return Walks::Negative;
     }
     if go_through_rows(entries, kinds.len(), middle) {
@@ -69,7 +70,7 @@ fn make_round<W: Width>(kinds: &[bool], entries: &mut [W], q: usize, middle: &mu
 
 /// Walks may go through both nodes of the slot, in place: whether each bound stays within the limits.
 #[inline]
-pub fn go_through_rows<W: Width>(entries: &mut [W], slots: usize, middle: &Middle<W>) -> bool
+pub fn go_through_rows<W: Width>(entries: &mut [Entry<W>], slots: usize, middle: &Middle<W>) -> bool
     requires few { slots ≤ 16 }
     requires size { length entries.old ≡ row_start (2 * slots) }
     requires entries { AreEntries (2 ^ 25) entries.old }
@@ -92,7 +93,7 @@ pub fn go_through_rows<W: Width>(entries: &mut [W], slots: usize, middle: &Middl
 
 // The same in row i: whether each of its bounds stays within the limits, where that is to be checked.
 #[inline]
-fn go_through_row<W: Width>(entries: &mut [W], i: usize, middle: &Middle<W>, checks: bool) -> bool
+fn go_through_row<W: Width>(entries: &mut [Entry<W>], i: usize, middle: &Middle<W>, checks: bool) -> bool
     requires row { i < 32 }
     requires size { row_start i + row_width i ≤ length entries.old }
     requires entries { AreEntries (7 * 2 ^ 25) entries.old }
@@ -106,7 +107,7 @@ fn go_through_row<W: Width>(entries: &mut [W], i: usize, middle: &Middle<W>, che
 {
     let to_first = middle.to_first[i];
     let to_second = middle.to_second[i];
-    if !to_first.is_less(W::FREE) && !to_second.is_less(W::FREE) {
+    if !to_first.is_less(Entry::free()) && !to_second.is_less(Entry::free()) {
         return true;
     }
     let start = row_at(i);
@@ -124,7 +125,7 @@ fn go_through_row<W: Width>(entries: &mut [W], i: usize, middle: &Middle<W>, che
 
 // Whether each bound lies within the limits, where that is to be checked.
 #[inline]
-fn are_within_if<W: Width>(checks: bool, entries: &[W]) -> bool
+fn are_within_if<W: Width>(checks: bool, entries: &[Entry<W>]) -> bool
     requires entries { AreEntries (7 * 2 ^ 25) entries.now }
     ensures within { checks ≡ true → result ≡ true → AreEntries (2 ^ 25) entries.now }
 {
@@ -133,13 +134,13 @@ fn are_within_if<W: Width>(checks: bool, entries: &[W]) -> bool
 
 // Whether an entry of the diagonal is below 0.
 #[inline]
-fn is_diagonal_negative<W: Width>(kinds: &[bool], entries: &[W]) -> bool
+fn is_diagonal_negative<W: Width>(kinds: &[bool], entries: &[Entry<W>]) -> bool
     requires narrow { IsNarrow kinds.now entries.now }
     ensures negative { TellsDiagonal kinds.now entries.now result }
 {
     for slot in 0..kinds.len() {
         let at = row_at(2 * slot) + 2 * slot;
-        if entries[at].is_less(W::ZERO) {
+        if entries[at].is_less(Entry::zero()) {
             return true;
         }
     }

@@ -8,6 +8,7 @@ ghost use Rattle.dbm_narrow.specs.Entries.{AreEntries, IsEntry, wide};
 ghost use Rattle.dbm_narrow.specs.Rows.{RestStays};
 ghost use Rattle.dbm_narrow.specs.Widenings.{EachWidens, IsThresholdEntry, IsWidenedIf, RowWidens, WidensIf, WidensOn, start_at};
 
+use crate::entry::Entry;
 use crate::width::Width;
 use crate::Narrow;
 use crate::convert::narrow_entry;
@@ -43,7 +44,7 @@ pub fn widen<W: Width>(
 
 // Widens the entries by the others, in place: whether each bound stays within the limits.
 #[inline]
-fn raise_rows<W: Width>(entries: &mut [W], others: &[W], slots: usize, thresholds: &[i64]) -> bool
+fn raise_rows<W: Width>(entries: &mut [Entry<W>], others: &[Entry<W>], slots: usize, thresholds: &[i64]) -> bool
     requires few { slots ≤ 16 }
     requires size { length entries.old ≡ row_start (2 * slots) }
     requires as_many { length others.now ≡ length entries.old }
@@ -62,7 +63,7 @@ fn raise_rows<W: Width>(entries: &mut [W], others: &[W], slots: usize, threshold
 
 // The same in row i.
 #[inline]
-fn raise_row<W: Width>(entries: &mut [W], others: &[W], i: usize, thresholds: &[i64]) -> bool
+fn raise_row<W: Width>(entries: &mut [Entry<W>], others: &[Entry<W>], i: usize, thresholds: &[i64]) -> bool
     requires row { i < 32 }
     requires size { row_start i + row_width i ≤ length entries.old }
     requires as_many { length others.now ≡ length entries.old }
@@ -81,7 +82,7 @@ fn raise_row<W: Width>(entries: &mut [W], others: &[W], i: usize, thresholds: &[
 
 // The same of the row itself.
 #[inline]
-fn raise_each<W: Width>(row: &mut [W], others: &[W], i: usize, thresholds: &[i64]) -> bool
+fn raise_each<W: Width>(row: &mut [Entry<W>], others: &[Entry<W>], i: usize, thresholds: &[i64]) -> bool
     requires node { i < 32 }
     requires size { length row.old ≤ 32 }
     requires as_many { length others.now ≡ length row.old }
@@ -102,7 +103,7 @@ fn raise_each<W: Width>(row: &mut [W], others: &[W], i: usize, thresholds: &[i64
 
 // An entry stays where the new one is not greater, else it goes to the next threshold, if that fits.
 #[inline]
-fn widened_entry<W: Width>(thresholds: &[i64], doubled: bool, old: W, new: W) -> Option<W>
+fn widened_entry<W: Width>(thresholds: &[i64], doubled: bool, old: Entry<W>, new: Entry<W>) -> Option<Entry<W>>
     requires old { IsEntry (2 ^ 25) old }
     requires new { IsEntry (2 ^ 25) new }
     ensures widened { IsWidenedIf thresholds.now doubled old new result }
@@ -110,21 +111,21 @@ fn widened_entry<W: Width>(thresholds: &[i64], doubled: bool, old: W, new: W) ->
     if !old.is_less(new) {
         return Some(old);
     }
-    if !new.is_less(W::FREE) {
-        return Some(W::NONE);
+    if !new.is_less(Entry::free()) {
+        return Some(Entry::none());
     }
     threshold_entry(thresholds, doubled, new)
 }
 
 // The entry of the next threshold, if it fits.
-fn threshold_entry<W: Width>(thresholds: &[i64], doubled: bool, bound: W) -> Option<W>
+fn threshold_entry<W: Width>(thresholds: &[i64], doubled: bool, bound: Entry<W>) -> Option<Entry<W>>
     ensures threshold { IsThresholdEntry (next_threshold thresholds.now doubled bound) result }
 {
     narrow_entry(threshold_from(thresholds, doubled, bound))
 }
 
 // The least of the thresholds, or of the thresholds doubled, that is not less than the bound.
-fn threshold_from<W: Width>(thresholds: &[i64], doubled: bool, bound: W) -> Option<i128>
+fn threshold_from<W: Width>(thresholds: &[i64], doubled: bool, bound: Entry<W>) -> Option<i128>
     ensures threshold { result ≡ next_threshold thresholds.now doubled bound }
 {
     match least_from(thresholds, start_of(doubled, bound)) {
@@ -135,7 +136,7 @@ fn threshold_from<W: Width>(thresholds: &[i64], doubled: bool, bound: W) -> Opti
 
 // What a threshold is not less than where it, or its double, is not less than the bound.
 #[inline]
-fn start_of<W: Width>(doubled: bool, bound: W) -> i128
+fn start_of<W: Width>(doubled: bool, bound: Entry<W>) -> i128
     ensures start { result ≡ start_at doubled bound }
 {
     let number = bound.number();

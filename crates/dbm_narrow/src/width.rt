@@ -1,65 +1,122 @@
 //! Widths of entries: how many bytes one takes, and how large its bounds may be.
+ghost use Rattle.std.specs.Prelude.{◌≡◌, ◌<◌, ◌*◌, ◌^◌, ◌+ℤ◌, ℕ, ℤ, pos, neg_ℤ, int_lt, true, refl};
+ghost use Rattle.std.specs.Int.{int_div_euclid};
+ghost use Rattle.dbm_narrow.specs.Widths.{HasRoom, IsBound, IsUncut, fed_number, is_positive};
 
-/// A type of entries.
-pub trait Width: Copy + Drop + PartialEq {
+/// A type of entries: each finite bound lies from `-2 * unit` to `2 * unit`, and `32 * unit` stands for
+/// none.
+pub trait Width: Copy + Drop {
+    // The number.
+    ghost value: { Self → ℤ };
+
+    // The value of a number.
+    ghost of: { ℤ → Self };
+
+    // A value is that of its number.
+    ghost of_value: { (x : Self) → of (value x) ≡ x };
+
+    // Half of the greatest bound.
+    ghost unit: { ℕ };
+
+    // It is not 0.
+    ghost positive: { 0 < unit };
+
     /// No bound.
-    const NONE: Self;
+    fn none() -> Self
+        ensures value { value result ≡ pos (32 * unit) };
 
     /// A sum of this or more is no bound.
-    const FREE: Self;
+    fn free() -> Self
+        ensures value { value result ≡ pos (16 * unit) };
 
-    /// The greatest bound of a matrix; the least is its negative.
-    const GREATEST: Self;
+    /// The greatest bound of a matrix.
+    fn greatest() -> Self
+        ensures value { value result ≡ pos (2 * unit) };
 
     /// The least bound of a matrix.
-    const LEAST: Self;
+    fn least() -> Self
+        ensures value { value result ≡ neg_ℤ (pos (2 * unit)) };
 
     /// The number 0.
-    const ZERO: Self;
-
-    /// Whether closing may cut a bound.
-    const CUTS: bool;
+    fn zero() -> Self
+        ensures value { value result ≡ pos 0 };
 
     /// The sum of two.
-    fn sum(self, other: Self) -> Self;
+    fn sum(self, other: Self) -> Self
+        requires room { HasRoom unit (value self +ℤ value other) }
+        ensures value { value result ≡ value self +ℤ value other };
 
-    /// The negative.
-    fn negative(self) -> Self;
+    /// The negative of a bound.
+    fn negative(self) -> Self
+        requires bound { IsBound (2 * unit) (value self) }
+        ensures value { value result ≡ neg_ℤ (value self) };
 
     /// Whether one is less than another.
-    fn is_less(self, other: Self) -> bool;
+    fn is_less(self, other: Self) -> bool
+        ensures less { result ≡ int_lt (value self) (value other) };
 
     /// Half of one, rounded down.
-    fn halved(self) -> Self;
+    fn halved(self) -> Self
+        ensures half { value result ≡ int_div_euclid (value self) (pos 2) };
 
-    /// The bound, which lies within the limits.
-    fn of(bound: i128) -> Self;
+    /// The value of a number within the limits.
+    fn of(bound: i128) -> Self
+        requires bound { IsBound (2 * unit) bound }
+        ensures value { value result ≡ bound };
 
     /// The number.
-    fn number(self) -> i128;
+    fn number(self) -> i128
+        ensures value { result ≡ value self };
 
     /// Half of the number, rounded down.
-    fn half_number(self) -> i128;
+    fn half_number(self) -> i128
+        ensures half { result ≡ int_div_euclid (value self) (pos 2) };
 
-    /// The number of 64 bits that an entry feeds a hasher.
-    fn fed(self) -> i64;
+    /// The number of 64 bits that an entry feeds a hasher: 2^29 for no bound, 0 for one that has more.
+    fn fed(self) -> i64
+        ensures number { result ≡ fed_number unit (value self) };
 
-    /// Whether step 5 of closing leaves it as it is.
-    fn is_uncut(self) -> bool;
+    /// Whether step 5 of closing leaves a bound as it is.
+    fn is_uncut(self) -> bool
+        requires bound { IsBound (2 * unit) (value self) }
+        ensures uncut { result ≡ true → IsUncut (value self) };
 }
 
 impl Width for i32 {
-    const NONE: i32 = 536870912;
+    ghost value = { λ x. x };
 
-    const FREE: i32 = 268435456;
+    ghost of = { λ x. x };
 
-    const GREATEST: i32 = 33554432;
+    ghost of_value = { λ x. refl };
 
-    const LEAST: i32 = -33554432;
+    ghost unit = { 2 ^ 24 };
 
-    const ZERO: i32 = 0;
+    ghost positive = { is_positive 24 };
 
-    const CUTS: bool = false;
+    #[inline]
+    fn none() -> i32 {
+        536870912
+    }
+
+    #[inline]
+    fn free() -> i32 {
+        268435456
+    }
+
+    #[inline]
+    fn greatest() -> i32 {
+        33554432
+    }
+
+    #[inline]
+    fn least() -> i32 {
+        -33554432
+    }
+
+    #[inline]
+    fn zero() -> i32 {
+        0
+    }
 
     #[inline]
     fn sum(self, other: i32) -> i32 {
@@ -108,17 +165,40 @@ impl Width for i32 {
 }
 
 impl Width for i128 {
-    const NONE: i128 = 20282409603651670423947251286016;
+    ghost value = { λ x. x };
 
-    const FREE: i128 = 10141204801825835211973625643008;
+    ghost of = { λ x. x };
 
-    const GREATEST: i128 = 1267650600228229401496703205376;
+    ghost of_value = { λ x. refl };
 
-    const LEAST: i128 = -1267650600228229401496703205376;
+    ghost unit = { 2 ^ 99 };
 
-    const ZERO: i128 = 0;
+    ghost positive = { is_positive 99 };
 
-    const CUTS: bool = true;
+    #[inline]
+    fn none() -> i128 {
+        20282409603651670423947251286016
+    }
+
+    #[inline]
+    fn free() -> i128 {
+        10141204801825835211973625643008
+    }
+
+    #[inline]
+    fn greatest() -> i128 {
+        1267650600228229401496703205376
+    }
+
+    #[inline]
+    fn least() -> i128 {
+        -1267650600228229401496703205376
+    }
+
+    #[inline]
+    fn zero() -> i128 {
+        0
+    }
 
     #[inline]
     fn sum(self, other: i128) -> i128 {
@@ -170,7 +250,6 @@ impl Width for i128 {
 
     #[inline]
     fn is_uncut(self) -> bool {
-        self >= -18446744073709551616
-            && (self < 18446744073709551616 || self >= 10141204801825835211973625643008)
+        -18446744073709551616 <= self && self < 18446744073709551616
     }
 }
