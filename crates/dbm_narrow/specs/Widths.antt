@@ -1,6 +1,9 @@
 -- What the types of entries have in common.
-use Rattle.std.specs.Prelude.{◌≡◌, ℕ, ◌<◌, ◌*◌, ◌^◌, ℤ, pos, neg_ℤ, ◌≤ℤ◌, ◌<ℤ◌, int_lt, Bool, cond, refl}
+use Rattle.std.specs.Prelude.{◌≡◌, ℕ, ◌<◌, ◌*◌, ◌^◌, ℤ, pos, neg_ℤ, ◌≤ℤ◌, ◌<ℤ◌, int_lt, Bool, cond}
+use Rattle.std.specs.Ordering.{int_eq}
+use Rattle.std.specs.Cmp.{IsEquivalence, decided}
 use Rattle.std.proofs.Common.{ap}
+use Rattle.std.proofs.lemmas.Bool.Decides.{Decides-int_eq}
 
 -- a number from -b to b
 abbrev pub IsBound : ℕ → ℤ → Type 0
@@ -21,3 +24,10 @@ fed_number h x = cond (int_lt x (pos (16 * h))) (cond (int_lt x (neg_ℤ (pos (2
 -- a function of equals
 pub same_of : {A B : Type 0} (f : A → B) {x y : A} → x ≡ y → f x ≡ f y
 same_of f e = ap f e
+
+-- what `==` answers
+abbrev pub same_int : ℤ → ℤ → Bool
+same_int a b = int_eq a b
+
+pub int_equiv : IsEquivalence same_int
+int_equiv = decided same_int Decides-int_eq

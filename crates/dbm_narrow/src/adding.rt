@@ -17,12 +17,12 @@ use dbm_incremental::Bound;
 /// The bound in 32 bits, if it lies within the limits.
 #[inline]
 pub fn small_bound<W: Width>(bound: i128) -> Option<Entry<W>>
-    ensures small { IsSmallOf bound result }
+    ensures small { IsSmallOf W.unit bound result }
 {
-    if bound < Entry::least().number() {
+    if bound < Entry::<W>::least().number() {
         return None;
     }
-    if Entry::greatest().number() < bound {
+    if Entry::<W>::greatest().number() < bound {
         return None;
     }
     Some(Entry::of(bound))
@@ -30,10 +30,10 @@ pub fn small_bound<W: Width>(bound: i128) -> Option<Entry<W>>
 
 /// Lowers the bounds, in place. After an answer other than `Done` the entries are of no use.
 pub fn lower_all<W: Width>(kinds: &[bool], entries: &mut [Entry<W>], bounds: &[Bound]) -> Walks
-    requires narrow { IsNarrow kinds.now entries.old }
-    requires weights { HasOwnWeights kinds.now entries.old }
+    requires narrow { IsNarrow W.unit kinds.now entries.old }
+    requires weights { HasOwnWeights W.unit kinds.now entries.old }
     requires bounds { AreBounds (2 * length kinds.now) bounds.now }
-    ensures lowered { AreLowered kinds.now entries.old entries.new bounds.now result }
+    ensures lowered { AreLowered W.unit kinds.now entries.old entries.new bounds.now result }
 {
     for bound in bounds {
         match small_bound(bound.bound) {
@@ -51,10 +51,10 @@ pub fn lower_all<W: Width>(kinds: &[bool], entries: &mut [Entry<W>], bounds: &[B
 /// Closes the entries with the bounds lowered, in place. After an answer other than `Closed` they are
 /// of no use.
 pub fn close_lowered<W: Width>(kinds: &[bool], entries: &mut [Entry<W>], bounds: &[Bound]) -> ClosingResult
-    requires narrow { IsNarrow kinds.now entries.old }
-    requires weights { HasOwnWeights kinds.now entries.old }
+    requires narrow { IsNarrow W.unit kinds.now entries.old }
+    requires weights { HasOwnWeights W.unit kinds.now entries.old }
     requires bounds { AreBounds (2 * length kinds.now) bounds.now }
-    ensures outcome { IsLoweredOutcome kinds.now entries.old entries.new bounds.now result }
+    ensures outcome { IsLoweredOutcome W.unit kinds.now entries.old entries.new bounds.now result }
 {
     match lower_all(kinds, entries, bounds) {
         Walks::Done => finish(kinds, entries),

@@ -10,7 +10,7 @@ use crate::rows::place;
 
 /// The bounds from a slot's two nodes to those of another.
 #[derive(Clone, Copy)]
-pub struct Between<W> {
+pub struct Between<W: Width> {
     pub first_even: Entry<W>,
     pub first_odd: Entry<W>,
     pub second_even: Entry<W>,
@@ -24,8 +24,8 @@ pub fn bounds_between<W: Width>(entries: &[Entry<W>], slots: usize, q: usize, sl
     requires middle { q < slots }
     requires slot { slot < slots }
     requires size { length entries.now ≡ row_start (2 * slots) }
-    requires entries { AreEntries (2 ^ 25) entries.now }
-    ensures bounds { IsBetween entries.now q slot result }
+    requires entries { AreEntries W.unit (2 * W.unit) entries.now }
+    ensures bounds { IsBetween W.unit entries.now q slot result }
 {
     if slot <= q {
         return Between {
@@ -50,8 +50,8 @@ fn kept_at<W: Width>(entries: &[Entry<W>], slots: usize, i: usize, j: usize) -> 
     requires row { i < 2 * slots }
     requires column { j < row_width i }
     requires size { length entries.now ≡ row_start (2 * slots) }
-    requires entries { AreEntries (2 ^ 25) entries.now }
-    ensures entry { result ≡ at entries.now (row_start i + j) }
+    requires entries { AreEntries W.unit (2 * W.unit) entries.now }
+    ensures entry { result ≡ at W.unit entries.now (row_start i + j) }
 {
     let kept = place(i, j);
     entries[kept]

@@ -26,9 +26,9 @@ pub enum ClosingResult {
 
 /// Closes the entries, in place. After an answer other than `Closed` they are of no use.
 pub fn close_entries<W: Width>(kinds: &[bool], entries: &mut [Entry<W>]) -> ClosingResult
-    requires narrow { IsNarrow kinds.now entries.old }
-    requires diagonal { HasLowDiagonal kinds.now entries.old }
-    ensures outcome { IsOutcome kinds.now entries.old entries.new result }
+    requires narrow { IsNarrow W.unit kinds.now entries.old }
+    requires diagonal { HasLowDiagonal W.unit kinds.now entries.old }
+    ensures outcome { IsOutcome W.unit kinds.now entries.old entries.new result }
 {
     match least_weights(kinds, entries) {
         Walks::Done => finish(kinds, entries),
@@ -39,18 +39,18 @@ pub fn close_entries<W: Width>(kinds: &[bool], entries: &mut [Entry<W>]) -> Clos
 
 /// Closes entries that are the least weights of their own walks, in place.
 pub fn close_own<W: Width>(kinds: &[bool], entries: &mut [Entry<W>]) -> ClosingResult
-    requires narrow { IsNarrow kinds.now entries.old }
-    requires weights { HasOwnWeights kinds.now entries.old }
-    ensures outcome { IsOutcome kinds.now entries.old entries.new result }
+    requires narrow { IsNarrow W.unit kinds.now entries.old }
+    requires weights { HasOwnWeights W.unit kinds.now entries.old }
+    ensures outcome { IsOutcome W.unit kinds.now entries.old entries.new result }
 {
     finish(kinds, entries)
 }
 
 /// Closes strong entries, which stay as they are.
 pub fn close_strong<W: Width>(kinds: &[bool], entries: &[Entry<W>]) -> ClosingResult
-    requires narrow { IsNarrow kinds.now entries.now }
-    requires strong { IsStrong (2 * length kinds.now) (entry (held kinds.now entries.now)) }
-    ensures outcome { IsOutcome kinds.now entries.now entries.now result }
+    requires narrow { IsNarrow W.unit kinds.now entries.now }
+    requires strong { IsStrong (2 * length kinds.now) (entry (held W.unit kinds.now entries.now)) }
+    ensures outcome { IsOutcome W.unit kinds.now entries.now entries.now result }
 {
     finish_strong(kinds, entries)
 }

@@ -15,7 +15,7 @@ use std::alloc::Global;
 
 /// The matrix in narrow entries, None exactly where a bound lies outside the limits.
 pub fn narrowed<W: Width>(alloc: Global, matrix: &Matrix) -> Result<Option<Narrow<W>>, Memory>
-    ensures same { IfOk result (IsNarrowOf matrix.now) }
+    ensures same { IfOk result (IsNarrowOf W.unit matrix.now) }
 {
     let kept = matrix.kept();
     let mut entries = Vec::with_capacity(alloc, kept.len())?;
@@ -31,7 +31,7 @@ pub fn narrowed<W: Width>(alloc: Global, matrix: &Matrix) -> Result<Option<Narro
 
 /// The entry of a bound, if it lies within the limits.
 pub fn narrow_entry<W: Width>(bound: Option<i128>) -> Option<Entry<W>>
-    ensures entry { IsEntryOf bound result }
+    ensures entry { IsEntryOf W.unit bound result }
 {
     match bound {
         None => Some(Entry::none()),
@@ -62,7 +62,7 @@ pub fn refitted<V: Width, W: Width>(
 fn fits<W: Width>(bound: Option<i128>) -> bool {
     match bound {
         None => true,
-        Some(x) => Entry::least().number() <= x && x <= Entry::greatest().number(),
+        Some(x) => Entry::<W>::least().number() <= x && x <= Entry::<W>::greatest().number(),
     }
 }
 

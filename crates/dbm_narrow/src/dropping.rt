@@ -27,9 +27,9 @@ pub fn forget<W: Width>(alloc: Global, narrow: &Narrow<W>, slot: usize) -> Resul
 fn drop_rows<W: Width>(entries: &mut [Entry<W>], slots: usize, slot: usize)
     requires few { slots ≤ 16 }
     requires size { length entries.old ≡ row_start (2 * slots) }
-    requires entries { AreEntries (2 ^ 25) entries.old }
-    ensures kept { RowsAre (dropped slot) (2 * slots) entries.old entries.new }
-    ensures entries { AreEntries (2 ^ 25) entries.new }
+    requires entries { AreEntries W.unit (2 * W.unit) entries.old }
+    ensures kept { RowsAre W.unit (dropped W.unit slot) (2 * slots) entries.old entries.new }
+    ensures entries { AreEntries W.unit (2 * W.unit) entries.new }
 {
     for i in 0..2 * slots {
         drop_row(entries, i, slot);
@@ -41,10 +41,10 @@ fn drop_rows<W: Width>(entries: &mut [Entry<W>], slots: usize, slot: usize)
 fn drop_row<W: Width>(entries: &mut [Entry<W>], i: usize, slot: usize)
     requires row { i < 32 }
     requires size { row_start i + row_width i ≤ length entries.old }
-    requires entries { AreEntries (2 ^ 25) entries.old }
-    ensures kept { RowIs (dropped slot i) i entries.old entries.new }
-    ensures rest { RestStays i entries.old entries.new }
-    ensures entries { AreEntries (2 ^ 25) entries.new }
+    requires entries { AreEntries W.unit (2 * W.unit) entries.old }
+    ensures kept { RowIs W.unit (dropped W.unit slot i) i entries.old entries.new }
+    ensures rest { RestStays W.unit i entries.old entries.new }
+    ensures entries { AreEntries W.unit (2 * W.unit) entries.new }
 {
     let start = row_at(i);
     let end = start + row_len(i);
@@ -56,9 +56,9 @@ fn drop_row<W: Width>(entries: &mut [Entry<W>], i: usize, slot: usize)
 #[inline]
 fn drop_each<W: Width>(row: &mut [Entry<W>], i: usize, slot: usize)
     requires size { length row.old ≤ 32 }
-    requires row { AreEntries (2 ^ 25) row.old }
-    ensures kept { EachIs (dropped slot i) row.old row.new }
-    ensures within { AreEntries (2 ^ 25) row.new }
+    requires row { AreEntries W.unit (2 * W.unit) row.old }
+    ensures kept { EachIs W.unit (dropped W.unit slot i) row.old row.new }
+    ensures within { AreEntries W.unit (2 * W.unit) row.new }
 {
     for j in 0..row.len() {
         row[j] = dropped_entry(slot, i, j, row[j]);
@@ -68,7 +68,7 @@ fn drop_each<W: Width>(row: &mut [Entry<W>], i: usize, slot: usize)
 // An entry without the bounds on the slot.
 #[inline]
 fn dropped_entry<W: Width>(slot: usize, i: usize, j: usize, entry: Entry<W>) -> Entry<W>
-    ensures value { result ≡ dropped slot i j entry }
+    ensures value { result ≡ dropped W.unit slot i j entry }
 {
     if i == j {
         return entry;

@@ -10,7 +10,7 @@ use crate::width::Width;
 #[inline]
 #[tactic(auto, unfolding(crate::specs::Entries::settle))]
 pub fn settled<W: Width>(sum: Entry<W>) -> Entry<W>
-    ensures value { result ≡ settle sum }
+    ensures value { result ≡ settle W.unit sum }
 {
     if sum.is_less(Entry::free()) { sum } else { Entry::none() }
 }
@@ -18,9 +18,9 @@ pub fn settled<W: Width>(sum: Entry<W>) -> Entry<W>
 /// The sum of two entries.
 #[inline]
 pub fn plus<W: Width>(a: Entry<W>, b: Entry<W>) -> Entry<W>
-    requires left { IsEntry (2 ^ 27) a }
-    requires right { IsEntry (2 ^ 27) b }
-    ensures sum { result ≡ settle (a +ℤ b) }
+    requires left { IsEntry W.unit (8 * W.unit) a }
+    requires right { IsEntry W.unit (8 * W.unit) b }
+    ensures sum { result ≡ settle W.unit (a +ℤ b) }
 {
     settled(a.sum(b))
 }
@@ -28,11 +28,11 @@ pub fn plus<W: Width>(a: Entry<W>, b: Entry<W>) -> Entry<W>
 /// An entry when walks may go over two more.
 #[inline]
 pub fn over_both<W: Width>(a: Entry<W>, to_first: Entry<W>, from_first: Entry<W>, to_second: Entry<W>, from_second: Entry<W>) -> Entry<W>
-    requires to_first { IsEntry (3 * 2 ^ 25) to_first }
-    requires from_first { IsEntry (2 ^ 27) from_first }
-    requires to_second { IsEntry (3 * 2 ^ 25) to_second }
-    requires from_second { IsEntry (2 ^ 27) from_second }
-    ensures value { result ≡ through_both to_first to_second from_first from_second a }
+    requires to_first { IsEntry W.unit (6 * W.unit) to_first }
+    requires from_first { IsEntry W.unit (8 * W.unit) from_first }
+    requires to_second { IsEntry W.unit (6 * W.unit) to_second }
+    requires from_second { IsEntry W.unit (8 * W.unit) from_second }
+    ensures value { result ≡ through_both W.unit to_first to_second from_first from_second a }
 {
     let first = lesser(a, to_first.sum(from_first));
     settled(lesser(first, to_second.sum(from_second)))
@@ -57,7 +57,7 @@ pub fn greater<W: Width>(a: Entry<W>, b: Entry<W>) -> Entry<W>
 /// The bound, 0 where there is none.
 #[inline]
 pub fn bound_or_zero<W: Width>(a: Entry<W>) -> Entry<W>
-    ensures value { result ≡ or_zero a }
+    ensures value { result ≡ or_zero W.unit a }
 {
     if a.is_less(Entry::free()) { a } else { Entry::zero() }
 }
@@ -66,7 +66,7 @@ pub fn bound_or_zero<W: Width>(a: Entry<W>) -> Entry<W>
 #[inline]
 #[tactic(auto, unfolding(crate::specs::Entries::wide))]
 pub fn wide_bound<W: Width>(a: Entry<W>) -> Option<i128>
-    ensures bound { result ≡ wide a }
+    ensures bound { result ≡ wide W.unit a }
 {
     if a.is_less(Entry::free()) { Some(a.number()) } else { None }
 }
@@ -75,7 +75,7 @@ pub fn wide_bound<W: Width>(a: Entry<W>) -> Option<i128>
 #[inline]
 #[tactic(auto, unfolding(crate::specs::Entries::half_entry))]
 pub fn half<W: Width>(a: Entry<W>) -> Entry<W>
-    ensures half { result ≡ half_entry a }
+    ensures half { result ≡ half_entry W.unit a }
 {
     if a.is_less(Entry::free()) { a.halved() } else { Entry::none() }
 }

@@ -1,7 +1,8 @@
 //! Entries, which contracts see as their numbers.
 ghost use Rattle.std.specs.Prelude.{◌≡◌, ◌*◌, ◌+ℤ◌, ℤ, pos, neg_ℤ, int_lt, true};
+ghost use Rattle.std.specs.Cmp.{partial_equiv_from_equiv};
 ghost use Rattle.std.specs.Int.{int_div_euclid};
-ghost use Rattle.dbm_narrow.specs.Widths.{HasRoom, IsBound, IsUncut, fed_number, int_equiv, int_per, same_int};
+ghost use Rattle.dbm_narrow.specs.Widths.{HasRoom, IsBound, IsUncut, fed_number, int_equiv, same_int};
 
 use crate::width::Width;
 use std::alloc::AllocError;
@@ -36,7 +37,7 @@ impl<W: Width> Clone for Entry<W> {
 impl<W: Width> PartialEq for Entry<W> {
     ghost eq = { same_int };
 
-    ghost laws = { int_per };
+    ghost laws = { partial_equiv_from_equiv int_equiv };
 
     #[inline]
     fn eq(&self, other: &Entry<W>) -> bool {

@@ -27,10 +27,10 @@ pub fn join<W: Width>(alloc: Global, left: &Narrow<W>, right: &Narrow<W>) -> Res
 #[inline]
 fn raise<W: Width>(entries: &mut [Entry<W>], others: &[Entry<W>])
     requires size { length others.now ≡ length entries.old }
-    requires entries { AreEntries (2 ^ 25) entries.old }
-    requires others { AreEntries (2 ^ 25) others.now }
-    ensures greater { AreGreater entries.old others.now entries.new }
-    ensures entries { AreEntries (2 ^ 25) entries.new }
+    requires entries { AreEntries W.unit (2 * W.unit) entries.old }
+    requires others { AreEntries W.unit (2 * W.unit) others.now }
+    ensures greater { AreGreater W.unit entries.old others.now entries.new }
+    ensures entries { AreEntries W.unit (2 * W.unit) entries.new }
 {
     for k in 0..entries.len() {
         entries[k] = greater(entries[k], others[k]);

@@ -17,6 +17,7 @@ mod closing;
 mod convert;
 mod dropping;
 mod entries;
+mod entry;
 mod feeding;
 mod joins;
 mod kinds;

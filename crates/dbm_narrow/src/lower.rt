@@ -21,11 +21,11 @@ fn ends_of<W: Width>(entries: &[Entry<W>], slots: usize, i: usize, j: usize, bou
     requires row { i < 2 * slots }
     requires column { j < 2 * slots }
     requires size { length entries.now ≡ row_start (2 * slots) }
-    requires entries { AreEntries (2 ^ 25) entries.now }
-    requires low { neg_ℤ (pos (2 ^ 25)) ≤ℤ bound }
-    requires high { bound ≤ℤ pos (2 ^ 25) }
-    ensures ends { AreEnds (2 * slots) entries.now i j bound result }
-    ensures entries { IsNarrowMiddle result }
+    requires entries { AreEntries W.unit (2 * W.unit) entries.now }
+    requires low { neg_ℤ (pos (2 * W.unit)) ≤ℤ bound }
+    requires high { bound ≤ℤ pos (2 * W.unit) }
+    ensures ends { AreEnds W.unit (2 * slots) entries.now i j bound result }
+    ensures entries { IsNarrowMiddle W.unit result }
 {
     let ahead = other_sign(i);
     let behind = other_sign(j);
@@ -50,13 +50,13 @@ fn ends_of<W: Width>(entries: &[Entry<W>], slots: usize, i: usize, j: usize, bou
 /// are of no use.
 #[inline]
 pub fn lower<W: Width>(kinds: &[bool], entries: &mut [Entry<W>], i: usize, j: usize, bound: Entry<W>) -> Walks
-    requires narrow { IsNarrow kinds.now entries.old }
-    requires weights { HasOwnWeights kinds.now entries.old }
+    requires narrow { IsNarrow W.unit kinds.now entries.old }
+    requires weights { HasOwnWeights W.unit kinds.now entries.old }
     requires row { i < 2 * length kinds.now }
     requires column { j < 2 * length kinds.now }
-    requires low { neg_ℤ (pos (2 ^ 25)) ≤ℤ bound }
-    requires high { bound ≤ℤ pos (2 ^ 25) }
-    ensures lowering { IsLowering kinds.now entries.old entries.new i j bound result }
+    requires low { neg_ℤ (pos (2 * W.unit)) ≤ℤ bound }
+    requires high { bound ≤ℤ pos (2 * W.unit) }
+    ensures lowering { IsLowering W.unit kinds.now entries.old entries.new i j bound result }
 {
     let slots = kinds.len();
     let current = entry_at(entries, slots, i, j);

@@ -26,10 +26,10 @@ pub fn meets<W: Width>(closed: &Narrow<W>, bounds: &[Bound]) -> bool
 
 // The same over entries.
 fn are_met<W: Width>(kinds: &[bool], entries: &[Entry<W>], bounds: &[Bound]) -> bool
-    requires narrow { IsNarrow kinds.now entries.now }
-    requires weights { HasOwnWeights kinds.now entries.now }
+    requires narrow { IsNarrow W.unit kinds.now entries.now }
+    requires weights { HasOwnWeights W.unit kinds.now entries.now }
     requires bounds { AreBounds (2 * length kinds.now) bounds.now }
-    ensures met { result ≡ true → AllLowered kinds.now entries.now entries.now bounds.now }
+    ensures met { result ≡ true → AllLowered W.unit kinds.now entries.now entries.now bounds.now }
 {
     let slots = kinds.len();
     for bound in bounds {

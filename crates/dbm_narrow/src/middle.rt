@@ -16,7 +16,7 @@ use crate::entries::{lesser, plus};
 /// The bounds to and from both nodes of one slot, those of the second node when walks may go
 /// through the first.
 #[derive(Drop)]
-pub struct Middle<W> {
+pub struct Middle<W: Width> {
     pub to_first: [Entry<W>; 32],
     pub from_first: [Entry<W>; 32],
     pub to_second: [Entry<W>; 32],
@@ -27,9 +27,9 @@ pub struct Middle<W> {
 #[inline]
 pub fn flipped<W: Width>(row: &[Entry<W>; 32], slots: usize) -> [Entry<W>; 32]
     requires few { slots ≤ 16 }
-    requires entries { AreEntries (2 ^ 25) row.now }
-    ensures flipped { (i : ℕ) → i < 2 * slots → at result i ≡ at row.now (flip i) }
-    ensures beyond { (i : ℕ) → 2 * slots ≤ i → at result i ≡ none }
+    requires entries { AreEntries W.unit (2 * W.unit) row.now }
+    ensures flipped { (i : ℕ) → i < 2 * slots → at W.unit result i ≡ at W.unit row.now (flip i) }
+    ensures beyond { (i : ℕ) → 2 * slots ≤ i → at W.unit result i ≡ none W.unit }
 {
     let mut turned = [Entry::none(); 32];
     for slot in 0..slots {
@@ -42,11 +42,11 @@ pub fn flipped<W: Width>(row: &[Entry<W>; 32], slots: usize) -> [Entry<W>; 32]
 /// Each entry, or where it is less, the sum of a step and the next one.
 #[inline]
 pub fn over<W: Width>(row: &[Entry<W>; 32], step: Entry<W>, next: &[Entry<W>; 32]) -> [Entry<W>; 32]
-    requires row { AreEntries (2 ^ 25) row.now }
-    requires step { IsEntry (2 ^ 26) step }
-    requires next { AreEntries (2 ^ 26) next.now }
-    ensures over { ColumnsAre 32 (over_at row.now step next.now) result }
-    ensures entries { LesserFit step next.now result }
+    requires row { AreEntries W.unit (2 * W.unit) row.now }
+    requires step { IsEntry W.unit (4 * W.unit) step }
+    requires next { AreEntries W.unit (4 * W.unit) next.now }
+    ensures over { ColumnsAre W.unit 32 (over_at W.unit row.now step next.now) result }
+    ensures entries { LesserFit W.unit step next.now result }
 {
     let mut sums = [Entry::none(); 32];
     for j in 0..32 {
@@ -58,10 +58,10 @@ pub fn over<W: Width>(row: &[Entry<W>; 32], step: Entry<W>, next: &[Entry<W>; 32
 /// Each entry and a step.
 #[inline]
 pub fn stepped<W: Width>(step: Entry<W>, row: &[Entry<W>; 32]) -> [Entry<W>; 32]
-    requires step { IsEntry (2 ^ 27) step }
-    requires row { AreEntries (2 ^ 27) row.now }
-    ensures sums { ColumnsAre 32 (stepped_at step row.now) result }
-    ensures entries { SumsFit step row.now result }
+    requires step { IsEntry W.unit (8 * W.unit) step }
+    requires row { AreEntries W.unit (8 * W.unit) row.now }
+    ensures sums { ColumnsAre W.unit 32 (stepped_at W.unit step row.now) result }
+    ensures entries { SumsFit W.unit step row.now result }
 {
     let mut sums = [Entry::none(); 32];
     for j in 0..32 {
@@ -73,7 +73,7 @@ pub fn stepped<W: Width>(step: Entry<W>, row: &[Entry<W>; 32]) -> [Entry<W>; 32]
 /// A middle to be filled.
 #[inline]
 pub fn no_middle<W: Width>() -> Middle<W>
-    ensures entries { IsNarrowMiddle result }
+    ensures entries { IsNarrowMiddle W.unit result }
 {
     Middle {
         to_first: [Entry::none(); 32],
@@ -86,11 +86,11 @@ pub fn no_middle<W: Width>() -> Middle<W>
 /// Fills it with the bounds to and from both nodes of slot q.
 #[inline]
 pub fn fill_middle<W: Width>(kinds: &[bool], entries: &[Entry<W>], q: usize, middle: &mut Middle<W>)
-    requires narrow { IsNarrow kinds.now entries.now }
+    requires narrow { IsNarrow W.unit kinds.now entries.now }
     requires middle { q < length kinds.now }
-    requires entries { IsNarrowMiddle middle.old }
-    ensures bounds { HoldsMiddle kinds.now entries.now q middle.new }
-    ensures entries { IsNarrowMiddle middle.new }
+    requires entries { IsNarrowMiddle W.unit middle.old }
+    ensures bounds { HoldsMiddle W.unit kinds.now entries.now q middle.new }
+    ensures entries { IsNarrowMiddle W.unit middle.new }
 {
     let slots = kinds.len();
     let own = bounds_between(entries, slots, q, q);
@@ -106,9 +106,9 @@ pub fn fill_middle<W: Width>(kinds: &[bool], entries: &[Entry<W>], q: usize, mid
 #[inline]
 fn put_from<W: Width>(middle: &mut Middle<W>, slot: usize, here: Between<W>, back: Entry<W>)
     requires slot { slot < 16 }
-    requires narrow { IsNarrowBetween here }
-    requires back { IsEntry (2 ^ 25) back }
-    ensures put { PutsFrom slot here back middle.old middle.new }
+    requires narrow { IsNarrowBetween W.unit here }
+    requires back { IsEntry W.unit (2 * W.unit) back }
+    ensures put { PutsFrom W.unit slot here back middle.old middle.new }
 {
     let even = lesser(here.second_even, plus(back, here.first_even));
     let odd = lesser(here.second_odd, plus(back, here.first_odd));
@@ -126,9 +126,9 @@ fn put_from<W: Width>(middle: &mut Middle<W>, slot: usize, here: Between<W>, bac
 #[inline]
 fn put_to<W: Width>(middle: &mut Middle<W>, slot: usize, here: Between<W>, ahead: Entry<W>)
     requires slot { slot < 16 }
-    requires narrow { IsNarrowBetween here }
-    requires ahead { IsEntry (2 ^ 25) ahead }
-    ensures put { PutsTo slot here ahead middle.old middle.new }
+    requires narrow { IsNarrowBetween W.unit here }
+    requires ahead { IsEntry W.unit (2 * W.unit) ahead }
+    ensures put { PutsTo W.unit slot here ahead middle.old middle.new }
 {
     let even = lesser(here.first_odd, plus(ahead, here.second_odd));
     let odd = lesser(here.first_even, plus(ahead, here.second_even));
@@ -145,7 +145,7 @@ fn put_to<W: Width>(middle: &mut Middle<W>, slot: usize, here: Between<W>, ahead
 #[inline]
 fn put<W: Width>(row: &mut [Entry<W>; 32], slot: usize, even: Entry<W>, odd: Entry<W>)
     requires slot { slot < 16 }
-    ensures put { PutsTwo slot even odd row.old row.new }
+    ensures put { PutsTwo W.unit slot even odd row.old row.new }
 {
     row[2 * slot] = even;
     row[2 * slot + 1] = odd;

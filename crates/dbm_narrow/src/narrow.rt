@@ -33,9 +33,9 @@ impl<W: Width> Model for Narrow<W> {
 
     ghost Value = { HalfMatrix };
 
-    ghost view = { λ a. held a.kinds a.entries.items };
+    ghost view = { λ a. held W.unit a.kinds a.entries.items };
 
-    ghost invariant = { λ a. IsNarrow a.kinds a.entries.items };
+    ghost invariant = { λ a. IsNarrow W.unit a.kinds a.entries.items };
 }
 
 /// Two matrices are equal where their kinds and their entries are.
@@ -68,7 +68,7 @@ impl<W: Width> Narrow<W> {
     pub fn kinds(&self) -> &[bool]
         ensures value { result.now ≡ self.now.kinds }
         ensures matrix { IsMatrix self.now }
-        ensures within { AreWithin (nodes self.now) (2 ^ 25) (entry self.now) }
+        ensures within { AreWithin (nodes self.now) (2 * W.unit) (entry self.now) }
     {
         self.kinds.list()
     }

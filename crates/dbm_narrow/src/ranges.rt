@@ -27,9 +27,9 @@ pub fn slot_range<W: Width>(narrow: &Narrow<W>, slot: usize) -> (i128, i128)
 
 // The low end, over entries.
 fn low_of<W: Width>(kinds: &[bool], entries: &[Entry<W>], slot: usize) -> i128
-    requires narrow { IsNarrow kinds.now entries.now }
+    requires narrow { IsNarrow W.unit kinds.now entries.now }
     requires slot { slot < length kinds.now }
-    ensures low { result ≡ slot_low kinds.now (entry (held kinds.now entries.now)) slot }
+    ensures low { result ≡ slot_low kinds.now (entry (held W.unit kinds.now entries.now)) slot }
 {
     let down = place(2 * slot, 2 * slot + 1);
     low_end(kinds[slot], entries[down])
@@ -37,9 +37,9 @@ fn low_of<W: Width>(kinds: &[bool], entries: &[Entry<W>], slot: usize) -> i128
 
 // The high end, over entries.
 fn high_of<W: Width>(kinds: &[bool], entries: &[Entry<W>], slot: usize) -> i128
-    requires narrow { IsNarrow kinds.now entries.now }
+    requires narrow { IsNarrow W.unit kinds.now entries.now }
     requires slot { slot < length kinds.now }
-    ensures high { result ≡ slot_high kinds.now (entry (held kinds.now entries.now)) slot }
+    ensures high { result ≡ slot_high kinds.now (entry (held W.unit kinds.now entries.now)) slot }
 {
     let up = place(2 * slot + 1, 2 * slot);
     high_end(kinds[slot], entries[up])

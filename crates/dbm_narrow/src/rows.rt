@@ -52,8 +52,8 @@ pub fn entry_at<W: Width>(entries: &[Entry<W>], slots: usize, i: usize, j: usize
     requires row { i < 2 * slots }
     requires column { j < 2 * slots }
     requires size { length entries.now ≡ row_start (2 * slots) }
-    requires entries { AreEntries (2 ^ 25) entries.now }
-    ensures entry { result ≡ pair_at entries.now i j }
+    requires entries { AreEntries W.unit (2 * W.unit) entries.now }
+    ensures entry { result ≡ pair_at W.unit entries.now i j }
 {
     if j < row_len(i) {
         let kept = place(i, j);
@@ -70,9 +70,9 @@ pub fn whole_row<W: Width>(entries: &[Entry<W>], slots: usize, i: usize, other: 
     requires row { i < 2 * slots }
     requires other { other ≡ flip i }
     requires size { length entries.now ≡ row_start (2 * slots) }
-    requires entries { AreEntries (2 ^ 25) entries.now }
-    ensures entries { (j : ℕ) → j < 2 * slots → at result j ≡ pair_at entries.now i j }
-    ensures beyond { (j : ℕ) → 2 * slots ≤ j → at result j ≡ none }
+    requires entries { AreEntries W.unit (2 * W.unit) entries.now }
+    ensures entries { (j : ℕ) → j < 2 * slots → at W.unit result j ≡ pair_at W.unit entries.now i j }
+    ensures beyond { (j : ℕ) → 2 * slots ≤ j → at W.unit result j ≡ none W.unit }
 {
     let mut row = [Entry::none(); 32];
     let start = row_at(i);
@@ -101,13 +101,13 @@ pub fn go_through<W: Width>(
 )
     requires size { length row.old ≤ 32 }
     requires even { length row.old % 2 ≡ 0 }
-    requires row { AreEntries (2 ^ 25) row.old }
-    requires to_first { IsEntry (3 * 2 ^ 25) to_first }
-    requires to_second { IsEntry (3 * 2 ^ 25) to_second }
-    requires from_first { AreEntries (2 ^ 27) from_first.now }
-    requires from_second { AreEntries (2 ^ 27) from_second.now }
-    ensures kept { GoneThrough to_first to_second from_first.now from_second.now row.old row.new }
-    ensures within { AreEntries (7 * 2 ^ 25) row.new }
+    requires row { AreEntries W.unit (2 * W.unit) row.old }
+    requires to_first { IsEntry W.unit (6 * W.unit) to_first }
+    requires to_second { IsEntry W.unit (6 * W.unit) to_second }
+    requires from_first { AreEntries W.unit (8 * W.unit) from_first.now }
+    requires from_second { AreEntries W.unit (8 * W.unit) from_second.now }
+    ensures kept { GoneThrough W.unit to_first to_second from_first.now from_second.now row.old row.new }
+    ensures within { AreEntries W.unit (14 * W.unit) row.new }
 {
     let fours = row.len() / 4;
     for four in 0..fours {
@@ -130,12 +130,12 @@ fn go_four<W: Width>(
 )
     requires size { length row.old ≤ 32 }
     requires columns { j + 4 ≤ length row.old }
-    requires row { AreEntriesFrom j (2 ^ 25) row.old }
-    requires to_first { IsEntry (3 * 2 ^ 25) to_first }
-    requires to_second { IsEntry (3 * 2 ^ 25) to_second }
-    requires from_first { AreEntries (2 ^ 27) from_first.now }
-    requires from_second { AreEntries (2 ^ 27) from_second.now }
-    ensures gone { AreGone j (j + 4) to_first to_second from_first.now from_second.now
+    requires row { AreEntriesFrom W.unit j (2 * W.unit) row.old }
+    requires to_first { IsEntry W.unit (6 * W.unit) to_first }
+    requires to_second { IsEntry W.unit (6 * W.unit) to_second }
+    requires from_first { AreEntries W.unit (8 * W.unit) from_first.now }
+    requires from_second { AreEntries W.unit (8 * W.unit) from_second.now }
+    ensures gone { AreGone W.unit j (j + 4) to_first to_second from_first.now from_second.now
         row.old row.new }
 {
     let first = gone_at(row, j, to_first, to_second, from_first, from_second);
@@ -160,12 +160,12 @@ fn go_two<W: Width>(
 )
     requires size { length row.old ≤ 32 }
     requires columns { j + 2 ≤ length row.old }
-    requires row { AreEntriesFrom j (2 ^ 25) row.old }
-    requires to_first { IsEntry (3 * 2 ^ 25) to_first }
-    requires to_second { IsEntry (3 * 2 ^ 25) to_second }
-    requires from_first { AreEntries (2 ^ 27) from_first.now }
-    requires from_second { AreEntries (2 ^ 27) from_second.now }
-    ensures gone { AreGone j (j + 2) to_first to_second from_first.now from_second.now
+    requires row { AreEntriesFrom W.unit j (2 * W.unit) row.old }
+    requires to_first { IsEntry W.unit (6 * W.unit) to_first }
+    requires to_second { IsEntry W.unit (6 * W.unit) to_second }
+    requires from_first { AreEntries W.unit (8 * W.unit) from_first.now }
+    requires from_second { AreEntries W.unit (8 * W.unit) from_second.now }
+    ensures gone { AreGone W.unit j (j + 2) to_first to_second from_first.now from_second.now
         row.old row.new }
 {
     let first = gone_at(row, j, to_first, to_second, from_first, from_second);
@@ -186,13 +186,13 @@ fn gone_at<W: Width>(
 ) -> Entry<W>
     requires size { length row.now ≤ 32 }
     requires column { j < length row.now }
-    requires entry { IsEntry (2 ^ 25) (at row.now j) }
-    requires to_first { IsEntry (3 * 2 ^ 25) to_first }
-    requires to_second { IsEntry (3 * 2 ^ 25) to_second }
-    requires from_first { AreEntries (2 ^ 27) from_first.now }
-    requires from_second { AreEntries (2 ^ 27) from_second.now }
-    ensures value { result ≡ through_at to_first to_second from_first.now from_second.now j
-        (at row.now j) }
+    requires entry { IsEntry W.unit (2 * W.unit) (at W.unit row.now j) }
+    requires to_first { IsEntry W.unit (6 * W.unit) to_first }
+    requires to_second { IsEntry W.unit (6 * W.unit) to_second }
+    requires from_first { AreEntries W.unit (8 * W.unit) from_first.now }
+    requires from_second { AreEntries W.unit (8 * W.unit) from_second.now }
+    ensures value { result ≡ through_at W.unit to_first to_second from_first.now from_second.now j
+        (at W.unit row.now j) }
 {
     over_both(row[j], to_first, from_first[j], to_second, from_second[j])
 }
@@ -200,8 +200,8 @@ fn gone_at<W: Width>(
 /// Whether each bound lies within the limits.
 #[inline]
 pub fn are_within<W: Width>(entries: &[Entry<W>]) -> bool
-    requires entries { AreEntries (7 * 2 ^ 25) entries.now }
-    ensures within { result ≡ true → AreEntries (2 ^ 25) entries.now }
+    requires entries { AreEntries W.unit (14 * W.unit) entries.now }
+    ensures within { result ≡ true → AreEntries W.unit (2 * W.unit) entries.now }
 {
     let mut low = Entry::zero();
     let mut high = Entry::zero();
@@ -217,11 +217,11 @@ pub fn are_within<W: Width>(entries: &[Entry<W>]) -> bool
 #[inline]
 pub fn strengthen<W: Width>(row: &mut [Entry<W>], to: Entry<W>, from: &[Entry<W>; 32])
     requires size { length row.old ≤ 32 }
-    requires row { AreEntries (2 ^ 25) row.old }
-    requires to { IsEntry (2 ^ 24) to }
-    requires from { AreEntries (2 ^ 24) from.now }
-    ensures kept { EachIs (strengthened_at to from.now) row.old row.new }
-    ensures within { AreEntries (2 ^ 25) row.new }
+    requires row { AreEntries W.unit (2 * W.unit) row.old }
+    requires to { IsEntry W.unit W.unit to }
+    requires from { AreEntries W.unit W.unit from.now }
+    ensures kept { EachIs W.unit (strengthened_at W.unit to from.now) row.old row.new }
+    ensures within { AreEntries W.unit (2 * W.unit) row.new }
 {
     for j in 0..row.len() {
         row[j] = settled(lesser(row[j], to.sum(from[j])));

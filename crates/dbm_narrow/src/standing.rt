@@ -26,12 +26,12 @@ pub fn close_stood<W: Width>(
     y: usize,
     c: i128,
 ) -> ClosingResult
-    requires narrow { IsNarrow kinds.now entries.old }
-    requires closed { IsClosed (held kinds.now entries.old) }
+    requires narrow { IsNarrow W.unit kinds.now entries.old }
+    requires closed { IsClosed (held W.unit kinds.now entries.old) }
     requires slot { q < length kinds.now }
     requires node { y < 2 * length kinds.now }
     requires apart { y / 2 ≢ q }
-    ensures outcome { IsEquatedOutcome kinds.now entries.old entries.new q y c result }
+    ensures outcome { IsEquatedOutcome W.unit kinds.now entries.old entries.new q y c result }
 {
     match small_bound(c) {
         None => ClosingResult::TooWide,
@@ -41,14 +41,14 @@ pub fn close_stood<W: Width>(
 
 // The same of a number within the limits.
 fn close_small<W: Width>(kinds: &[bool], entries: &mut [Entry<W>], q: usize, y: usize, c: Entry<W>) -> ClosingResult
-    requires narrow { IsNarrow kinds.now entries.old }
-    requires closed { IsClosed (held kinds.now entries.old) }
+    requires narrow { IsNarrow W.unit kinds.now entries.old }
+    requires closed { IsClosed (held W.unit kinds.now entries.old) }
     requires slot { q < length kinds.now }
     requires node { y < 2 * length kinds.now }
     requires apart { y / 2 ≢ q }
-    requires low { neg_ℤ (pos (2 ^ 25)) ≤ℤ c }
-    requires high { c ≤ℤ pos (2 ^ 25) }
-    ensures outcome { IsEquatedOutcome kinds.now entries.old entries.new q y c result }
+    requires low { neg_ℤ (pos (2 * W.unit)) ≤ℤ c }
+    requires high { c ≤ℤ pos (2 * W.unit) }
+    ensures outcome { IsEquatedOutcome W.unit kinds.now entries.old entries.new q y c result }
 {
     if !stand(kinds, entries, q, y, c) {
         return ClosingResult::TooWide;
@@ -59,13 +59,13 @@ fn close_small<W: Width>(kinds: &[bool], entries: &mut [Entry<W>], q: usize, y: 
 // Makes slot q stand for node y plus c, in place: whether each bound stays within the limits.
 #[inline]
 fn stand<W: Width>(kinds: &[bool], entries: &mut [Entry<W>], q: usize, y: usize, c: Entry<W>) -> bool
-    requires narrow { IsNarrow kinds.now entries.old }
-    requires closed { IsClosed (held kinds.now entries.old) }
+    requires narrow { IsNarrow W.unit kinds.now entries.old }
+    requires closed { IsClosed (held W.unit kinds.now entries.old) }
     requires slot { q < length kinds.now }
     requires node { y < 2 * length kinds.now }
-    requires low { neg_ℤ (pos (2 ^ 25)) ≤ℤ c }
-    requires high { c ≤ℤ pos (2 ^ 25) }
-    ensures stands { result ≡ true → StandsTo kinds.now entries.old entries.new q y c }
+    requires low { neg_ℤ (pos (2 * W.unit)) ≤ℤ c }
+    requires high { c ≤ℤ pos (2 * W.unit) }
+    ensures stands { result ≡ true → StandsTo W.unit kinds.now entries.old entries.new q y c }
 {
     let slots = kinds.len();
     let other = other_sign(y);
@@ -88,11 +88,11 @@ fn stand<W: Width>(kinds: &[bool], entries: &mut [Entry<W>], q: usize, y: usize,
 
 /// Makes slot q stand for node y plus c, in place: whether c and each bound lie within the limits.
 pub fn stand_by<W: Width>(kinds: &[bool], entries: &mut [Entry<W>], q: usize, y: usize, c: i128) -> bool
-    requires narrow { IsNarrow kinds.now entries.old }
-    requires closed { IsClosed (held kinds.now entries.old) }
+    requires narrow { IsNarrow W.unit kinds.now entries.old }
+    requires closed { IsClosed (held W.unit kinds.now entries.old) }
     requires slot { q < length kinds.now }
     requires node { y < 2 * length kinds.now }
-    ensures stands { result ≡ true → StandsTo kinds.now entries.old entries.new q y c }
+    ensures stands { result ≡ true → StandsTo W.unit kinds.now entries.old entries.new q y c }
 {
     match small_bound(c) {
         None => false,
@@ -103,8 +103,8 @@ pub fn stand_by<W: Width>(kinds: &[bool], entries: &mut [Entry<W>], q: usize, y:
 // The number's negative.
 #[inline]
 fn negative<W: Width>(c: Entry<W>) -> Entry<W>
-    requires low { neg_ℤ (pos (2 ^ 25)) ≤ℤ c }
-    requires high { c ≤ℤ pos (2 ^ 25) }
+    requires low { neg_ℤ (pos (2 * W.unit)) ≤ℤ c }
+    requires high { c ≤ℤ pos (2 * W.unit) }
     ensures value { result ≡ neg_ℤ c }
 {
     c.negative()
@@ -113,8 +113,8 @@ fn negative<W: Width>(c: Entry<W>) -> Entry<W>
 // Twice the number.
 #[inline]
 fn twice_of<W: Width>(c: Entry<W>) -> Entry<W>
-    requires low { neg_ℤ (pos (2 ^ 25)) ≤ℤ c }
-    requires high { c ≤ℤ pos (2 ^ 25) }
+    requires low { neg_ℤ (pos (2 * W.unit)) ≤ℤ c }
+    requires high { c ≤ℤ pos (2 * W.unit) }
     ensures value { result ≡ c +ℤ c }
 {
     c.sum(c)
@@ -124,8 +124,8 @@ fn twice_of<W: Width>(c: Entry<W>) -> Entry<W>
 #[inline]
 fn column_at<W: Width>(row: &[Entry<W>; 32], j: usize) -> Entry<W>
     requires column { j < 32 }
-    requires row { AreEntries (2 ^ 25) row.now }
-    ensures value { result ≡ at row.now j }
+    requires row { AreEntries W.unit (2 * W.unit) row.now }
+    ensures value { result ≡ at W.unit row.now j }
 {
     row[j]
 }
@@ -135,12 +135,12 @@ fn column_at<W: Width>(row: &[Entry<W>; 32], j: usize) -> Entry<W>
 fn stood_row<W: Width>(row: &[Entry<W>; 32], q: usize, y: usize, first: Entry<W>, second: Entry<W>, others: Entry<W>) -> [Entry<W>; 32]
     requires slot { q < 16 }
     requires node { y < 32 }
-    requires row { AreEntries (2 ^ 25) row.now }
-    requires first { IsEntry (2 ^ 26) first }
-    requires second { IsEntry (2 ^ 26) second }
-    requires others { IsEntry (2 ^ 26) others }
-    ensures stood { ColumnsAre 32 (stood_at row.now q y first second others) result }
-    ensures entries { AreEntries (3 * 2 ^ 25) result }
+    requires row { AreEntries W.unit (2 * W.unit) row.now }
+    requires first { IsEntry W.unit (4 * W.unit) first }
+    requires second { IsEntry W.unit (4 * W.unit) second }
+    requires others { IsEntry W.unit (4 * W.unit) others }
+    ensures stood { ColumnsAre W.unit 32 (stood_at W.unit row.now q y first second others) result }
+    ensures entries { AreEntries W.unit (6 * W.unit) result }
 {
     let mut stood = stepped(others, row);
     let here = plus(first, row[y]);
@@ -156,12 +156,12 @@ fn stood_row<W: Width>(row: &[Entry<W>; 32], q: usize, y: usize, first: Entry<W>
 fn replace_rows<W: Width>(entries: &mut [Entry<W>], slots: usize, q: usize, first: &[Entry<W>; 32], second: &[Entry<W>; 32])
     requires few { slots ≤ 16 }
     requires size { length entries.old ≡ row_start (2 * slots) }
-    requires entries { AreEntries (2 ^ 25) entries.old }
-    requires first { AreEntries (2 ^ 25) first.now }
-    requires second { AreEntries (2 ^ 25) second.now }
+    requires entries { AreEntries W.unit (2 * W.unit) entries.old }
+    requires first { AreEntries W.unit (2 * W.unit) first.now }
+    requires second { AreEntries W.unit (2 * W.unit) second.now }
     requires slot { q < 16 }
-    ensures kept { RowsAre (replaced q first.now second.now) (2 * slots) entries.old entries.new }
-    ensures entries { AreEntries (2 ^ 25) entries.new }
+    ensures kept { RowsAre W.unit (replaced W.unit q first.now second.now) (2 * slots) entries.old entries.new }
+    ensures entries { AreEntries W.unit (2 * W.unit) entries.new }
 {
     for i in 0..2 * slots {
         replace_row(entries, i, q, first, second);
@@ -174,12 +174,12 @@ fn replace_row<W: Width>(entries: &mut [Entry<W>], i: usize, q: usize, first: &[
     requires row { i < 32 }
     requires slot { q < 16 }
     requires size { row_start i + row_width i ≤ length entries.old }
-    requires entries { AreEntries (2 ^ 25) entries.old }
-    requires first { AreEntries (2 ^ 25) first.now }
-    requires second { AreEntries (2 ^ 25) second.now }
-    ensures kept { RowIs (replaced q first.now second.now i) i entries.old entries.new }
-    ensures rest { RestStays i entries.old entries.new }
-    ensures entries { AreEntries (2 ^ 25) entries.new }
+    requires entries { AreEntries W.unit (2 * W.unit) entries.old }
+    requires first { AreEntries W.unit (2 * W.unit) first.now }
+    requires second { AreEntries W.unit (2 * W.unit) second.now }
+    ensures kept { RowIs W.unit (replaced W.unit q first.now second.now i) i entries.old entries.new }
+    ensures rest { RestStays W.unit i entries.old entries.new }
+    ensures entries { AreEntries W.unit (2 * W.unit) entries.new }
 {
     let start = row_at(i);
     let end = start + row_len(i);
@@ -191,13 +191,13 @@ fn replace_row<W: Width>(entries: &mut [Entry<W>], i: usize, q: usize, first: &[
 #[inline]
 fn replace_each<W: Width>(row: &mut [Entry<W>], i: usize, q: usize, first: &[Entry<W>; 32], second: &[Entry<W>; 32])
     requires size { length row.old ≡ row_width i }
-    requires row { AreEntries (2 ^ 25) row.old }
+    requires row { AreEntries W.unit (2 * W.unit) row.old }
     requires node { i < 32 }
     requires slot { q < 16 }
-    requires first { AreEntries (2 ^ 25) first.now }
-    requires second { AreEntries (2 ^ 25) second.now }
-    ensures kept { EachIs (replaced q first.now second.now i) row.old row.new }
-    ensures within { AreEntries (2 ^ 25) row.new }
+    requires first { AreEntries W.unit (2 * W.unit) first.now }
+    requires second { AreEntries W.unit (2 * W.unit) second.now }
+    ensures kept { EachIs W.unit (replaced W.unit q first.now second.now i) row.old row.new }
+    ensures within { AreEntries W.unit (2 * W.unit) row.new }
 {
     if i == 2 * q {
         return copy_row(row, first);
@@ -218,10 +218,10 @@ fn replace_each<W: Width>(row: &mut [Entry<W>], i: usize, q: usize, first: &[Ent
 #[inline]
 fn copy_row<W: Width>(row: &mut [Entry<W>], from: &[Entry<W>; 32])
     requires size { length row.old ≤ 32 }
-    requires row { AreEntries (2 ^ 25) row.old }
-    requires from { AreEntries (2 ^ 25) from.now }
-    ensures kept { EachIs (λ j x. at from.now j) row.old row.new }
-    ensures within { AreEntries (2 ^ 25) row.new }
+    requires row { AreEntries W.unit (2 * W.unit) row.old }
+    requires from { AreEntries W.unit (2 * W.unit) from.now }
+    ensures kept { EachIs W.unit (λ j x. (at W.unit) from.now j) row.old row.new }
+    ensures within { AreEntries W.unit (2 * W.unit) row.new }
 {
     for j in 0..row.len() {
         row[j] = from[j];

@@ -6,7 +6,7 @@ ghost use Rattle.dbm_core.specs.Nodes.{flip};
 ghost use Rattle.dbm_incremental.specs.ClosedMatrices.{IsStrong};
 ghost use Rattle.dbm_narrow.specs.Entries.{AreEntries, IsEntry, at, held, wide};
 ghost use Rattle.dbm_narrow.specs.Held.{HoldsHalves, TellsFinish, TellsHalves, TellsRanges};
-ghost use Rattle.dbm_narrow.specs.Rounds.{IsNarrow};
+ghost use Rattle.dbm_narrow.specs.Rounds.{AreUncut, IsNarrow};
 ghost use Rattle.dbm_narrow.specs.Rows.{RestStays, RowIs, Strengthened, strengthened_at};
 
 use crate::entry::Entry;
@@ -19,8 +19,8 @@ use crate::rows::{place, row_at, row_len, strengthen};
 /// Steps 2 to 6, in place: false where no values are left.
 #[inline]
 pub fn finish<W: Width>(kinds: &[bool], entries: &mut [Entry<W>]) -> ClosingResult
-    requires narrow { IsNarrow kinds.now entries.old }
-    ensures finish { TellsFinish kinds.now entries.old entries.new result }
+    requires narrow { IsNarrow W.unit kinds.now entries.old }
+    ensures finish { TellsFinish W.unit kinds.now entries.old entries.new result }
 {
     let slots = kinds.len();
     let halves = halves_of(kinds, entries);
@@ -35,9 +35,9 @@ pub fn finish<W: Width>(kinds: &[bool], entries: &mut [Entry<W>]) -> ClosingResu
 /// The same of strong entries, which these steps leave as they are.
 #[inline]
 pub fn finish_strong<W: Width>(kinds: &[bool], entries: &[Entry<W>]) -> ClosingResult
-    requires narrow { IsNarrow kinds.now entries.now }
-    requires strong { IsStrong (2 * length kinds.now) (entry (held kinds.now entries.now)) }
-    ensures finish { TellsFinish kinds.now entries.now entries.now result }
+    requires narrow { IsNarrow W.unit kinds.now entries.now }
+    requires strong { IsStrong (2 * length kinds.now) (entry (held W.unit kinds.now entries.now)) }
+    ensures finish { TellsFinish W.unit kinds.now entries.now entries.now result }
 {
     if !are_uncut(entries) {
         return ClosingResult::TooWide;
@@ -50,23 +50,24 @@ pub fn finish_strong<W: Width>(kinds: &[bool], entries: &[Entry<W>]) -> ClosingR
 
 // Whether step 5 cuts no entry, and none is too low for it.
 #[inline]
-fn are_uncut<W: Width>(entries: &[Entry<W>]) -> bool {
-    if !W::CUTS {
-        return true;
-    }
-    let mut uncut = true;
+fn are_uncut<W: Width>(entries: &[Entry<W>]) -> bool
+    requires entries { AreEntries W.unit (2 * W.unit) entries.now }
+    ensures uncut { result ≡ true → AreUncut W.unit entries.now }
+{
     for k in 0..entries.len() {
-        uncut = uncut & entries[k].is_uncut();
+        if entries[k].is_less(Entry::free()) && !entries[k].is_uncut() {
+            return false;
+        }
     }
-    uncut
+    true
 }
 
 // Half of the bound from each node to that of the other sign, rounded down.
 #[inline]
 fn halves_of<W: Width>(kinds: &[bool], entries: &[Entry<W>]) -> [Entry<W>; 32]
-    requires narrow { IsNarrow kinds.now entries.now }
-    ensures halves { HoldsHalves kinds.now entries.now result }
-    ensures entries { AreEntries (2 ^ 24) result }
+    requires narrow { IsNarrow W.unit kinds.now entries.now }
+    ensures halves { HoldsHalves W.unit kinds.now entries.now result }
+    ensures entries { AreEntries W.unit W.unit result }
 {
     let mut halves = [Entry::none(); 32];
     for slot in 0..kinds.len() {
@@ -84,10 +85,10 @@ fn halves_of<W: Width>(kinds: &[bool], entries: &[Entry<W>]) -> [Entry<W>; 32]
 #[inline]
 fn has_negative_halves<W: Width>(halves: &[Entry<W>; 32], behind: &[Entry<W>; 32], slots: usize) -> bool
     requires few { slots ≤ 16 }
-    requires halves { AreEntries (2 ^ 24) halves.now }
-    requires behind { AreEntries (2 ^ 24) behind.now }
-    requires flipped { (i : ℕ) → i < 2 * slots → at behind.now i ≡ at halves.now (flip i) }
-    ensures negative { TellsHalves (2 * slots) halves.now result }
+    requires halves { AreEntries W.unit W.unit halves.now }
+    requires behind { AreEntries W.unit W.unit behind.now }
+    requires flipped { (i : ℕ) → i < 2 * slots → at W.unit behind.now i ≡ at W.unit halves.now (flip i) }
+    ensures negative { TellsHalves W.unit (2 * slots) halves.now result }
 {
     for i in 0..2 * slots {
         let sum = plus(halves[i], behind[i]);
@@ -103,11 +104,11 @@ fn has_negative_halves<W: Width>(halves: &[Entry<W>; 32], behind: &[Entry<W>; 32
 fn strengthen_rows<W: Width>(entries: &mut [Entry<W>], slots: usize, halves: &[Entry<W>; 32], behind: &[Entry<W>; 32])
     requires few { slots ≤ 16 }
     requires size { length entries.old ≡ row_start (2 * slots) }
-    requires entries { AreEntries (2 ^ 25) entries.old }
-    requires halves { AreEntries (2 ^ 24) halves.now }
-    requires behind { AreEntries (2 ^ 24) behind.now }
-    ensures kept { Strengthened halves.now behind.now (2 * slots) entries.old entries.new }
-    ensures entries { AreEntries (2 ^ 25) entries.new }
+    requires entries { AreEntries W.unit (2 * W.unit) entries.old }
+    requires halves { AreEntries W.unit W.unit halves.now }
+    requires behind { AreEntries W.unit W.unit behind.now }
+    ensures kept { Strengthened W.unit halves.now behind.now (2 * slots) entries.old entries.new }
+    ensures entries { AreEntries W.unit (2 * W.unit) entries.new }
 {
     for i in 0..2 * slots {
         strengthen_row(entries, i, halves[i], behind);
@@ -119,12 +120,12 @@ fn strengthen_rows<W: Width>(entries: &mut [Entry<W>], slots: usize, halves: &[E
 fn strengthen_row<W: Width>(entries: &mut [Entry<W>], i: usize, to: Entry<W>, behind: &[Entry<W>; 32])
     requires row { i < 32 }
     requires size { row_start i + row_width i ≤ length entries.old }
-    requires entries { AreEntries (2 ^ 25) entries.old }
-    requires to { IsEntry (2 ^ 24) to }
-    requires behind { AreEntries (2 ^ 24) behind.now }
-    ensures kept { RowIs (strengthened_at to behind.now) i entries.old entries.new }
-    ensures rest { RestStays i entries.old entries.new }
-    ensures entries { AreEntries (2 ^ 25) entries.new }
+    requires entries { AreEntries W.unit (2 * W.unit) entries.old }
+    requires to { IsEntry W.unit W.unit to }
+    requires behind { AreEntries W.unit W.unit behind.now }
+    ensures kept { RowIs W.unit (strengthened_at W.unit to behind.now) i entries.old entries.new }
+    ensures rest { RestStays W.unit i entries.old entries.new }
+    ensures entries { AreEntries W.unit (2 * W.unit) entries.new }
 {
     if !to.is_less(Entry::free()) {
         return;
@@ -139,8 +140,8 @@ fn strengthen_row<W: Width>(entries: &mut [Entry<W>], i: usize, to: Entry<W>, be
 #[inline]
 #[tactic(auto, unfolding(crate::specs::Entries::wide))]
 pub fn low_end<W: Width>(array: bool, bound: Entry<W>) -> i128
-    requires bound { IsEntry (2 ^ 25) bound }
-    ensures low { result ≡ range_low array (wide bound) }
+    requires bound { IsEntry W.unit (2 * W.unit) bound }
+    ensures low { result ≡ range_low array (wide W.unit bound) }
 {
     let extreme = if array { 0 } else { -9223372036854775808 };
     if !bound.is_less(Entry::free()) {
@@ -154,7 +155,7 @@ pub fn low_end<W: Width>(array: bool, bound: Entry<W>) -> i128
 #[inline]
 #[tactic(auto, unfolding(crate::specs::Entries::wide))]
 pub fn high_end<W: Width>(array: bool, bound: Entry<W>) -> i128
-    ensures high { result ≡ range_high array (wide bound) }
+    ensures high { result ≡ range_high array (wide W.unit bound) }
 {
     let extreme = if array { 1000000 } else { 9223372036854775807 };
     if !bound.is_less(Entry::free()) {
@@ -167,8 +168,8 @@ pub fn high_end<W: Width>(array: bool, bound: Entry<W>) -> i128
 // Step 6: whether a slot's range is empty.
 #[inline]
 fn has_empty_range<W: Width>(kinds: &[bool], entries: &[Entry<W>]) -> bool
-    requires narrow { IsNarrow kinds.now entries.now }
-    ensures empty { TellsRanges kinds.now entries.now result }
+    requires narrow { IsNarrow W.unit kinds.now entries.now }
+    ensures empty { TellsRanges W.unit kinds.now entries.now result }
 {
     for (slot, array) in kinds.iter().enumerate() {
         let even = place(2 * slot, 2 * slot + 1);

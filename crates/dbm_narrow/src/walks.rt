@@ -27,9 +27,9 @@ pub enum Walks {
 /// are of no use.
 #[inline]
 pub fn least_weights<W: Width>(kinds: &[bool], entries: &mut [Entry<W>]) -> Walks
-    requires narrow { IsNarrow kinds.now entries.old }
-    requires diagonal { HasLowDiagonal kinds.now entries.old }
-    ensures weights { AreRounds kinds.now entries.old entries.new result }
+    requires narrow { IsNarrow W.unit kinds.now entries.old }
+    requires diagonal { HasLowDiagonal W.unit kinds.now entries.old }
+    ensures weights { AreRounds W.unit kinds.now entries.old entries.new result }
 {
     let mut middle = no_middle();
     for q in 0..kinds.len() {
@@ -48,11 +48,11 @@ pub fn least_weights<W: Width>(kinds: &[bool], entries: &mut [Entry<W>]) -> Walk
 // One round: walks may go through both nodes of slot q, whose bounds are put into `middle`.
 #[inline]
 fn make_round<W: Width>(kinds: &[bool], entries: &mut [Entry<W>], q: usize, middle: &mut Middle<W>) -> Walks
-    requires narrow { IsNarrow kinds.now entries.old }
+    requires narrow { IsNarrow W.unit kinds.now entries.old }
     requires middle { q < length kinds.now }
-    requires bounds { IsNarrowMiddle middle.old }
-    ensures round { IsRound kinds.now q entries.old entries.new result }
-    ensures bounds { IsNarrowMiddle middle.new }
+    requires bounds { IsNarrowMiddle W.unit middle.old }
+    ensures round { IsRound W.unit kinds.now q entries.old entries.new result }
+    ensures bounds { IsNarrowMiddle W.unit middle.new }
 {
     fill_middle(kinds, entries, q, middle);
     if middle.from_first[2 * q].is_less(Entry::zero()) {
@@ -73,10 +73,10 @@ fn make_round<W: Width>(kinds: &[bool], entries: &mut [Entry<W>], q: usize, midd
 pub fn go_through_rows<W: Width>(entries: &mut [Entry<W>], slots: usize, middle: &Middle<W>) -> bool
     requires few { slots ≤ 16 }
     requires size { length entries.old ≡ row_start (2 * slots) }
-    requires entries { AreEntries (2 ^ 25) entries.old }
-    requires middle { IsNarrowMiddle middle.now }
-    ensures kept { result ≡ true → AllThrough middle.now (2 * slots) entries.old entries.new }
-    ensures entries { result ≡ true → AreEntries (2 ^ 25) entries.new }
+    requires entries { AreEntries W.unit (2 * W.unit) entries.old }
+    requires middle { IsNarrowMiddle W.unit middle.now }
+    ensures kept { result ≡ true → AllThrough W.unit middle.now (2 * slots) entries.old entries.new }
+    ensures entries { result ≡ true → AreEntries W.unit (2 * W.unit) entries.new }
 {
     // of many slots most rows are skipped, so that one check of all would cost more
     let each = slots > 8;
@@ -96,14 +96,14 @@ pub fn go_through_rows<W: Width>(entries: &mut [Entry<W>], slots: usize, middle:
 fn go_through_row<W: Width>(entries: &mut [Entry<W>], i: usize, middle: &Middle<W>, checks: bool) -> bool
     requires row { i < 32 }
     requires size { row_start i + row_width i ≤ length entries.old }
-    requires entries { AreEntries (7 * 2 ^ 25) entries.old }
-    requires small { IsRowWithin (2 ^ 25) i entries.old }
-    requires middle { IsNarrowMiddle middle.now }
-    ensures kept { RowIs (through_middle middle.now i) i entries.old entries.new }
-    ensures rest { RestStays i entries.old entries.new }
-    ensures entries { AreEntries (7 * 2 ^ 25) entries.new }
-    ensures within { checks ≡ true → result ≡ true → AreEntries (2 ^ 25) entries.old →
-        AreEntries (2 ^ 25) entries.new }
+    requires entries { AreEntries W.unit (14 * W.unit) entries.old }
+    requires small { IsRowWithin W.unit (2 * W.unit) i entries.old }
+    requires middle { IsNarrowMiddle W.unit middle.now }
+    ensures kept { RowIs W.unit (through_middle W.unit middle.now i) i entries.old entries.new }
+    ensures rest { RestStays W.unit i entries.old entries.new }
+    ensures entries { AreEntries W.unit (14 * W.unit) entries.new }
+    ensures within { checks ≡ true → result ≡ true → AreEntries W.unit (2 * W.unit) entries.old →
+        (AreEntries W.unit) (2 * W.unit) entries.new }
 {
     let to_first = middle.to_first[i];
     let to_second = middle.to_second[i];
@@ -126,8 +126,8 @@ fn go_through_row<W: Width>(entries: &mut [Entry<W>], i: usize, middle: &Middle<
 // Whether each bound lies within the limits, where that is to be checked.
 #[inline]
 fn are_within_if<W: Width>(checks: bool, entries: &[Entry<W>]) -> bool
-    requires entries { AreEntries (7 * 2 ^ 25) entries.now }
-    ensures within { checks ≡ true → result ≡ true → AreEntries (2 ^ 25) entries.now }
+    requires entries { AreEntries W.unit (14 * W.unit) entries.now }
+    ensures within { checks ≡ true → result ≡ true → AreEntries W.unit (2 * W.unit) entries.now }
 {
     !checks || are_within(entries)
 }
@@ -135,8 +135,8 @@ fn are_within_if<W: Width>(checks: bool, entries: &[Entry<W>]) -> bool
 // Whether an entry of the diagonal is below 0.
 #[inline]
 fn is_diagonal_negative<W: Width>(kinds: &[bool], entries: &[Entry<W>]) -> bool
-    requires narrow { IsNarrow kinds.now entries.now }
-    ensures negative { TellsDiagonal kinds.now entries.now result }
+    requires narrow { IsNarrow W.unit kinds.now entries.now }
+    ensures negative { TellsDiagonal W.unit kinds.now entries.now result }
 {
     for slot in 0..kinds.len() {
         let at = row_at(2 * slot) + 2 * slot;

@@ -48,10 +48,10 @@ fn raise_rows<W: Width>(entries: &mut [Entry<W>], others: &[Entry<W>], slots: us
     requires few { slots ≤ 16 }
     requires size { length entries.old ≡ row_start (2 * slots) }
     requires as_many { length others.now ≡ length entries.old }
-    requires entries { AreEntries (2 ^ 25) entries.old }
-    requires others { AreEntries (2 ^ 25) others.now }
-    ensures kept { WidensOn result thresholds.now (2 * slots) entries.old others.now entries.new }
-    ensures entries { result ≡ true → AreEntries (2 ^ 25) entries.new }
+    requires entries { AreEntries W.unit (2 * W.unit) entries.old }
+    requires others { AreEntries W.unit (2 * W.unit) others.now }
+    ensures kept { WidensOn W.unit result thresholds.now (2 * slots) entries.old others.now entries.new }
+    ensures entries { result ≡ true → AreEntries W.unit (2 * W.unit) entries.new }
 {
     for i in 0..2 * slots {
         if !raise_row(entries, others, i, thresholds) {
@@ -67,11 +67,11 @@ fn raise_row<W: Width>(entries: &mut [Entry<W>], others: &[Entry<W>], i: usize, 
     requires row { i < 32 }
     requires size { row_start i + row_width i ≤ length entries.old }
     requires as_many { length others.now ≡ length entries.old }
-    requires entries { AreEntries (2 ^ 25) entries.old }
-    requires others { AreEntries (2 ^ 25) others.now }
-    ensures kept { result ≡ true → RowWidens thresholds.now i entries.old others.now entries.new }
-    ensures rest { RestStays i entries.old entries.new }
-    ensures entries { result ≡ true → AreEntries (2 ^ 25) entries.new }
+    requires entries { AreEntries W.unit (2 * W.unit) entries.old }
+    requires others { AreEntries W.unit (2 * W.unit) others.now }
+    ensures kept { result ≡ true → RowWidens W.unit thresholds.now i entries.old others.now entries.new }
+    ensures rest { RestStays W.unit i entries.old entries.new }
+    ensures entries { result ≡ true → AreEntries W.unit (2 * W.unit) entries.new }
 {
     let start = row_at(i);
     let end = start + row_len(i);
@@ -86,10 +86,10 @@ fn raise_each<W: Width>(row: &mut [Entry<W>], others: &[Entry<W>], i: usize, thr
     requires node { i < 32 }
     requires size { length row.old ≤ 32 }
     requires as_many { length others.now ≡ length row.old }
-    requires row { AreEntries (2 ^ 25) row.old }
-    requires others { AreEntries (2 ^ 25) others.now }
-    ensures kept { result ≡ true → EachWidens thresholds.now i row.old others.now row.new }
-    ensures within { result ≡ true → AreEntries (2 ^ 25) row.new }
+    requires row { AreEntries W.unit (2 * W.unit) row.old }
+    requires others { AreEntries W.unit (2 * W.unit) others.now }
+    ensures kept { result ≡ true → EachWidens W.unit thresholds.now i row.old others.now row.new }
+    ensures within { result ≡ true → AreEntries W.unit (2 * W.unit) row.new }
 {
     let other = other_sign(i);
     for j in 0..row.len() {
@@ -104,9 +104,9 @@ fn raise_each<W: Width>(row: &mut [Entry<W>], others: &[Entry<W>], i: usize, thr
 // An entry stays where the new one is not greater, else it goes to the next threshold, if that fits.
 #[inline]
 fn widened_entry<W: Width>(thresholds: &[i64], doubled: bool, old: Entry<W>, new: Entry<W>) -> Option<Entry<W>>
-    requires old { IsEntry (2 ^ 25) old }
-    requires new { IsEntry (2 ^ 25) new }
-    ensures widened { IsWidenedIf thresholds.now doubled old new result }
+    requires old { IsEntry W.unit (2 * W.unit) old }
+    requires new { IsEntry W.unit (2 * W.unit) new }
+    ensures widened { IsWidenedIf W.unit thresholds.now doubled old new result }
 {
     if !old.is_less(new) {
         return Some(old);
@@ -119,7 +119,7 @@ fn widened_entry<W: Width>(thresholds: &[i64], doubled: bool, old: Entry<W>, new
 
 // The entry of the next threshold, if it fits.
 fn threshold_entry<W: Width>(thresholds: &[i64], doubled: bool, bound: Entry<W>) -> Option<Entry<W>>
-    ensures threshold { IsThresholdEntry (next_threshold thresholds.now doubled bound) result }
+    ensures threshold { IsThresholdEntry W.unit (next_threshold thresholds.now doubled bound) result }
 {
     narrow_entry(threshold_from(thresholds, doubled, bound))
 }

@@ -1,7 +1,8 @@
 //! Widths of entries: how many bytes one takes, and how large its bounds may be.
 ghost use Rattle.std.specs.Prelude.{◌≡◌, ◌<◌, ◌*◌, ◌^◌, ◌+ℤ◌, ℕ, ℤ, pos, neg_ℤ, int_lt, true, refl};
 ghost use Rattle.std.specs.Int.{int_div_euclid};
-ghost use Rattle.dbm_narrow.specs.Widths.{HasRoom, IsBound, IsUncut, fed_number, is_positive};
+ghost use Rattle.std.proofs.Common.{rules};
+ghost use Rattle.dbm_narrow.specs.Widths.{HasRoom, IsBound, IsUncut, fed_number};
 
 /// A type of entries: each finite bound lies from `-2 * unit` to `2 * unit`, and `32 * unit` stands for
 /// none.
@@ -91,7 +92,7 @@ impl Width for i32 {
 
     ghost unit = { 2 ^ 24 };
 
-    ghost positive = { is_positive 24 };
+    ghost positive = { Prim.search rules };
 
     #[inline]
     fn none() -> i32 {
@@ -173,7 +174,7 @@ impl Width for i128 {
 
     ghost unit = { 2 ^ 99 };
 
-    ghost positive = { is_positive 99 };
+    ghost positive = { Prim.search rules };
 
     #[inline]
     fn none() -> i128 {
