@@ -10,19 +10,19 @@ use Rattle.dbm_narrow.specs.Entries.{held}
 use Rattle.dbm_narrow.proofs.closing.close_own.Goals as goal
 
 pub returns-then-finish : goal.returns-then-finish
-returns-then-finish c =
-    let m : HalfMatrix = held c.args.kinds.now c.args.entries.now in
+returns-then-finish gen c =
+    let m : HalfMatrix = (held gen.W.Width.unit) c.args.kinds.now c.args.entries.now in
     record {
       outcome = (
-        sym (close_of-only m (Matrix (held c.args.kinds.now c.finish.new.entries)) c.requires.narrow.matrix (zero-at_most (nodes m) (entry m) c.requires.weights.diagonal)
-            (close-from_weights m m (Matrix (held c.args.kinds.now c.finish.new.entries)) refl (own-weights (entry m) (nodes m) c.requires.weights.diagonal c.requires.weights.triangles) c.if-finish.ensures.finish.finish)),
+        sym (close_of-only m (Matrix ((held gen.W.Width.unit) c.args.kinds.now c.finish.new.entries)) c.requires.narrow.matrix (zero-at_most (nodes m) (entry m) c.requires.weights.diagonal)
+            (close-from_weights m m (Matrix ((held gen.W.Width.unit) c.args.kinds.now c.finish.new.entries)) refl (own-weights (entry m) (nodes m) c.requires.weights.diagonal c.requires.weights.triangles) c.if-finish.ensures.finish.finish)),
         record { matrix = c.if-finish.ensures.finish.finish.entries.matrix; entries = c.if-finish.ensures.finish.entries },
       );
     }
 
 pub returns-else-finish : goal.returns-else-finish
-returns-else-finish c =
-    let m : HalfMatrix = held c.args.kinds.now c.args.entries.now in
+returns-else-finish gen c =
+    let m : HalfMatrix = (held gen.W.Width.unit) c.args.kinds.now c.args.entries.now in
     record {
       outcome = sym (close_of-only m Empty c.requires.narrow.matrix (zero-at_most (nodes m) (entry m) c.requires.weights.diagonal)
           (close-from_weights m m Empty refl (own-weights (entry m) (nodes m) c.requires.weights.diagonal c.requires.weights.triangles) c.if-finish.ensures.finish));

@@ -10,8 +10,8 @@ use Rattle.dbm_narrow.specs.Entries.{held}
 use Rattle.dbm_narrow.proofs.closing.close_strong.Goals as goal
 
 pub returns-then-finish_strong : goal.returns-then-finish_strong
-returns-then-finish_strong c =
-    let m : HalfMatrix = held c.args.kinds.now c.args.entries.now in
+returns-then-finish_strong gen c =
+    let m : HalfMatrix = (held gen.W.Width.unit) c.args.kinds.now c.args.entries.now in
     record {
       outcome = (
         sym (close_of-only m (Matrix m) c.requires.narrow.matrix (zero-at_most (nodes m) (entry m) c.requires.strong.diagonal)
@@ -21,8 +21,8 @@ returns-then-finish_strong c =
     }
 
 pub returns-else-finish_strong : goal.returns-else-finish_strong
-returns-else-finish_strong c =
-    let m : HalfMatrix = held c.args.kinds.now c.args.entries.now in
+returns-else-finish_strong gen c =
+    let m : HalfMatrix = (held gen.W.Width.unit) c.args.kinds.now c.args.entries.now in
     record {
       outcome = sym (close_of-only m Empty c.requires.narrow.matrix (zero-at_most (nodes m) (entry m) c.requires.strong.diagonal)
           (close-from_weights m m Empty refl (own-weights (entry m) (nodes m) c.requires.strong.diagonal c.requires.strong.triangles) c.if-finish_strong.ensures.finish));
