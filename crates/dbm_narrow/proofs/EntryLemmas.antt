@@ -357,12 +357,6 @@ module _ (unit : ℕ) (room : 0 < unit) where
 
   -- ---- what code reads
 
-  pub read-at : (d : ℤ) (xs : List ℤ) (k : ℕ) → k < length xs → get_or xs k d ≡ at unit xs k
-  read-at d xs k m = get_or_default xs k d (none unit) m
-
-  pub passed-entry : (b c : ℕ) (d : ℤ) (xs : List ℤ) (k : ℕ) → b ≤ c → AreEntries unit b xs → k < length xs → IsEntry unit c (get_or xs k d)
-  passed-entry b c d xs k l h m = subst (IsEntry unit c) (sym (read-at d xs k m)) (entry-more b c (at unit xs k) l (h k))
-
   pub lt-true : (x y : ℤ) → lt_z x y ≡ true → x <ℤ y
   lt-true x y e = grind (arith, ints)
 

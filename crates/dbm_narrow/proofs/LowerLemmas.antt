@@ -33,7 +33,7 @@ use Rattle.dbm_narrow.specs.Rounds.{IsNarrow}
 
 module _ (unit : ℕ) (room : 0 < unit) where
   -- the bounds that the entries stand for
-  abbrev pub wide_ends : Middle → Ends
+  abbrev pub wide_ends : {W : Type 0} → Middle W → Ends
   wide_ends m = record { to_first = map (wide unit) m.to_first; from_first = map (wide unit) m.from_first; to_second = map (wide unit) m.to_second; from_second = map (wide unit) m.from_second }
 
   pub wide-at_most : (x c : ℤ) → x ≤ℤ c → c ≤ℤ pos (2 * unit) → AtMost (wide unit x) (Some c)
@@ -49,7 +49,7 @@ module _ (unit : ℕ) (room : 0 < unit) where
     wide_step : wide unit c ≡ Some c
     wide_step = (wide-bound unit room) c (omega (arith, ints))
 
-    module _ (m : Middle) (p : AreEnds unit (2 * length kinds) xs i j c m) where
+    module _ (m : Middle W) (p : AreEnds unit (2 * length kinds) xs i j c m) where
       to_first : (x : ℕ) → x < 2 * length kinds → wide unit (at unit m.to_first x) ≡ entry (held unit kinds xs) x i
       to_first x hx = ap (wide unit) (p.to_first x hx) ∙ (to_node unit room) kinds xs t.matrix x i hx hi
 
@@ -165,7 +165,7 @@ module _ (unit : ℕ) (room : 0 < unit) where
       }
 
   -- an entry that goes over the ends stands for the bound with the edge inserted
-  pub ends-inserted : (kinds : List Bool) (xs ys : List ℤ) (i j : ℕ) (c : ℤ) (m : Middle) → HasEnds (2 * length kinds) (entry (held unit kinds xs)) i j c (wide_ends m) → IsNarrowMiddle unit m →
+  pub ends-inserted : {W : Type 0} → (kinds : List Bool) (xs ys : List ℤ) (i j : ℕ) (c : ℤ) (m : Middle W) → HasEnds (2 * length kinds) (entry (held unit kinds xs)) i j c (wide_ends m) → IsNarrowMiddle unit m →
       (a b : ℕ) → a < 2 * length kinds → b < row_width a → at unit ys (row_start a + b) ≡ through_middle unit m a b (at unit xs (row_start a + b)) →
       entry (held unit kinds ys) a b ≡ inserted (entry (held unit kinds xs)) i j c a b
   ends-inserted kinds xs ys i j c m h s a b ha w e =

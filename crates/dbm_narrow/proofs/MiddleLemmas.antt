@@ -43,13 +43,13 @@ module _ (unit : ℕ) (room : 0 < unit) where
     to_node i k hi hk = sym ((held-entry unit room) kinds xs (flip k) (flip i)) ∙ sym (entry-coherent (held unit kinds xs) t i k hi hk)
 
   -- what the arrays hold before column n
-  pub record AreWays (n : ℕ) (xs : List ℤ) (q : ℕ) (m : Middle) : Type 0 where
+  pub record AreWays {W : Type 0} (n : ℕ) (xs : List ℤ) (q : ℕ) (m : Middle W) : Type 0 where
     pub first : (j : ℕ) → j < n → at unit m.from_first j ≡ pair_at unit xs (2 * q) j
     pub to_first : (i : ℕ) → i < n → at unit m.to_first i ≡ pair_at unit xs (2 * q + 1) (flip i)
     pub to_second : (i : ℕ) → i < n → at unit m.to_second i ≡ int_min (pair_at unit xs (2 * q) (flip i)) (settle unit (pair_at unit xs (2 * q) (2 * q + 1) +ℤ (pair_at unit) xs (2 * q + 1) (flip i)))
     pub from_second : (j : ℕ) → j < n → at unit m.from_second j ≡ int_min (pair_at unit xs (2 * q + 1) j) (settle unit (pair_at unit xs (2 * q + 1) (2 * q) +ℤ (pair_at unit) xs (2 * q) j))
 
-  pub ways-middle : (kinds : List Bool) (xs : List ℤ) (q : ℕ) (m : Middle) → IsNarrow unit kinds xs → q < length kinds → AreWays (2 * length kinds) xs q m → HasMiddle (2 * length kinds) (entry (held unit kinds xs)) q (wide_middle unit m)
+  pub ways-middle : {W : Type 0} → (kinds : List Bool) (xs : List ℤ) (q : ℕ) (m : Middle W) → IsNarrow unit kinds xs → q < length kinds → AreWays (2 * length kinds) xs q m → HasMiddle (2 * length kinds) (entry (held unit kinds xs)) q (wide_middle unit m)
   ways-middle kinds xs q m t l p = record {
     to_first = λ i hi. (wide-at unit room) m.to_first i ∙ to_first i hi;
     from_first = λ j hj. (wide-at unit room) m.from_first j ∙ from_first j hj;
@@ -92,7 +92,7 @@ module _ (unit : ℕ) (room : 0 < unit) where
           ∙ ap (add_weight (entry (held unit kinds xs) (2 * q + 1) (2 * q))) (sym ((held-entry unit room) kinds xs (2 * q) j))
 
   -- an entry that goes through the middle stands for the bound when walks do
-  pub middle-via : (kinds : List Bool) (xs ys : List ℤ) (m : Middle) → IsNarrowMiddle unit m → (i j : ℕ) → j < row_width i → at unit ys (row_start i + j) ≡ through_middle unit m i j (at unit xs (row_start i + j)) →
+  pub middle-via : {W : Type 0} → (kinds : List Bool) (xs ys : List ℤ) (m : Middle W) → IsNarrowMiddle unit m → (i j : ℕ) → j < row_width i → at unit ys (row_start i + j) ≡ through_middle unit m i j (at unit xs (row_start i + j)) →
       entry (held unit kinds ys) i j ≡ via_both (wide_middle unit m) i j (entry (held unit kinds xs) i j)
   middle-via kinds xs ys m s i j w e =
       (held-kept unit room) kinds ys i j w
@@ -104,7 +104,7 @@ module _ (unit : ℕ) (room : 0 < unit) where
       ∙ ap (λ a. least (least (entry (held unit kinds xs) i j) (add_weight (get_or (map (wide unit) m.to_first) i None) (get_or (map (wide unit) m.from_first) j None))) (add_weight a (wide unit (at unit m.from_second j)))) (sym ((wide-at unit room) m.to_second i))
       ∙ ap (λ a. least (least (entry (held unit kinds xs) i j) (add_weight (get_or (map (wide unit) m.to_first) i None) (get_or (map (wide unit) m.from_first) j None))) (add_weight (get_or (map (wide unit) m.to_second) i None) a)) (sym ((wide-at unit room) m.from_second j))
 
-  pub middle-rounded : (kinds : List Bool) (xs ys : List ℤ) (q : ℕ) (m : Middle) → HasMiddle (2 * length kinds) (entry (held unit kinds xs)) q (wide_middle unit m) → IsNarrowMiddle unit m →
+  pub middle-rounded : {W : Type 0} → (kinds : List Bool) (xs ys : List ℤ) (q : ℕ) (m : Middle W) → HasMiddle (2 * length kinds) (entry (held unit kinds xs)) q (wide_middle unit m) → IsNarrowMiddle unit m →
       (i j : ℕ) → i < 2 * length kinds → j < row_width i → at unit ys (row_start i + j) ≡ through_middle unit m i j (at unit xs (row_start i + j)) →
       entry (held unit kinds ys) i j ≡ rounded (entry (held unit kinds xs)) q i j
   middle-rounded kinds xs ys q m h s i j hi w e =

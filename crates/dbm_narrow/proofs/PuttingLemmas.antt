@@ -82,7 +82,7 @@ module _ (unit : ℕ) (room : 0 < unit) where
 
   -- ---- all four
 
-  pub narrow-between : (xs : List ℤ) (q s : ℕ) (b : Between) → AreEntries unit (2 * unit) xs → IsBetween unit xs q s b → IsNarrowBetween unit b
+  pub narrow-between : {W : Type 0} → (xs : List ℤ) (q s : ℕ) (b : Between W) → AreEntries unit (2 * unit) xs → IsBetween unit xs q s b → IsNarrowBetween unit b
   narrow-between xs q s b h p = record {
     first_even = subst (IsEntry unit (2 * unit)) (sym p.first_even) ((pair-is_entry unit room) (2 * unit) xs (2 * q) (2 * s) h);
     first_odd = subst (IsEntry unit (2 * unit)) (sym p.first_odd) ((pair-is_entry unit room) (2 * unit) xs (2 * q) (2 * s + 1) h);
@@ -90,7 +90,7 @@ module _ (unit : ℕ) (room : 0 < unit) where
     second_odd = subst (IsEntry unit (2 * unit)) (sym p.second_odd) ((pair-is_entry unit room) (2 * unit) xs (2 * q + 1) (2 * s + 1) h);
   }
 
-  pub narrow-put : (s : ℕ) (b : Between) (ahead back : ℤ) (l m n : Middle) → IsNarrowMiddle unit l → IsNarrowBetween unit b → IsEntry unit (2 * unit) ahead → IsEntry unit (2 * unit) back → PutsFrom unit s b back l m → PutsTo unit s b ahead m n → IsNarrowMiddle unit n
+  pub narrow-put : {W : Type 0} → (s : ℕ) (b : Between W) (ahead back : ℤ) (l m n : Middle W) → IsNarrowMiddle unit l → IsNarrowBetween unit b → IsEntry unit (2 * unit) ahead → IsEntry unit (2 * unit) back → PutsFrom unit s b back l m → PutsTo unit s b ahead m n → IsNarrowMiddle unit n
   narrow-put s b ahead back l m n h p ha hb f t = record {
     to_first = put-entries (6 * unit) s b.second_odd b.second_even l.to_first n.to_first h.to_first (subst (λ z. PutsTwo unit s b.second_odd b.second_even z n.to_first) f.to_first t.first) (more (2 * unit) (6 * unit) b.second_odd (omega arith) p.second_odd) (more (2 * unit) (6 * unit) b.second_even (omega arith) p.second_even);
     from_first = subst (AreEntries unit (8 * unit)) (sym t.from_first) (put-entries (8 * unit) s b.first_even b.first_odd l.from_first m.from_first h.from_first f.first (more (2 * unit) (8 * unit) b.first_even (omega arith) p.first_even) (more (2 * unit) (8 * unit) b.first_odd (omega arith) p.first_odd));
@@ -105,7 +105,7 @@ module _ (unit : ℕ) (room : 0 < unit) where
       more : (a c : ℕ) (x : ℤ) → a ≤ c → IsEntry unit a x → IsEntry unit c x
       more a c x l p = (entry-more unit room) a c x l p
 
-  pub ways-none : (xs : List ℤ) (q : ℕ) (m : Middle) → AreWays unit room 0 xs q m
+  pub ways-none : {W : Type 0} → (xs : List ℤ) (q : ℕ) (m : Middle W) → AreWays unit room 0 xs q m
   ways-none xs q m = record {
     first = λ k l. absurd (omega arith);
     to_first = λ k l. absurd (omega arith);
@@ -114,7 +114,7 @@ module _ (unit : ℕ) (room : 0 < unit) where
   }
 
   -- the bounds of one slot more
-  pub ways-next : (xs : List ℤ) (q s : ℕ) (b : Between) (ahead back : ℤ) (l m n : Middle) → AreWays unit room (2 * s) xs q l → IsBetween unit xs q s b → ahead ≡ pair_at unit xs (2 * q) (2 * q + 1) → back ≡ pair_at unit xs (2 * q + 1) (2 * q) →
+  pub ways-next : {W : Type 0} → (xs : List ℤ) (q s : ℕ) (b : Between W) (ahead back : ℤ) (l m n : Middle W) → AreWays unit room (2 * s) xs q l → IsBetween unit xs q s b → ahead ≡ pair_at unit xs (2 * q) (2 * q + 1) → back ≡ pair_at unit xs (2 * q + 1) (2 * q) →
       (PutsFrom unit) s b back l m → PutsTo unit s b ahead m n → AreWays unit room (2 * (s + 1)) xs q n
   ways-next xs q s b ahead back l m n w p ea eb f t = record {
     first = subst (λ z. (k : ℕ) → k < 2 * (s + 1) → at unit z k ≡ pair_at unit xs (2 * q) k) (sym t.from_first) (put-columns (pair_at unit xs (2 * q)) s b.first_even b.first_odd l.from_first m.from_first w.first f.first p.first_even p.first_odd);

@@ -129,10 +129,6 @@ module _ (unit : ℕ) (room : 0 < unit) where
       | inr m ↦ subst (IsEntry unit (14 * unit)) (sym (p.rest k (inr m))) ((entry-more unit room) (2 * unit) (14 * unit) (at unit o k) (omega arith) (po k))
     ]
 
-  -- what code reads of a row, of which only the entries before j are changed
-  pub row-read : (d : ℤ) (xs os : List ℤ) (j : ℕ) → j < length xs → ((k : ℕ) → j ≤ k → at unit xs k ≡ at unit os k) → get_or xs j d ≡ at unit os j
-  row-read d xs os j l rest = get_or_default xs j d (none unit) l ∙ rest j (omega arith)
-
   pub strengthened-row : (u : ℤ) (f o xs : List ℤ) (j : ℕ) → length o ≤ j → IsEntry unit unit u → AreEntries unit unit f → AreEntries unit (2 * unit) o →
       ((k : ℕ) → k < j → at unit xs k ≡ strengthened_by unit u (at unit f k) (at unit o k)) → ((k : ℕ) → j ≤ k → at unit xs k ≡ at unit o k) → AreEntries unit (2 * unit) xs
   strengthened-row u f o xs j l p q h done rest k = elim (cases_lt k j) [

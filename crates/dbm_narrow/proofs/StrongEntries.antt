@@ -99,7 +99,7 @@ module _ (unit : ℕ) (room : 0 < unit) where
       (strong-finishes kinds xs t ((closed-strong unit room) kinds xs t h) h.1.ranges).finish
 
   -- what closing answers of a matrix in which a slot stands for a node plus a number
-  pub stood-closing : (m n : HalfMatrix) (q y : ℕ) (c : ℤ) (a : Closing) → HasEntries m.kinds (stood_entry (entry m) q y c) n → IsStrong (nodes n) (entry n) → IsClosing n a → IsClosingStood m q y c a
+  pub stood-closing : (m n : HalfMatrix) (q y : ℕ) (c : ℤ) (a : Closing W) → HasEntries m.kinds (stood_entry (entry m) q y c) n → IsStrong (nodes n) (entry n) → IsClosing n a → IsClosingStood m q y c a
   stood-closing m n q y c Empty h s e = (n, (h, sym e))
   stood-closing m n q y c (Matrix r) h s e = ((n, (h, sym e)), subst IsClosedAnswer e (close_of-closed n h.matrix (zero-at_most (nodes n) (entry n) s.diagonal)))
   stood-closing m n q y c TooWide h s e = tt

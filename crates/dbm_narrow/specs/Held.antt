@@ -39,7 +39,7 @@ abbrev pub HoldsHalves : ℕ → List Bool → List ℤ → List ℤ → Type 0
 HoldsHalves h kinds xs hs = HasHalves (2 * length kinds) (entry (held h kinds xs)) (map (wide h) hs)
 
 -- m has the bounds to and from both nodes of slot q
-abbrev pub HoldsMiddle : ℕ → List Bool → List ℤ → ℕ → Middle → Type 0
+abbrev pub HoldsMiddle : {W : Type 0} → ℕ → List Bool → List ℤ → ℕ → Middle W → Type 0
 HoldsMiddle h kinds xs q m = HasMiddle (2 * length kinds) (entry (held h kinds xs)) q (wide_middle h m)
 
 -- the bound in 32 bits, none where it lies outside the limits

@@ -14,7 +14,7 @@ use Rattle.dbm_narrow.specs.Entries.{at, held, pair_at, settle}
 use Rattle.dbm_narrow.specs.Rounds.{IsNarrow}
 
 -- m has the entries to and from the edge from i to j, which weighs c, and those to and from its mirror image
-pub record AreEnds (h : ℕ) (n : ℕ) (xs : List ℤ) (i j : ℕ) (c : ℤ) (m : Middle) : Type 0 where
+pub record AreEnds {W : Type 0} (h : ℕ) (n : ℕ) (xs : List ℤ) (i j : ℕ) (c : ℤ) (m : Middle W) : Type 0 where
   pub from_first : (x : ℕ) → x < n → at h m.from_first x ≡ settle h (c +ℤ (pair_at h) xs j x)
   pub to_first : (x : ℕ) → x < n → at h m.to_first x ≡ pair_at h xs (flip i) (flip x)
   pub to_second : (x : ℕ) → x < n → at h m.to_second x ≡ int_min (pair_at h xs j (flip x)) (settle h (at h m.from_first (flip j) +ℤ (at h) m.to_first x))

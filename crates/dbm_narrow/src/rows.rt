@@ -45,6 +45,15 @@ pub fn row_len(i: usize) -> usize
     2 * (i / 2) + 2
 }
 
+/// The entry at a place.
+#[inline]
+pub fn read<W: Width>(row: &[Entry<W>], k: usize) -> Entry<W>
+    requires place { k < length row.now }
+    ensures value { result ≡ at W.unit row.now k }
+{
+    row[k]
+}
+
 /// The entry of a pair.
 #[inline]
 pub fn entry_at<W: Width>(entries: &[Entry<W>], slots: usize, i: usize, j: usize) -> Entry<W>
@@ -57,10 +66,10 @@ pub fn entry_at<W: Width>(entries: &[Entry<W>], slots: usize, i: usize, j: usize
 {
     if j < row_len(i) {
         let kept = place(i, j);
-        return entries[kept];
+        return read(entries, kept);
     }
     let mirrored = place(other_sign(j), other_sign(i));
-    entries[mirrored]
+    read(entries, mirrored)
 }
 
 /// The entries of row i, whose node of the other sign is `other`; none beyond the nodes.
@@ -79,13 +88,15 @@ pub fn whole_row<W: Width>(entries: &[Entry<W>], slots: usize, i: usize, other: 
     let kept = row_len(i);
     for j in 0..kept {
         let at = start + j;
-        row[j] = entries[at];
+        row[j] = read(entries, at);
     }
     for slot in i / 2 + 1..slots {
         let even = row_at(2 * slot) + other;
         let odd = row_at(2 * slot + 1) + other;
-        row[2 * slot] = entries[odd];
-        row[2 * slot + 1] = entries[even];
+        let first = read(entries, odd);
+        let second = read(entries, even);
+        row[2 * slot] = first;
+        row[2 * slot + 1] = second;
     }
     row
 }
@@ -194,7 +205,10 @@ fn gone_at<W: Width>(
     ensures value { result ≡ through_at W.unit to_first to_second from_first.now from_second.now j
         (at W.unit row.now j) }
 {
-    over_both(row[j], to_first, from_first[j], to_second, from_second[j])
+    let here = read(row, j);
+    let first = read(from_first, j);
+    let second = read(from_second, j);
+    over_both(here, to_first, first, to_second, second)
 }
 
 /// Whether each bound lies within the limits.
@@ -206,7 +220,7 @@ pub fn are_within<W: Width>(entries: &[Entry<W>]) -> bool
     let mut low = Entry::zero();
     let mut high = Entry::zero();
     for j in 0..entries.len() {
-        let bound = entries[j];
+        let bound = read(entries, j);
         low = lesser(low, bound);
         high = greater(high, bound_or_zero(bound));
     }
@@ -224,6 +238,8 @@ pub fn strengthen<W: Width>(row: &mut [Entry<W>], to: Entry<W>, from: &[Entry<W>
     ensures within { AreEntries W.unit (2 * W.unit) row.new }
 {
     for j in 0..row.len() {
-        row[j] = settled(lesser(row[j], to.sum(from[j])));
+        let here = read(row, j);
+        let half = read(from, j);
+        row[j] = settled(lesser(here, to.sum(half)));
     }
 }

@@ -1,20 +1,26 @@
-use Rattle.std.specs.Prelude.{◌*◌, ◌≡◌, ◌^◌, pos}
-use Rattle.std.proofs.Common.{arith, rules, get_or}
-use Rattle.dbm_narrow.proofs.EntryLemmas.{passed-entry, read-at, read-at}
-use Rattle.dbm_narrow.specs.Entries.{at, through_both}
+use Rattle.std.specs.Prelude.{◌≡◌, ◌*◌}
+use Rattle.std.proofs.Common.{rules, sym, subst, ◌∙◌, ap}
+use Rattle.dbm_narrow.specs.Entries.{IsEntry, at, through_both}
 use Rattle.dbm_narrow.proofs.rows.gone_at.Goals as goal
 
 pub over_both-requires-clause-from_first : goal.over_both-requires-clause-from_first
-over_both-requires-clause-from_first gen c = (passed-entry gen.W.Width.unit gen.W.Width.positive) (8 * gen.W.Width.unit) (8 * gen.W.Width.unit) c.args.from_first.now c.args.j (omega arith) c.requires.from_first (omega arith)
+over_both-requires-clause-from_first gen c =
+    let e : c.read-first.result ≡ at gen.W.Width.unit c.args.from_first.now c.args.j = c.read-first.ensures.value in
+    subst (IsEntry gen.W.Width.unit (8 * gen.W.Width.unit)) (sym e) (c.requires.from_first c.args.j)
 
 pub over_both-requires-clause-from_second : goal.over_both-requires-clause-from_second
-over_both-requires-clause-from_second gen c = (passed-entry gen.W.Width.unit gen.W.Width.positive) (8 * gen.W.Width.unit) (8 * gen.W.Width.unit) c.args.from_second.now c.args.j (omega arith) c.requires.from_second (omega arith)
+over_both-requires-clause-from_second gen c =
+    let e : c.read-second.result ≡ at gen.W.Width.unit c.args.from_second.now c.args.j = c.read-second.ensures.value in
+    subst (IsEntry gen.W.Width.unit (8 * gen.W.Width.unit)) (sym e) (c.requires.from_second c.args.j)
 
 pub returns : goal.returns
 returns gen c =
-    let rf : (get_or c.args.from_first.now c.args.j (pos 0)) ≡ (at gen.W.Width.unit) c.args.from_first.now c.args.j = (read-at gen.W.Width.unit gen.W.Width.positive) c.args.from_first.now c.args.j (omega arith) in
-    let rg : (get_or c.args.from_second.now c.args.j (pos 0)) ≡ (at gen.W.Width.unit) c.args.from_second.now c.args.j = (read-at gen.W.Width.unit gen.W.Width.positive) c.args.from_second.now c.args.j (omega arith) in
-    let rx : (get_or c.args.row.now c.args.j (pos 0)) ≡ (at gen.W.Width.unit) c.args.row.now c.args.j = (read-at gen.W.Width.unit gen.W.Width.positive) c.args.row.now c.args.j (omega arith) in
-    let e : c.over_both.result ≡ (through_both gen.W.Width.unit) c.args.to_first c.args.to_second ((at gen.W.Width.unit) c.args.from_first.now c.args.j) ((at gen.W.Width.unit) c.args.from_second.now c.args.j) ((at gen.W.Width.unit) c.args.row.now c.args.j) =
-    let v = c.over_both.ensures.value in (cc) in
-    record { value = e }
+    let x : c.read-here.result ≡ at gen.W.Width.unit c.args.row.now c.args.j = c.read-here.ensures.value in
+    let f : c.read-first.result ≡ at gen.W.Width.unit c.args.from_first.now c.args.j = c.read-first.ensures.value in
+    let g : c.read-second.result ≡ at gen.W.Width.unit c.args.from_second.now c.args.j = c.read-second.ensures.value in
+    record {
+      value = c.over_both.ensures.value
+          ∙ ap (through_both gen.W.Width.unit c.args.to_first c.args.to_second c.read-first.result c.read-second.result) x
+          ∙ ap (λ f. through_both gen.W.Width.unit c.args.to_first c.args.to_second f c.read-second.result (at gen.W.Width.unit c.args.row.now c.args.j)) f
+          ∙ ap (λ g. through_both gen.W.Width.unit c.args.to_first c.args.to_second (at gen.W.Width.unit c.args.from_first.now c.args.j) g (at gen.W.Width.unit c.args.row.now c.args.j)) g;
+    }

@@ -1,10 +1,10 @@
-use Rattle.std.specs.Prelude.{◌≡◌, ◌<◌, ◌+◌, ◌*◌, ◌/◌, ◌^◌, pos}
-use Rattle.std.proofs.Common.{arith, sym, ◌∙◌, ap, refl, length, length-set, get_or}
+use Rattle.std.specs.Prelude.{ℤ, replicate, ◌≡◌, ◌<◌, ◌+◌, ◌*◌, ◌/◌, ◌^◌, pos}
+use Rattle.std.proofs.Common.{subst, arith, rules, sym, ◌∙◌, ap, refl, length, length-set, get_or}
 use Rattle.dbm_core.proofs.HalfLemmas.{place-small}
 use Rattle.dbm_core.proofs.NodeLemmas.{flip-half}
 use Rattle.dbm_core.specs.Half.{row_start}
 use Rattle.dbm_core.specs.Nodes.{flip}
-use Rattle.dbm_narrow.proofs.EntryLemmas.{none-anywhere, pair-kept, pair-other, read-at}
+use Rattle.dbm_narrow.proofs.EntryLemmas.{none-anywhere, pair-kept, pair-other}
 use Rattle.dbm_narrow.proofs.MiddleLemmas.{flip-first, flip-second}
 use Rattle.dbm_narrow.proofs.PartLemmas.{place-in}
 use Rattle.dbm_narrow.proofs.RowLemmas.{done-set, rest-set, two-rest, two-set, two-size}
@@ -12,23 +12,19 @@ use Rattle.dbm_narrow.specs.Entries.{at, none, pair_at}
 use Rattle.dbm_narrow.proofs.rows.whole_row.Goals as goal
 
 pub loop-j-init : goal.loop-j-init
-loop-j-init gen c = record { size = refl; done = λ k l. absurd (omega arith); rest = λ k l. (none-anywhere gen.W.Width.unit gen.W.Width.positive) 32 k }
+loop-j-init gen c = record { size = refl; done = λ k l. absurd (omega arith); rest = λ k l. subst (λ z. at gen.W.Width.unit (replicate {A = ℤ} 32 z) k ≡ none gen.W.Width.unit) (sym c.none-row.ensures.value) ((none-anywhere gen.W.Width.unit gen.W.Width.positive) 32 k) }
 
 pub overflow_add-at : goal.overflow_add-at
 overflow_add-at gen c = omega (arith, place-small c.args.i c.loop-j.j (omega arith) (omega arith))
 
-pub offset_bounds-entries-at : goal.offset_bounds-entries-at
-offset_bounds-entries-at gen c = omega (arith, place-small c.args.i c.loop-j.j (omega arith) (omega arith))
-
-pub bounds-entries-at : goal.bounds-entries-at
-bounds-entries-at gen c = omega (arith, (place-in gen.W.Width.unit gen.W.Width.positive) c.args.entries.now c.args.slots c.args.i c.loop-j.j c.requires.size c.requires.row (omega arith))
+pub read-requires-clause-place : goal.read-requires-clause-place
+read-requires-clause-place gen c = omega (arith, (place-in gen.W.Width.unit gen.W.Width.positive) c.args.entries.now c.args.slots c.args.i c.loop-j.j c.requires.size c.requires.row (omega arith))
 
 pub loop-j-preserved : goal.loop-j-preserved
 loop-j-preserved gen c =
-    let m : row_start c.args.i + c.loop-j.j < length c.args.entries.now = (place-in gen.W.Width.unit gen.W.Width.positive) c.args.entries.now c.args.slots c.args.i c.loop-j.j c.requires.size c.requires.row (omega arith) in
-    let e : (get_or c.args.entries.now (c.row_at-start.result + c.loop-j.j) (pos 0)) ≡ (at gen.W.Width.unit) c.args.entries.now (row_start c.args.i + c.loop-j.j) =
-    ap (λ s. (get_or c.args.entries.now (s + c.loop-j.j) (pos 0))) c.row_at-start.ensures.start
-    ∙ (read-at gen.W.Width.unit gen.W.Width.positive) c.args.entries.now (row_start c.args.i + c.loop-j.j) m in
+    let r : c.read.result ≡ at gen.W.Width.unit c.args.entries.now (c.row_at-start.result + c.loop-j.j) = c.read.ensures.value in
+    let e : c.read.result ≡ at gen.W.Width.unit c.args.entries.now (row_start c.args.i + c.loop-j.j) =
+    r ∙ ap (λ s. at gen.W.Width.unit c.args.entries.now (s + c.loop-j.j)) c.row_at-start.ensures.start in
     record {
       size = length-set c.loop-j.row c.loop-j.j _ ∙ c.loop-j.invariant.size;
       done = (done-set gen.W.Width.unit gen.W.Width.positive) (λ k x. x ≡ (at gen.W.Width.unit) c.args.entries.now (row_start c.args.i + k)) c.loop-j.row c.loop-j.j _ (omega (arith, c.loop-j.invariant.size)) c.loop-j.invariant.done e;
@@ -48,36 +44,30 @@ overflow_add-even gen c = omega (arith, place-small (2 * c.loop-slot.slot) (flip
 pub overflow_add-odd : goal.overflow_add-odd
 overflow_add-odd gen c = omega (arith, place-small (2 * c.loop-slot.slot + 1) (flip c.args.i) (omega arith) (omega (arith, flip-half c.args.i)))
 
-pub offset_bounds-entries-even : goal.offset_bounds-entries-even
-offset_bounds-entries-even gen c = omega (arith, place-small (2 * c.loop-slot.slot) (flip c.args.i) (omega arith) (omega (arith, flip-half c.args.i)))
+pub read-second-requires-clause-place : goal.read-second-requires-clause-place
+read-second-requires-clause-place gen c = omega (arith, (place-in gen.W.Width.unit gen.W.Width.positive) c.args.entries.now c.args.slots (2 * c.loop-slot.slot) (flip c.args.i) c.requires.size (omega arith) (omega (arith, flip-half c.args.i)))
 
-pub offset_bounds-entries-odd : goal.offset_bounds-entries-odd
-offset_bounds-entries-odd gen c = omega (arith, place-small (2 * c.loop-slot.slot + 1) (flip c.args.i) (omega arith) (omega (arith, flip-half c.args.i)))
-
-pub bounds-entries-even : goal.bounds-entries-even
-bounds-entries-even gen c = omega (arith, (place-in gen.W.Width.unit gen.W.Width.positive) c.args.entries.now c.args.slots (2 * c.loop-slot.slot) (flip c.args.i) c.requires.size (omega arith) (omega (arith, flip-half c.args.i)))
-
-pub bounds-entries-odd : goal.bounds-entries-odd
-bounds-entries-odd gen c = omega (arith, (place-in gen.W.Width.unit gen.W.Width.positive) c.args.entries.now c.args.slots (2 * c.loop-slot.slot + 1) (flip c.args.i) c.requires.size (omega arith) (omega (arith, flip-half c.args.i)))
+pub read-first-requires-clause-place : goal.read-first-requires-clause-place
+read-first-requires-clause-place gen c = omega (arith, (place-in gen.W.Width.unit gen.W.Width.positive) c.args.entries.now c.args.slots (2 * c.loop-slot.slot + 1) (flip c.args.i) c.requires.size (omega arith) (omega (arith, flip-half c.args.i)))
 
 pub loop-slot-preserved : goal.loop-slot-preserved
 loop-slot-preserved gen c =
     let o : c.args.other ≡ flip c.args.i = c.requires.other in
     let h : flip c.args.i / 2 ≡ c.args.i / 2 = flip-half c.args.i in
-    let m : row_start (2 * c.loop-slot.slot) + flip c.args.i < length c.args.entries.now = (place-in gen.W.Width.unit gen.W.Width.positive) c.args.entries.now c.args.slots (2 * c.loop-slot.slot) (flip c.args.i) c.requires.size (omega arith) (omega arith) in
-    let n : row_start (2 * c.loop-slot.slot + 1) + flip c.args.i < length c.args.entries.now = (place-in gen.W.Width.unit gen.W.Width.positive) c.args.entries.now c.args.slots (2 * c.loop-slot.slot + 1) (flip c.args.i) c.requires.size (omega arith) (omega arith) in
-    let even : (get_or c.args.entries.now (c.row_at.result + c.args.other) (pos 0)) ≡ (pair_at gen.W.Width.unit) c.args.entries.now c.args.i (2 * c.loop-slot.slot + 1) =
-    ap (λ s. (get_or c.args.entries.now (s + c.args.other) (pos 0))) c.row_at.ensures.start
-    ∙ ap (λ o. (get_or c.args.entries.now (row_start (2 * c.loop-slot.slot) + o) (pos 0))) o
-    ∙ (read-at gen.W.Width.unit gen.W.Width.positive) c.args.entries.now (row_start (2 * c.loop-slot.slot) + flip c.args.i) m
-    ∙ ap (λ k. (at gen.W.Width.unit) c.args.entries.now (row_start k + flip c.args.i)) (sym ((flip-second gen.W.Width.unit gen.W.Width.positive) c.loop-slot.slot))
-    ∙ sym ((pair-other gen.W.Width.unit gen.W.Width.positive) c.args.entries.now c.args.i (2 * c.loop-slot.slot + 1) (omega arith)) in
-    let odd : (get_or c.args.entries.now (c.row_at-in-loop-slot.result + c.args.other) (pos 0)) ≡ (pair_at gen.W.Width.unit) c.args.entries.now c.args.i (2 * c.loop-slot.slot) =
-    ap (λ s. (get_or c.args.entries.now (s + c.args.other) (pos 0))) c.row_at-in-loop-slot.ensures.start
-    ∙ ap (λ o. (get_or c.args.entries.now (row_start (2 * c.loop-slot.slot + 1) + o) (pos 0))) o
-    ∙ (read-at gen.W.Width.unit gen.W.Width.positive) c.args.entries.now (row_start (2 * c.loop-slot.slot + 1) + flip c.args.i) n
-    ∙ ap (λ k. (at gen.W.Width.unit) c.args.entries.now (row_start k + flip c.args.i)) (sym ((flip-first gen.W.Width.unit gen.W.Width.positive) c.loop-slot.slot))
-    ∙ sym ((pair-other gen.W.Width.unit gen.W.Width.positive) c.args.entries.now c.args.i (2 * c.loop-slot.slot) (omega arith)) in
+    let reven : c.read-second.result ≡ at gen.W.Width.unit c.args.entries.now (c.row_at.result + c.args.other) = c.read-second.ensures.value in
+    let even : c.read-second.result ≡ pair_at gen.W.Width.unit c.args.entries.now c.args.i (2 * c.loop-slot.slot + 1) =
+    reven
+    ∙ ap (λ s. at gen.W.Width.unit c.args.entries.now (s + c.args.other)) c.row_at.ensures.start
+    ∙ ap (λ o. at gen.W.Width.unit c.args.entries.now (row_start (2 * c.loop-slot.slot) + o)) o
+    ∙ ap (λ k. at gen.W.Width.unit c.args.entries.now (row_start k + flip c.args.i)) (sym (flip-second gen.W.Width.unit gen.W.Width.positive c.loop-slot.slot))
+    ∙ sym (pair-other gen.W.Width.unit gen.W.Width.positive c.args.entries.now c.args.i (2 * c.loop-slot.slot + 1) (omega arith)) in
+    let rodd : c.read-first.result ≡ at gen.W.Width.unit c.args.entries.now (c.row_at-in-loop-slot.result + c.args.other) = c.read-first.ensures.value in
+    let odd : c.read-first.result ≡ pair_at gen.W.Width.unit c.args.entries.now c.args.i (2 * c.loop-slot.slot) =
+    rodd
+    ∙ ap (λ s. at gen.W.Width.unit c.args.entries.now (s + c.args.other)) c.row_at-in-loop-slot.ensures.start
+    ∙ ap (λ o. at gen.W.Width.unit c.args.entries.now (row_start (2 * c.loop-slot.slot + 1) + o)) o
+    ∙ ap (λ k. at gen.W.Width.unit c.args.entries.now (row_start k + flip c.args.i)) (sym (flip-first gen.W.Width.unit gen.W.Width.positive c.loop-slot.slot))
+    ∙ sym (pair-other gen.W.Width.unit gen.W.Width.positive c.args.entries.now c.args.i (2 * c.loop-slot.slot) (omega arith)) in
     record {
       size = (two-size gen.W.Width.unit gen.W.Width.positive) 32 c.loop-slot.row c.loop-slot.slot _ _ c.loop-slot.invariant.size;
       done = (two-set gen.W.Width.unit gen.W.Width.positive) (λ k x. x ≡ (pair_at gen.W.Width.unit) c.args.entries.now c.args.i k) c.loop-slot.row c.loop-slot.slot _ _ (omega (arith, c.loop-slot.invariant.size)) c.loop-slot.invariant.done odd even;
