@@ -9,8 +9,8 @@ use Rattle.dbm_narrow.proofs.PartLemmas.{place-in}
 use Rattle.dbm_narrow.specs.Entries.{at}
 use Rattle.dbm_narrow.proofs.rows.entry_at.Goals as goal
 
-pub read-requires-clause-place : goal.read-requires-clause-place
-read-requires-clause-place gen c = omega (arith, (place-in gen.W.Width.unit gen.W.Width.positive) c.args.entries.now c.args.slots c.args.i c.args.j c.requires.size c.requires.row (omega arith))
+pub read-requires : goal.read-requires
+read-requires gen c = record { place = omega (arith, (place-in gen.W.Width.unit gen.W.Width.positive) c.args.entries.now c.args.slots c.args.i c.args.j c.requires.size c.requires.row (omega arith)) }
 
 pub place-mirrored-requires-clause-row : goal.place-mirrored-requires-clause-row
 place-mirrored-requires-clause-row gen c = omega (arith, flip_below c.args.j c.args.slots c.requires.column)
@@ -23,13 +23,13 @@ place-mirrored-requires-clause-column gen c =
     let k : flip c.args.i < row_width (flip c.args.j) = flip-kept c.args.i c.args.j w in
     rw (f, g) k
 
-pub read-2-requires-clause-place : goal.read-2-requires-clause-place
-read-2-requires-clause-place gen c =
+pub read-requires-2 : goal.read-requires-2
+read-requires-2 gen c =
     let w : row_width c.args.i ≤ c.args.j = omega arith in
     let p : c.place-mirrored.result ≡ row_start (flip c.args.j) + flip c.args.i =
     c.place-mirrored.ensures.place ∙ ap (λ k. row_start k + c.other_sign-2.result) c.other_sign.ensures.flipped ∙ ap (λ k. row_start (flip c.args.j) + k) c.other_sign-2.ensures.flipped in
     let m : row_start (flip c.args.j) + flip c.args.i < length c.args.entries.now = (place-in gen.W.Width.unit gen.W.Width.positive) c.args.entries.now c.args.slots (flip c.args.j) (flip c.args.i) c.requires.size (flip_below c.args.j c.args.slots c.requires.column) (flip-kept c.args.i c.args.j w) in
-    omega arith
+    record { place = omega arith }
 
 pub returns-then-j-row_len : goal.returns-then-j-row_len
 returns-then-j-row_len gen c =

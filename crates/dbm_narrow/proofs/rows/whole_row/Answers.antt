@@ -17,8 +17,8 @@ loop-j-init gen c = record { size = refl; done = λ k l. absurd (omega arith); r
 pub overflow_add-at : goal.overflow_add-at
 overflow_add-at gen c = omega (arith, place-small c.args.i c.loop-j.j (omega arith) (omega arith))
 
-pub read-requires-clause-place : goal.read-requires-clause-place
-read-requires-clause-place gen c = omega (arith, (place-in gen.W.Width.unit gen.W.Width.positive) c.args.entries.now c.args.slots c.args.i c.loop-j.j c.requires.size c.requires.row (omega arith))
+pub read-requires : goal.read-requires
+read-requires gen c = record { place = omega (arith, (place-in gen.W.Width.unit gen.W.Width.positive) c.args.entries.now c.args.slots c.args.i c.loop-j.j c.requires.size c.requires.row (omega arith)) }
 
 pub loop-j-preserved : goal.loop-j-preserved
 loop-j-preserved gen c =
@@ -44,11 +44,11 @@ overflow_add-even gen c = omega (arith, place-small (2 * c.loop-slot.slot) (flip
 pub overflow_add-odd : goal.overflow_add-odd
 overflow_add-odd gen c = omega (arith, place-small (2 * c.loop-slot.slot + 1) (flip c.args.i) (omega arith) (omega (arith, flip-half c.args.i)))
 
-pub read-second-requires-clause-place : goal.read-second-requires-clause-place
-read-second-requires-clause-place gen c = omega (arith, (place-in gen.W.Width.unit gen.W.Width.positive) c.args.entries.now c.args.slots (2 * c.loop-slot.slot) (flip c.args.i) c.requires.size (omega arith) (omega (arith, flip-half c.args.i)))
+pub read-second-requires : goal.read-second-requires
+read-second-requires gen c = record { place = omega (arith, (place-in gen.W.Width.unit gen.W.Width.positive) c.args.entries.now c.args.slots (2 * c.loop-slot.slot) (flip c.args.i) c.requires.size (omega arith) (omega (arith, flip-half c.args.i))) }
 
-pub read-first-requires-clause-place : goal.read-first-requires-clause-place
-read-first-requires-clause-place gen c = omega (arith, (place-in gen.W.Width.unit gen.W.Width.positive) c.args.entries.now c.args.slots (2 * c.loop-slot.slot + 1) (flip c.args.i) c.requires.size (omega arith) (omega (arith, flip-half c.args.i)))
+pub read-first-requires : goal.read-first-requires
+read-first-requires gen c = record { place = omega (arith, (place-in gen.W.Width.unit gen.W.Width.positive) c.args.entries.now c.args.slots (2 * c.loop-slot.slot + 1) (flip c.args.i) c.requires.size (omega arith) (omega (arith, flip-half c.args.i))) }
 
 pub loop-slot-preserved : goal.loop-slot-preserved
 loop-slot-preserved gen c =
