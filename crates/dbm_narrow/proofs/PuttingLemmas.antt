@@ -1,12 +1,10 @@
 -- What is put at both nodes of a slot, and what that makes of the bounds to and from another slot's nodes.
-use Rattle.std.specs.Prelude.{◌≡◌, ℕ, ◌<◌, ◌≤◌, ◌+◌, ◌*◌, ◌^◌, ℤ, ◌+ℤ◌, ◌⊎◌, FitsSigned, List, length, slice_set, refl}
+use Rattle.std.specs.Prelude.{◌≡◌, ℕ, ◌<◌, ◌≤◌, ◌+◌, ◌*◌, ◌^◌, ℤ, ◌+ℤ◌, ◌⊎◌, List, length, slice_set, refl}
 use Rattle.std.specs.Int.{int_min}
 use Rattle.std.proofs.Common.{arith, ap, sym, subst, ◌∙◌, inl, inr, get_or-set_other, get_or-set_same, length-set}
 use Rattle.std.proofs.lemmas.Bool.{cases_lt}
-use mir.Syntax.{w32}
-use mir.Val.{of_z, to_z}
 use Rattle.dbm_core.specs.Nodes.{flip}
-use Rattle.dbm_narrow.proofs.EntryLemmas.{entry-fits, entry-more, min-entry, pair-is_entry, same, settle-sum}
+use Rattle.dbm_narrow.proofs.EntryLemmas.{entry-more, min-entry, pair-is_entry, settle-sum}
 use Rattle.dbm_narrow.proofs.MiddleLemmas.{AreWays, flip-first, flip-second}
 use Rattle.dbm_narrow.specs.Between.{IsBetween}
 use Rattle.dbm_narrow.specs.declared.between.Between.{Between}
@@ -40,17 +38,8 @@ module _ (unit : ℕ) (room : 0 < unit) where
 
   -- ---- what code reads
 
-  pub read-one : (x : ℤ) → IsEntry unit (2 * unit) x → to_z w32 (of_z w32 x) ≡ x
-  read-one x h = same unit room x ((entry-fits unit room) (2 * unit) x (omega arith) h)
-
-  pub read-within : (b : ℕ) (x : ℤ) → 2 * unit ≤ b → IsEntry unit (2 * unit) x → IsEntry unit b (to_z w32 (of_z w32 x))
-  read-within b x l h = subst (IsEntry unit b) (sym (read-one x h)) ((entry-more unit room) (2 * unit) b x l h)
-
-  pub read-lesser : (r p x u v : ℤ) → FitsSigned w32 r → FitsSigned w32 p → IsEntry unit (2 * unit) x → IsEntry unit (2 * unit) u → IsEntry unit (2 * unit) v →
-      r ≡ int_min (to_z w32 (of_z w32 x)) (to_z w32 (of_z w32 p)) → p ≡ settle unit (to_z w32 (of_z w32 u) +ℤ to_z w32 (of_z w32 v)) → to_z w32 (of_z w32 r) ≡ int_min x (settle unit (u +ℤ v))
-  read-lesser r p x u v fr fp hx hu hv e s =
-      (same unit room) r fr ∙ e ∙ ap (λ z. int_min z (to_z w32 (of_z w32 p))) (read-one x hx)
-      ∙ ap (int_min x) (same unit room p fp ∙ s ∙ ap (λ z. settle unit (z +ℤ to_z w32 (of_z w32 v))) (read-one u hu) ∙ ap (λ z. settle unit (u +ℤ z)) (read-one v hv))
+  pub read-lesser : (r p x u v : ℤ) → r ≡ int_min x p → p ≡ settle unit (u +ℤ v) → r ≡ int_min x (settle unit (u +ℤ v))
+  read-lesser r p x u v e s = e ∙ ap (int_min x) s
 
   -- ---- one slot
 

@@ -6,7 +6,7 @@ ghost use Rattle.dbm_narrow.specs.Entries.{AreEntries, at};
 
 use crate::entry::Entry;
 use crate::width::Width;
-use crate::rows::place;
+use crate::rows::{place, read};
 
 /// The bounds from a slot's two nodes to those of another.
 #[derive(Clone, Copy)]
@@ -54,5 +54,5 @@ fn kept_at<W: Width>(entries: &[Entry<W>], slots: usize, i: usize, j: usize) -> 
     ensures entry { result ≡ at W.unit entries.now (row_start i + j) }
 {
     let kept = place(i, j);
-    entries[kept]
+    read(entries, kept)
 }

@@ -4,6 +4,7 @@ ghost use Rattle.dbm_core.specs.Half.{entry, nodes};
 ghost use Rattle.dbm_narrow.specs.Held.{IsEntryOf, IsNarrowOf};
 
 use crate::entry::Entry;
+use crate::rows::read;
 use crate::width::Width;
 use crate::Narrow;
 use crate::adding::small_bound;
@@ -46,13 +47,13 @@ pub fn refitted<V: Width, W: Width>(
 ) -> Result<Option<Narrow<W>>, Memory> {
     let from = matrix.entries.as_slice();
     for k in 0..from.len() {
-        if !fits::<W>(wide_bound(from[k])) {
+        if !fits::<W>(wide_bound(read(from, k))) {
             return Ok(None);
         }
     }
     let mut entries = Vec::with_capacity(alloc, from.len())?;
     for k in 0..from.len() {
-        entries.push(entry_of(wide_bound(from[k])))?;
+        entries.push(entry_of(wide_bound(read(from, k))))?;
     }
     let kinds = matrix.kinds.share()?;
     Ok(Some(Narrow { kinds, entries }))
@@ -78,7 +79,7 @@ fn entry_of<W: Width>(bound: Option<i128>) -> Entry<W> {
 pub fn is_near<W: Width>(matrix: &Narrow<W>) -> bool {
     let entries = matrix.entries.as_slice();
     for k in 0..entries.len() {
-        match wide_bound(entries[k]) {
+        match wide_bound(read(entries, k)) {
             None => {}
             Some(x) => {
                 if x >= 9223372036854775808 {

@@ -8,7 +8,7 @@ ghost use Rattle.dbm_narrow.specs.Rows.{EachIs, RestStays, RowIs, RowsAre};
 use crate::entry::Entry;
 use crate::width::Width;
 use crate::Narrow;
-use crate::rows::{row_at, row_len};
+use crate::rows::{read, row_at, row_len};
 use base_values::Memory;
 use std::alloc::Global;
 
@@ -61,7 +61,8 @@ fn drop_each<W: Width>(row: &mut [Entry<W>], i: usize, slot: usize)
     ensures within { AreEntries W.unit (2 * W.unit) row.new }
 {
     for j in 0..row.len() {
-        row[j] = dropped_entry(slot, i, j, row[j]);
+        let here = read(row, j);
+        row[j] = dropped_entry(slot, i, j, here);
     }
 }
 

@@ -4,6 +4,7 @@ ghost use Rattle.std.specs.List.{fold};
 ghost use Rattle.dbm_narrow.specs.Feeding.{bound_number, bounds_fed, entries_fed, matrix_fed};
 
 use crate::entry::Entry;
+use crate::rows::read;
 use crate::width::Width;
 use dbm_core::Matrix;
 use std::hash::Hasher;
@@ -48,6 +49,6 @@ pub fn feed_entries<W: Width, H: Hasher>(entries: &[Entry<W>], state: &mut H)
     ensures fed { state.new ≡ fold H.write state.old (entries_fed entries.now) }
 {
     for k in 0..entries.len() {
-        state.write_i64(entries[k].fed());
+        state.write_i64(read(entries, k).fed());
     }
 }

@@ -6,6 +6,7 @@ ghost use Rattle.dbm_narrow.specs.Entries.{AreEntries};
 ghost use Rattle.dbm_narrow.specs.Rows.{AreGreater};
 
 use crate::entry::Entry;
+use crate::rows::read;
 use crate::width::Width;
 use crate::Narrow;
 use crate::entries::greater;
@@ -33,6 +34,8 @@ fn raise<W: Width>(entries: &mut [Entry<W>], others: &[Entry<W>])
     ensures entries { AreEntries W.unit (2 * W.unit) entries.new }
 {
     for k in 0..entries.len() {
-        entries[k] = greater(entries[k], others[k]);
+        let own = read(entries, k);
+        let other = read(others, k);
+        entries[k] = greater(own, other);
     }
 }

@@ -9,7 +9,7 @@ ghost use Rattle.dbm_narrow.specs.Rounds.{IsNarrow};
 use crate::entry::Entry;
 use crate::width::Width;
 use crate::middle::{Middle, flipped, over, stepped};
-use crate::rows::{entry_at, whole_row};
+use crate::rows::{entry_at, read, whole_row};
 use crate::walks::{Walks, go_through_rows};
 use dbm_core::other_sign;
 
@@ -34,9 +34,10 @@ fn ends_of<W: Width>(entries: &[Entry<W>], slots: usize, i: usize, j: usize, bou
     let to_first = flipped(&first, slots);
     let direct = flipped(&last, slots);
     let from_first = stepped(bound, &last);
-    let around = from_first[behind];
+    let around = read(&from_first, behind);
     let to_second = over(&direct, around, &to_first);
-    let over_first = over(&first, first[i], &from_first);
+    let back = read(&first, i);
+    let over_first = over(&first, back, &from_first);
     let from_second = stepped(bound, &over_first);
     Middle {
         to_first,
@@ -64,12 +65,12 @@ pub fn lower<W: Width>(kinds: &[bool], entries: &mut [Entry<W>], i: usize, j: us
         return Walks::Done;
     }
     let ends = ends_of(entries, slots, i, j, bound);
-    let first = ends.from_first[i];
+    let first = read(&ends.from_first, i);
     if first.is_less(Entry::zero()) {
         return Walks::Negative;
     }
     let behind = other_sign(j);
-    let second = ends.from_second[behind];
+    let second = read(&ends.from_second, behind);
     if second.is_less(Entry::zero()) {
         return Walks::Negative;
     }

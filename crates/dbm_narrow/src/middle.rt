@@ -9,6 +9,7 @@ ghost use Rattle.dbm_narrow.specs.Rounds.{IsNarrow};
 ghost use Rattle.dbm_narrow.specs.Rows.{ColumnsAre, LesserFit, SumsFit, over_at, stepped_at};
 
 use crate::entry::Entry;
+use crate::rows::read;
 use crate::width::Width;
 use crate::between::{Between, bounds_between};
 use crate::entries::{lesser, plus};
@@ -33,8 +34,10 @@ pub fn flipped<W: Width>(row: &[Entry<W>; 32], slots: usize) -> [Entry<W>; 32]
 {
     let mut turned = [Entry::none(); 32];
     for slot in 0..slots {
-        turned[2 * slot] = row[2 * slot + 1];
-        turned[2 * slot + 1] = row[2 * slot];
+        let even = read(row, 2 * slot);
+        let odd = read(row, 2 * slot + 1);
+        turned[2 * slot] = odd;
+        turned[2 * slot + 1] = even;
     }
     turned
 }
@@ -50,7 +53,9 @@ pub fn over<W: Width>(row: &[Entry<W>; 32], step: Entry<W>, next: &[Entry<W>; 32
 {
     let mut sums = [Entry::none(); 32];
     for j in 0..32 {
-        sums[j] = lesser(row[j], plus(step, next[j]));
+        let here = read(row, j);
+        let beyond = read(next, j);
+        sums[j] = lesser(here, plus(step, beyond));
     }
     sums
 }
@@ -65,7 +70,8 @@ pub fn stepped<W: Width>(step: Entry<W>, row: &[Entry<W>; 32]) -> [Entry<W>; 32]
 {
     let mut sums = [Entry::none(); 32];
     for j in 0..32 {
-        sums[j] = plus(step, row[j]);
+        let here = read(row, j);
+        sums[j] = plus(step, here);
     }
     sums
 }

@@ -9,7 +9,7 @@ ghost use Rattle.dbm_narrow.specs.Rounds.{IsNarrow};
 use crate::entry::Entry;
 use crate::width::Width;
 use crate::Narrow;
-use crate::rows::place;
+use crate::rows::{place, read};
 use crate::steps::{high_end, low_end};
 
 /// The ends of a slot's range: the least and the greatest value that its own two bounds leave
@@ -32,7 +32,7 @@ fn low_of<W: Width>(kinds: &[bool], entries: &[Entry<W>], slot: usize) -> i128
     ensures low { result ≡ slot_low kinds.now (entry (held W.unit kinds.now entries.now)) slot }
 {
     let down = place(2 * slot, 2 * slot + 1);
-    low_end(kinds[slot], entries[down])
+    low_end(kinds[slot], read(entries, down))
 }
 
 // The high end, over entries.
@@ -42,5 +42,5 @@ fn high_of<W: Width>(kinds: &[bool], entries: &[Entry<W>], slot: usize) -> i128
     ensures high { result ≡ slot_high kinds.now (entry (held W.unit kinds.now entries.now)) slot }
 {
     let up = place(2 * slot + 1, 2 * slot);
-    high_end(kinds[slot], entries[up])
+    high_end(kinds[slot], read(entries, up))
 }

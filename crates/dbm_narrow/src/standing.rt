@@ -13,7 +13,7 @@ use crate::adding::small_bound;
 use crate::closing::ClosingResult;
 use crate::entries::plus;
 use crate::middle::stepped;
-use crate::rows::{are_within, row_at, row_len, whole_row};
+use crate::rows::{are_within, read, row_at, row_len, whole_row};
 use crate::steps::finish_strong;
 use dbm_core::other_sign;
 
@@ -127,7 +127,7 @@ fn column_at<W: Width>(row: &[Entry<W>; 32], j: usize) -> Entry<W>
     requires row { AreEntries W.unit (2 * W.unit) row.now }
     ensures value { result ≡ at W.unit row.now j }
 {
-    row[j]
+    read(row, j)
 }
 
 // The row of one of slot q's nodes, from the row of the node that it stands for.
@@ -143,9 +143,11 @@ fn stood_row<W: Width>(row: &[Entry<W>; 32], q: usize, y: usize, first: Entry<W>
     ensures entries { AreEntries W.unit (6 * W.unit) result }
 {
     let mut stood = stepped(others, row);
-    let here = plus(first, row[y]);
+    let node = read(row, y);
+    let here = plus(first, node);
     let other = other_sign(y);
-    let there = plus(second, row[other]);
+    let behind = read(row, other);
+    let there = plus(second, behind);
     stood[2 * q] = here;
     stood[2 * q + 1] = there;
     stood
@@ -224,6 +226,7 @@ fn copy_row<W: Width>(row: &mut [Entry<W>], from: &[Entry<W>; 32])
     ensures within { AreEntries W.unit (2 * W.unit) row.new }
 {
     for j in 0..row.len() {
-        row[j] = from[j];
+        let copied = read(from, j);
+        row[j] = copied;
     }
 }

@@ -14,7 +14,7 @@ use crate::width::Width;
 use crate::closing::ClosingResult;
 use crate::entries::{half, plus};
 use crate::middle::flipped;
-use crate::rows::{place, row_at, row_len, strengthen};
+use crate::rows::{place, read, row_at, row_len, strengthen};
 
 /// Steps 2 to 6, in place: false where no values are left.
 #[inline]
@@ -55,7 +55,8 @@ fn are_uncut<W: Width>(entries: &[Entry<W>]) -> bool
     ensures uncut { result ≡ true → AreUncut W.unit entries.now }
 {
     for k in 0..entries.len() {
-        if entries[k].is_less(Entry::free()) && !entries[k].is_uncut() {
+        let entry = read(entries, k);
+        if entry.is_less(Entry::free()) && !entry.is_uncut() {
             return false;
         }
     }
@@ -73,8 +74,8 @@ fn halves_of<W: Width>(kinds: &[bool], entries: &[Entry<W>]) -> [Entry<W>; 32]
     for slot in 0..kinds.len() {
         let even = place(2 * slot, 2 * slot + 1);
         let odd = place(2 * slot + 1, 2 * slot);
-        let down = half(entries[even]);
-        let up = half(entries[odd]);
+        let down = half(read(entries, even));
+        let up = half(read(entries, odd));
         halves[2 * slot] = down;
         halves[2 * slot + 1] = up;
     }
@@ -91,7 +92,9 @@ fn has_negative_halves<W: Width>(halves: &[Entry<W>; 32], behind: &[Entry<W>; 32
     ensures negative { TellsHalves W.unit (2 * slots) halves.now result }
 {
     for i in 0..2 * slots {
-        let sum = plus(halves[i], behind[i]);
+        let here = read(halves, i);
+        let there = read(behind, i);
+        let sum = plus(here, there);
         if sum.is_less(Entry::zero()) {
             return true;
         }
@@ -111,7 +114,8 @@ fn strengthen_rows<W: Width>(entries: &mut [Entry<W>], slots: usize, halves: &[E
     ensures entries { AreEntries W.unit (2 * W.unit) entries.new }
 {
     for i in 0..2 * slots {
-        strengthen_row(entries, i, halves[i], behind);
+        let to = read(halves, i);
+        strengthen_row(entries, i, to, behind);
     }
 }
 
@@ -174,8 +178,8 @@ fn has_empty_range<W: Width>(kinds: &[bool], entries: &[Entry<W>]) -> bool
     for (slot, array) in kinds.iter().enumerate() {
         let even = place(2 * slot, 2 * slot + 1);
         let odd = place(2 * slot + 1, 2 * slot);
-        let low = low_end(*array, entries[even]);
-        let high = high_end(*array, entries[odd]);
+        let low = low_end(*array, read(entries, even));
+        let high = high_end(*array, read(entries, odd));
         if high < low {
             return true;
         }

@@ -10,7 +10,7 @@ ghost use Rattle.dbm_narrow.specs.Rows.{IsRowWithin, RestStays, RowIs};
 use crate::entry::Entry;
 use crate::width::Width;
 use crate::middle::{Middle, fill_middle, no_middle};
-use crate::rows::{are_within, go_through, row_at, row_len};
+use crate::rows::{are_within, go_through, read, row_at, row_len};
 
 /// How rounds end.
 #[derive(Clone, Copy, Debug, PartialEq, Eq)]
@@ -55,10 +55,12 @@ fn make_round<W: Width>(kinds: &[bool], entries: &mut [Entry<W>], q: usize, midd
     ensures bounds { IsNarrowMiddle W.unit middle.new }
 {
     fill_middle(kinds, entries, q, middle);
-    if middle.from_first[2 * q].is_less(Entry::zero()) {
+    let first = read(&middle.from_first, 2 * q);
+    if first.is_less(Entry::zero()) {
         return Walks::Negative;
     }
-    if middle.from_second[2 * q + 1].is_less(Entry::zero()) {
+    let second = read(&middle.from_second, 2 * q + 1);
+    if second.is_less(Entry::zero()) {
         return Walks::Negative;
     }
     if go_through_rows(entries, kinds.len(), middle) {
@@ -105,8 +107,8 @@ fn go_through_row<W: Width>(entries: &mut [Entry<W>], i: usize, middle: &Middle<
     ensures within { checks ≡ true → result ≡ true → AreEntries W.unit (2 * W.unit) entries.old →
         (AreEntries W.unit) (2 * W.unit) entries.new }
 {
-    let to_first = middle.to_first[i];
-    let to_second = middle.to_second[i];
+    let to_first = read(&middle.to_first, i);
+    let to_second = read(&middle.to_second, i);
     if !to_first.is_less(Entry::free()) && !to_second.is_less(Entry::free()) {
         return true;
     }
@@ -140,7 +142,8 @@ fn is_diagonal_negative<W: Width>(kinds: &[bool], entries: &[Entry<W>]) -> bool
 {
     for slot in 0..kinds.len() {
         let at = row_at(2 * slot) + 2 * slot;
-        if entries[at].is_less(Entry::zero()) {
+        let own = read(entries, at);
+        if own.is_less(Entry::zero()) {
             return true;
         }
     }

@@ -12,7 +12,7 @@ use crate::entry::Entry;
 use crate::width::Width;
 use crate::Narrow;
 use crate::convert::narrow_entry;
-use crate::rows::{row_at, row_len};
+use crate::rows::{read, row_at, row_len};
 use base_values::Memory;
 use dbm_core::other_sign;
 use std::alloc::Global;
@@ -93,7 +93,9 @@ fn raise_each<W: Width>(row: &mut [Entry<W>], others: &[Entry<W>], i: usize, thr
 {
     let other = other_sign(i);
     for j in 0..row.len() {
-        match widened_entry(thresholds, j == other, row[j], others[j]) {
+        let old = read(row, j);
+        let new = read(others, j);
+        match widened_entry(thresholds, j == other, old, new) {
             None => return false,
             Some(entry) => row[j] = entry,
         }

@@ -23,7 +23,7 @@ flipped-direct-requires-clause-entries gen c = (row-is_entry gen.W.Width.unit ge
 pub stepped-from_first-requires-clause-step : goal.stepped-from_first-requires-clause-step
 stepped-from_first-requires-clause-step gen c =
     let step : (IsEntry gen.W.Width.unit) (2 * gen.W.Width.unit) c.args.bound = inr (c.requires.low, c.requires.high) in
-    let wrapped : (IsEntry gen.W.Width.unit) (2 * gen.W.Width.unit) c.args.bound = subst ((IsEntry gen.W.Width.unit) (2 * gen.W.Width.unit)) (sym (refl)) step in
+    let wrapped : (IsEntry gen.W.Width.unit) (2 * gen.W.Width.unit) (c.args.bound) = subst ((IsEntry gen.W.Width.unit) (2 * gen.W.Width.unit)) (sym (refl)) step in
     (entry-more gen.W.Width.unit gen.W.Width.positive) (2 * gen.W.Width.unit) (8 * gen.W.Width.unit) _ (omega arith) wrapped
 
 pub stepped-from_first-requires-clause-row : goal.stepped-from_first-requires-clause-row
@@ -41,10 +41,10 @@ pub over-to_second-requires-clause-step : goal.over-to_second-requires-clause-st
 over-to_second-requires-clause-step gen c =
     let last : (AreEntries gen.W.Width.unit) (2 * gen.W.Width.unit) c.whole_row-last.result = (row-is_entry gen.W.Width.unit gen.W.Width.positive) (2 * gen.W.Width.unit) (2 * c.args.slots) c.args.entries.now c.whole_row-last.result c.args.j c.requires.entries c.whole_row-last.ensures.entries c.whole_row-last.ensures.beyond in
     let step : (IsEntry gen.W.Width.unit) (2 * gen.W.Width.unit) c.args.bound = inr (c.requires.low, c.requires.high) in
-    let wrapped : (IsEntry gen.W.Width.unit) (2 * gen.W.Width.unit) c.args.bound = subst ((IsEntry gen.W.Width.unit) (2 * gen.W.Width.unit)) (sym (refl)) step in
+    let wrapped : (IsEntry gen.W.Width.unit) (2 * gen.W.Width.unit) (c.args.bound) = subst ((IsEntry gen.W.Width.unit) (2 * gen.W.Width.unit)) (sym (refl)) step in
     let from_first : (AreEntries gen.W.Width.unit) (4 * gen.W.Width.unit) c.stepped-from_first.result = c.stepped-from_first.ensures.entries (2 * gen.W.Width.unit) (2 * gen.W.Width.unit) (omega arith) wrapped last in
     let hb : c.other_sign-behind.result < 2 * c.args.slots = subst (λ k. k < 2 * c.args.slots) (sym c.other_sign-behind.ensures.flipped) (flip_below c.args.j c.args.slots c.requires.column) in
-    let around : (IsEntry gen.W.Width.unit) (4 * gen.W.Width.unit) (get_or c.stepped-from_first.result c.other_sign-behind.result (pos 0)) = (passed-entry gen.W.Width.unit gen.W.Width.positive) (4 * gen.W.Width.unit) (4 * gen.W.Width.unit) c.stepped-from_first.result c.other_sign-behind.result (omega arith) from_first (omega arith) in
+    let around : (IsEntry gen.W.Width.unit) (4 * gen.W.Width.unit) ((get_or c.stepped-from_first.result c.other_sign-behind.result (pos 0))) = (passed-entry gen.W.Width.unit gen.W.Width.positive) (4 * gen.W.Width.unit) (4 * gen.W.Width.unit) c.stepped-from_first.result c.other_sign-behind.result (omega arith) from_first (omega arith) in
     around
 
 pub over-to_second-requires-clause-next : goal.over-to_second-requires-clause-next
@@ -59,21 +59,21 @@ over-over_first-requires-clause-row gen c = (row-is_entry gen.W.Width.unit gen.W
 pub over-over_first-requires-clause-step : goal.over-over_first-requires-clause-step
 over-over_first-requires-clause-step gen c =
     let first : (AreEntries gen.W.Width.unit) (2 * gen.W.Width.unit) c.whole_row-first.result = (row-is_entry gen.W.Width.unit gen.W.Width.positive) (2 * gen.W.Width.unit) (2 * c.args.slots) c.args.entries.now c.whole_row-first.result c.other_sign-ahead.result c.requires.entries c.whole_row-first.ensures.entries c.whole_row-first.ensures.beyond in
-    let at_i : (IsEntry gen.W.Width.unit) (2 * gen.W.Width.unit) (get_or c.whole_row-first.result c.args.i (pos 0)) = (passed-entry gen.W.Width.unit gen.W.Width.positive) (2 * gen.W.Width.unit) (2 * gen.W.Width.unit) c.whole_row-first.result c.args.i (omega arith) first (omega arith) in
+    let at_i : (IsEntry gen.W.Width.unit) (2 * gen.W.Width.unit) ((get_or c.whole_row-first.result c.args.i (pos 0))) = (passed-entry gen.W.Width.unit gen.W.Width.positive) (2 * gen.W.Width.unit) (2 * gen.W.Width.unit) c.whole_row-first.result c.args.i (omega arith) first (omega arith) in
     (entry-more gen.W.Width.unit gen.W.Width.positive) (2 * gen.W.Width.unit) (4 * gen.W.Width.unit) _ (omega arith) at_i
 
 pub over-over_first-requires-clause-next : goal.over-over_first-requires-clause-next
 over-over_first-requires-clause-next gen c =
     let last : (AreEntries gen.W.Width.unit) (2 * gen.W.Width.unit) c.whole_row-last.result = (row-is_entry gen.W.Width.unit gen.W.Width.positive) (2 * gen.W.Width.unit) (2 * c.args.slots) c.args.entries.now c.whole_row-last.result c.args.j c.requires.entries c.whole_row-last.ensures.entries c.whole_row-last.ensures.beyond in
     let step : (IsEntry gen.W.Width.unit) (2 * gen.W.Width.unit) c.args.bound = inr (c.requires.low, c.requires.high) in
-    let wrapped : (IsEntry gen.W.Width.unit) (2 * gen.W.Width.unit) c.args.bound = subst ((IsEntry gen.W.Width.unit) (2 * gen.W.Width.unit)) (sym (refl)) step in
+    let wrapped : (IsEntry gen.W.Width.unit) (2 * gen.W.Width.unit) (c.args.bound) = subst ((IsEntry gen.W.Width.unit) (2 * gen.W.Width.unit)) (sym (refl)) step in
     let from_first : (AreEntries gen.W.Width.unit) (4 * gen.W.Width.unit) c.stepped-from_first.result = c.stepped-from_first.ensures.entries (2 * gen.W.Width.unit) (2 * gen.W.Width.unit) (omega arith) wrapped last in
     from_first
 
 pub stepped-from_second-requires-clause-step : goal.stepped-from_second-requires-clause-step
 stepped-from_second-requires-clause-step gen c =
     let step : (IsEntry gen.W.Width.unit) (2 * gen.W.Width.unit) c.args.bound = inr (c.requires.low, c.requires.high) in
-    let wrapped : (IsEntry gen.W.Width.unit) (2 * gen.W.Width.unit) c.args.bound = subst ((IsEntry gen.W.Width.unit) (2 * gen.W.Width.unit)) (sym (refl)) step in
+    let wrapped : (IsEntry gen.W.Width.unit) (2 * gen.W.Width.unit) (c.args.bound) = subst ((IsEntry gen.W.Width.unit) (2 * gen.W.Width.unit)) (sym (refl)) step in
     (entry-more gen.W.Width.unit gen.W.Width.positive) (2 * gen.W.Width.unit) (8 * gen.W.Width.unit) _ (omega arith) wrapped
 
 pub stepped-from_second-requires-clause-row : goal.stepped-from_second-requires-clause-row
@@ -81,9 +81,9 @@ stepped-from_second-requires-clause-row gen c =
     let last : (AreEntries gen.W.Width.unit) (2 * gen.W.Width.unit) c.whole_row-last.result = (row-is_entry gen.W.Width.unit gen.W.Width.positive) (2 * gen.W.Width.unit) (2 * c.args.slots) c.args.entries.now c.whole_row-last.result c.args.j c.requires.entries c.whole_row-last.ensures.entries c.whole_row-last.ensures.beyond in
     let first : (AreEntries gen.W.Width.unit) (2 * gen.W.Width.unit) c.whole_row-first.result = (row-is_entry gen.W.Width.unit gen.W.Width.positive) (2 * gen.W.Width.unit) (2 * c.args.slots) c.args.entries.now c.whole_row-first.result c.other_sign-ahead.result c.requires.entries c.whole_row-first.ensures.entries c.whole_row-first.ensures.beyond in
     let step : (IsEntry gen.W.Width.unit) (2 * gen.W.Width.unit) c.args.bound = inr (c.requires.low, c.requires.high) in
-    let wrapped : (IsEntry gen.W.Width.unit) (2 * gen.W.Width.unit) c.args.bound = subst ((IsEntry gen.W.Width.unit) (2 * gen.W.Width.unit)) (sym (refl)) step in
+    let wrapped : (IsEntry gen.W.Width.unit) (2 * gen.W.Width.unit) (c.args.bound) = subst ((IsEntry gen.W.Width.unit) (2 * gen.W.Width.unit)) (sym (refl)) step in
     let from_first : (AreEntries gen.W.Width.unit) (4 * gen.W.Width.unit) c.stepped-from_first.result = c.stepped-from_first.ensures.entries (2 * gen.W.Width.unit) (2 * gen.W.Width.unit) (omega arith) wrapped last in
-    let at_i : (IsEntry gen.W.Width.unit) (2 * gen.W.Width.unit) (get_or c.whole_row-first.result c.args.i (pos 0)) = (passed-entry gen.W.Width.unit gen.W.Width.positive) (2 * gen.W.Width.unit) (2 * gen.W.Width.unit) c.whole_row-first.result c.args.i (omega arith) first (omega arith) in
+    let at_i : (IsEntry gen.W.Width.unit) (2 * gen.W.Width.unit) ((get_or c.whole_row-first.result c.args.i (pos 0))) = (passed-entry gen.W.Width.unit gen.W.Width.positive) (2 * gen.W.Width.unit) (2 * gen.W.Width.unit) c.whole_row-first.result c.args.i (omega arith) first (omega arith) in
     let over_first : (AreEntries gen.W.Width.unit) (6 * gen.W.Width.unit) c.over-over_first.result = c.over-over_first.ensures.entries (2 * gen.W.Width.unit) (4 * gen.W.Width.unit) (omega arith) (omega arith) at_i from_first in
     λ k. (entry-more gen.W.Width.unit gen.W.Width.positive) (6 * gen.W.Width.unit) (8 * gen.W.Width.unit) ((at gen.W.Width.unit) c.over-over_first.result k) (omega arith) (over_first k)
 
@@ -92,7 +92,7 @@ returns-clause-ends gen c =
     let last : (AreEntries gen.W.Width.unit) (2 * gen.W.Width.unit) c.whole_row-last.result = (row-is_entry gen.W.Width.unit gen.W.Width.positive) (2 * gen.W.Width.unit) (2 * c.args.slots) c.args.entries.now c.whole_row-last.result c.args.j c.requires.entries c.whole_row-last.ensures.entries c.whole_row-last.ensures.beyond in
     let first : (AreEntries gen.W.Width.unit) (2 * gen.W.Width.unit) c.whole_row-first.result = (row-is_entry gen.W.Width.unit gen.W.Width.positive) (2 * gen.W.Width.unit) (2 * c.args.slots) c.args.entries.now c.whole_row-first.result c.other_sign-ahead.result c.requires.entries c.whole_row-first.ensures.entries c.whole_row-first.ensures.beyond in
     let step : (IsEntry gen.W.Width.unit) (2 * gen.W.Width.unit) c.args.bound = inr (c.requires.low, c.requires.high) in
-    let wrapped : (IsEntry gen.W.Width.unit) (2 * gen.W.Width.unit) c.args.bound = subst ((IsEntry gen.W.Width.unit) (2 * gen.W.Width.unit)) (sym (refl)) step in
+    let wrapped : (IsEntry gen.W.Width.unit) (2 * gen.W.Width.unit) (c.args.bound) = subst ((IsEntry gen.W.Width.unit) (2 * gen.W.Width.unit)) (sym (refl)) step in
     let from_first : (AreEntries gen.W.Width.unit) (4 * gen.W.Width.unit) c.stepped-from_first.result = c.stepped-from_first.ensures.entries (2 * gen.W.Width.unit) (2 * gen.W.Width.unit) (omega arith) wrapped last in
     let hb : c.other_sign-behind.result < 2 * c.args.slots = subst (λ k. k < 2 * c.args.slots) (sym c.other_sign-behind.ensures.flipped) (flip_below c.args.j c.args.slots c.requires.column) in
     let a : (get_or c.stepped-from_first.result c.other_sign-behind.result (pos 0)) ≡ (at gen.W.Width.unit) c.stepped-from_first.result (flip c.args.j) =
@@ -118,11 +118,11 @@ returns-clause-entries gen c =
     let first : (AreEntries gen.W.Width.unit) (2 * gen.W.Width.unit) c.whole_row-first.result = (row-is_entry gen.W.Width.unit gen.W.Width.positive) (2 * gen.W.Width.unit) (2 * c.args.slots) c.args.entries.now c.whole_row-first.result c.other_sign-ahead.result c.requires.entries c.whole_row-first.ensures.entries c.whole_row-first.ensures.beyond in
     let to_first : (AreEntries gen.W.Width.unit) (2 * gen.W.Width.unit) c.flipped-to_first.result = (flipped-is_entry gen.W.Width.unit gen.W.Width.positive) (2 * gen.W.Width.unit) (2 * c.args.slots) c.whole_row-first.result c.flipped-to_first.result first c.flipped-to_first.ensures.flipped c.flipped-to_first.ensures.beyond in
     let step : (IsEntry gen.W.Width.unit) (2 * gen.W.Width.unit) c.args.bound = inr (c.requires.low, c.requires.high) in
-    let wrapped : (IsEntry gen.W.Width.unit) (2 * gen.W.Width.unit) c.args.bound = subst ((IsEntry gen.W.Width.unit) (2 * gen.W.Width.unit)) (sym (refl)) step in
+    let wrapped : (IsEntry gen.W.Width.unit) (2 * gen.W.Width.unit) (c.args.bound) = subst ((IsEntry gen.W.Width.unit) (2 * gen.W.Width.unit)) (sym (refl)) step in
     let from_first : (AreEntries gen.W.Width.unit) (4 * gen.W.Width.unit) c.stepped-from_first.result = c.stepped-from_first.ensures.entries (2 * gen.W.Width.unit) (2 * gen.W.Width.unit) (omega arith) wrapped last in
     let hb : c.other_sign-behind.result < 2 * c.args.slots = subst (λ k. k < 2 * c.args.slots) (sym c.other_sign-behind.ensures.flipped) (flip_below c.args.j c.args.slots c.requires.column) in
-    let around : (IsEntry gen.W.Width.unit) (4 * gen.W.Width.unit) (get_or c.stepped-from_first.result c.other_sign-behind.result (pos 0)) = (passed-entry gen.W.Width.unit gen.W.Width.positive) (4 * gen.W.Width.unit) (4 * gen.W.Width.unit) c.stepped-from_first.result c.other_sign-behind.result (omega arith) from_first (omega arith) in
-    let at_i : (IsEntry gen.W.Width.unit) (2 * gen.W.Width.unit) (get_or c.whole_row-first.result c.args.i (pos 0)) = (passed-entry gen.W.Width.unit gen.W.Width.positive) (2 * gen.W.Width.unit) (2 * gen.W.Width.unit) c.whole_row-first.result c.args.i (omega arith) first (omega arith) in
+    let around : (IsEntry gen.W.Width.unit) (4 * gen.W.Width.unit) ((get_or c.stepped-from_first.result c.other_sign-behind.result (pos 0))) = (passed-entry gen.W.Width.unit gen.W.Width.positive) (4 * gen.W.Width.unit) (4 * gen.W.Width.unit) c.stepped-from_first.result c.other_sign-behind.result (omega arith) from_first (omega arith) in
+    let at_i : (IsEntry gen.W.Width.unit) (2 * gen.W.Width.unit) ((get_or c.whole_row-first.result c.args.i (pos 0))) = (passed-entry gen.W.Width.unit gen.W.Width.positive) (2 * gen.W.Width.unit) (2 * gen.W.Width.unit) c.whole_row-first.result c.args.i (omega arith) first (omega arith) in
     let over_first : (AreEntries gen.W.Width.unit) (6 * gen.W.Width.unit) c.over-over_first.result = c.over-over_first.ensures.entries (2 * gen.W.Width.unit) (4 * gen.W.Width.unit) (omega arith) (omega arith) at_i from_first in
     record {
       to_first = λ k. (entry-more gen.W.Width.unit gen.W.Width.positive) (2 * gen.W.Width.unit) (6 * gen.W.Width.unit) ((at gen.W.Width.unit) c.flipped-to_first.result k) (omega arith) (to_first k);

@@ -1,7 +1,8 @@
 use Rattle.std.specs.Prelude.{◌≡◌, ◌*◌, ◌^◌, length}
 use Rattle.std.proofs.Common.{arith, subst, ◌∙◌}
 use Rattle.dbm_narrow.proofs.MiddleLemmas.{AreWays, ways-middle}
-use Rattle.dbm_narrow.proofs.PuttingLemmas.{narrow-between, narrow-put, read-one, read-within, ways-next, ways-none}
+use Rattle.dbm_narrow.proofs.EntryLemmas.{entry-more}
+use Rattle.dbm_narrow.proofs.PuttingLemmas.{narrow-between, narrow-put, ways-next, ways-none}
 use Rattle.dbm_narrow.proofs.RoundLemmas.{narrow-size}
 use Rattle.dbm_narrow.specs.Putting.{IsNarrowBetween}
 use Rattle.dbm_narrow.proofs.middle.fill_middle.Goals as goal
@@ -24,12 +25,12 @@ put_to-requires-clause-narrow gen c = (narrow-between gen.W.Width.unit gen.W.Wid
 pub put_from-requires-clause-back : goal.put_from-requires-clause-back
 put_from-requires-clause-back gen c =
     let own : (IsNarrowBetween gen.W.Width.unit) c.bounds_between-own.result = (narrow-between gen.W.Width.unit gen.W.Width.positive) c.args.entries.now c.args.q c.args.q c.bounds_between-own.result c.requires.narrow.entries c.bounds_between-own.ensures.bounds in
-    (read-within gen.W.Width.unit gen.W.Width.positive) (2 * gen.W.Width.unit) c.bounds_between-own.result.second_even (omega arith) own.second_even
+    entry-more gen.W.Width.unit gen.W.Width.positive (2 * gen.W.Width.unit) (2 * gen.W.Width.unit) c.bounds_between-own.result.second_even (omega arith) own.second_even
 
 pub put_to-requires-clause-ahead : goal.put_to-requires-clause-ahead
 put_to-requires-clause-ahead gen c =
     let own : (IsNarrowBetween gen.W.Width.unit) c.bounds_between-own.result = (narrow-between gen.W.Width.unit gen.W.Width.positive) c.args.entries.now c.args.q c.args.q c.bounds_between-own.result c.requires.narrow.entries c.bounds_between-own.ensures.bounds in
-    (read-within gen.W.Width.unit gen.W.Width.positive) (2 * gen.W.Width.unit) c.bounds_between-own.result.first_odd (omega arith) own.first_odd
+    entry-more gen.W.Width.unit gen.W.Width.positive (2 * gen.W.Width.unit) (2 * gen.W.Width.unit) c.bounds_between-own.result.first_odd (omega arith) own.first_odd
 
 pub loop-slot-preserved : goal.loop-slot-preserved
 loop-slot-preserved gen c =
@@ -37,10 +38,10 @@ loop-slot-preserved gen c =
     let here : (IsNarrowBetween gen.W.Width.unit) c.bounds_between-here.result = (narrow-between gen.W.Width.unit gen.W.Width.positive) c.args.entries.now c.args.q c.loop-slot.slot c.bounds_between-here.result c.requires.narrow.entries c.bounds_between-here.ensures.bounds in
     record {
       ways = (ways-next gen.W.Width.unit gen.W.Width.positive) c.args.entries.now c.args.q c.loop-slot.slot c.bounds_between-here.result _ _ c.loop-slot.middle c.put_from.new.middle c.put_to.new.middle c.loop-slot.invariant.ways c.bounds_between-here.ensures.bounds
-          ((read-one gen.W.Width.unit gen.W.Width.positive) c.bounds_between-own.result.first_odd own.first_odd ∙ c.bounds_between-own.ensures.bounds.first_odd) ((read-one gen.W.Width.unit gen.W.Width.positive) c.bounds_between-own.result.second_even own.second_even ∙ c.bounds_between-own.ensures.bounds.second_even)
+          (c.bounds_between-own.ensures.bounds.first_odd) (c.bounds_between-own.ensures.bounds.second_even)
           c.put_from.ensures.put c.put_to.ensures.put;
       narrow = (narrow-put gen.W.Width.unit gen.W.Width.positive) c.loop-slot.slot c.bounds_between-here.result _ _ c.loop-slot.middle c.put_from.new.middle c.put_to.new.middle c.loop-slot.invariant.narrow here
-          ((read-within gen.W.Width.unit gen.W.Width.positive) (2 * gen.W.Width.unit) c.bounds_between-own.result.first_odd (omega arith) own.first_odd) ((read-within gen.W.Width.unit gen.W.Width.positive) (2 * gen.W.Width.unit) c.bounds_between-own.result.second_even (omega arith) own.second_even)
+          (entry-more gen.W.Width.unit gen.W.Width.positive (2 * gen.W.Width.unit) (2 * gen.W.Width.unit) c.bounds_between-own.result.first_odd (omega arith) own.first_odd) (entry-more gen.W.Width.unit gen.W.Width.positive (2 * gen.W.Width.unit) (2 * gen.W.Width.unit) c.bounds_between-own.result.second_even (omega arith) own.second_even)
           c.put_from.ensures.put c.put_to.ensures.put;
     }
 

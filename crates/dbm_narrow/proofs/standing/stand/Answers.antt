@@ -115,17 +115,17 @@ returns gen c =
     let rb : (j : ℕ) → j < (2 * length c.args.kinds.now) → (wide gen.W.Width.unit) ((at gen.W.Width.unit) c.whole_row-behind.result j) ≡ (entry ((held gen.W.Width.unit) c.args.kinds.now c.args.entries.now)) (flip c.args.y) j =
     λ j hj. ap (wide gen.W.Width.unit) (c.whole_row-behind.ensures.entries j hj ∙ ap (λ k. (pair_at gen.W.Width.unit) c.args.entries.now k j) c.other_sign-other.ensures.flipped) ∙ sym ((held-entry gen.W.Width.unit gen.W.Width.positive) c.args.kinds.now c.args.entries.now (flip c.args.y) j) in
     let b0 : (IsStep gen.W.Width.unit gen.W.Width.positive) (pos 0) = (omega (arith, ints), omega (arith, ints)) in
-    let bt : (IsStep gen.W.Width.unit gen.W.Width.positive) c.twice_of-twice_less.result = (omega (arith, ints), omega (arith, ints)) in
-    let bl : (IsStep gen.W.Width.unit gen.W.Width.positive) c.negative-less.result = (omega (arith, ints), omega (arith, ints)) in
-    let bw : (IsStep gen.W.Width.unit gen.W.Width.positive) c.twice_of-twice.result = (omega (arith, ints), omega (arith, ints)) in
-    let bc : (IsStep gen.W.Width.unit gen.W.Width.positive) c.args.c = (omega (arith, ints), omega (arith, ints)) in
+    let bt : (IsStep gen.W.Width.unit gen.W.Width.positive) (c.twice_of-twice_less.result) = (omega (arith, ints), omega (arith, ints)) in
+    let bl : (IsStep gen.W.Width.unit gen.W.Width.positive) (c.negative-less.result) = (omega (arith, ints), omega (arith, ints)) in
+    let bw : (IsStep gen.W.Width.unit gen.W.Width.positive) (c.twice_of-twice.result) = (omega (arith, ints), omega (arith, ints)) in
+    let bc : (IsStep gen.W.Width.unit gen.W.Width.positive) (c.args.c) = (omega (arith, ints), omega (arith, ints)) in
     let pf : (j : ℕ) → j < (2 * length c.args.kinds.now) → (wide gen.W.Width.unit) ((at gen.W.Width.unit) c.stood_row-first.result j) ≡ stood_entry (entry ((held gen.W.Width.unit) c.args.kinds.now c.args.entries.now)) c.args.q c.args.y c.args.c (2 * c.args.q) j =
     λ j hj. ap (wide gen.W.Width.unit) (c.stood_row-first.ensures.stood j (omega arith))
-    ∙ (stood-row gen.W.Width.unit gen.W.Width.positive) (entry ((held gen.W.Width.unit) c.args.kinds.now c.args.entries.now)) (2 * length c.args.kinds.now) c.args.q c.args.y c.args.c c.args.c c.args.y (2 * c.args.q) c.whole_row-node.result (pos 0) c.twice_of-twice_less.result c.negative-less.result (node-even c.args.q c.args.y) (shift-even c.args.q c.args.c) c.requires.node hf rn node
+    ∙ (stood-row gen.W.Width.unit gen.W.Width.positive) (entry ((held gen.W.Width.unit) c.args.kinds.now c.args.entries.now)) (2 * length c.args.kinds.now) c.args.q c.args.y c.args.c c.args.c c.args.y (2 * c.args.q) c.whole_row-node.result (pos 0) (c.twice_of-twice_less.result) (c.negative-less.result) (node-even c.args.q c.args.y) (shift-even c.args.q c.args.c) c.requires.node hf rn node
     (omega (arith, ints)) (omega (arith, ints)) (omega (arith, ints)) b0 bt bl j hj in
     let ps : (j : ℕ) → j < (2 * length c.args.kinds.now) → (wide gen.W.Width.unit) ((at gen.W.Width.unit) c.stood_row-second.result j) ≡ stood_entry (entry ((held gen.W.Width.unit) c.args.kinds.now c.args.entries.now)) c.args.q c.args.y c.args.c (2 * c.args.q + 1) j =
     λ j hj. ap (wide gen.W.Width.unit) (c.stood_row-second.ensures.stood j (omega arith))
-    ∙ (stood-row gen.W.Width.unit gen.W.Width.positive) (entry ((held gen.W.Width.unit) c.args.kinds.now c.args.entries.now)) (2 * length c.args.kinds.now) c.args.q c.args.y c.args.c (neg_ℤ c.args.c) (flip c.args.y) (2 * c.args.q + 1) c.whole_row-behind.result c.twice_of-twice.result (pos 0) c.args.c (node-odd c.args.q c.args.y) (shift-odd c.args.q c.args.c) c.requires.node hf rb behind
+    ∙ (stood-row gen.W.Width.unit gen.W.Width.positive) (entry ((held gen.W.Width.unit) c.args.kinds.now c.args.entries.now)) (2 * length c.args.kinds.now) c.args.q c.args.y c.args.c (neg_ℤ c.args.c) (flip c.args.y) (2 * c.args.q + 1) c.whole_row-behind.result (c.twice_of-twice.result) (pos 0) (c.args.c) (node-odd c.args.q c.args.y) (shift-odd c.args.q c.args.c) c.requires.node hf rb behind
     (omega (arith, ints)) (omega (arith, ints)) (omega (arith, ints)) bw b0 bc j hj in
     record {
       stands = λ _. record {

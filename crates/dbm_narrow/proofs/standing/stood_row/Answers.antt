@@ -45,12 +45,12 @@ returns-clause-stood gen c =
 pub returns-clause-entries : goal.returns-clause-entries
 returns-clause-entries gen c =
     let o : c.other_sign-other.result < 32 = subst (λ k. k < 32) (sym c.other_sign-other.ensures.flipped) (flip_below c.args.y 16 c.requires.node) in
-    let wo : (IsEntry gen.W.Width.unit) (4 * gen.W.Width.unit) c.args.others = subst ((IsEntry gen.W.Width.unit) (4 * gen.W.Width.unit)) (sym (refl)) c.requires.others in
-    let wa : (IsEntry gen.W.Width.unit) (4 * gen.W.Width.unit) c.args.first = subst ((IsEntry gen.W.Width.unit) (4 * gen.W.Width.unit)) (sym (refl)) c.requires.first in
-    let wb : (IsEntry gen.W.Width.unit) (4 * gen.W.Width.unit) c.args.second = subst ((IsEntry gen.W.Width.unit) (4 * gen.W.Width.unit)) (sym (refl)) c.requires.second in
+    let wo : (IsEntry gen.W.Width.unit) (4 * gen.W.Width.unit) (c.args.others) = subst ((IsEntry gen.W.Width.unit) (4 * gen.W.Width.unit)) (sym (refl)) c.requires.others in
+    let wa : (IsEntry gen.W.Width.unit) (4 * gen.W.Width.unit) (c.args.first) = subst ((IsEntry gen.W.Width.unit) (4 * gen.W.Width.unit)) (sym (refl)) c.requires.first in
+    let wb : (IsEntry gen.W.Width.unit) (4 * gen.W.Width.unit) (c.args.second) = subst ((IsEntry gen.W.Width.unit) (4 * gen.W.Width.unit)) (sym (refl)) c.requires.second in
     let all : (AreEntries gen.W.Width.unit) (6 * gen.W.Width.unit) c.stepped-stood.result = c.stepped-stood.ensures.entries (4 * gen.W.Width.unit) (2 * gen.W.Width.unit) (omega arith) wo c.requires.row in
-    let a : (IsEntry gen.W.Width.unit) (6 * gen.W.Width.unit) c.plus-here.result = subst ((IsEntry gen.W.Width.unit) (6 * gen.W.Width.unit)) (sym (c.plus-here.ensures.sum))
-    ((settle-sum gen.W.Width.unit gen.W.Width.positive) (4 * gen.W.Width.unit) (2 * gen.W.Width.unit) c.args.first (get_or c.args.row.now c.args.y (pos 0)) (omega arith) wa ((passed-entry gen.W.Width.unit gen.W.Width.positive) (2 * gen.W.Width.unit) (2 * gen.W.Width.unit) c.args.row.now c.args.y (omega arith) c.requires.row (omega arith))) in
-    let b : (IsEntry gen.W.Width.unit) (6 * gen.W.Width.unit) c.plus-there.result = subst ((IsEntry gen.W.Width.unit) (6 * gen.W.Width.unit)) (sym (c.plus-there.ensures.sum))
-    ((settle-sum gen.W.Width.unit gen.W.Width.positive) (4 * gen.W.Width.unit) (2 * gen.W.Width.unit) c.args.second (get_or c.args.row.now c.other_sign-other.result (pos 0)) (omega arith) wb ((passed-entry gen.W.Width.unit gen.W.Width.positive) (2 * gen.W.Width.unit) (2 * gen.W.Width.unit) c.args.row.now c.other_sign-other.result (omega arith) c.requires.row (omega arith))) in
+    let a : (IsEntry gen.W.Width.unit) (6 * gen.W.Width.unit) (c.plus-here.result) = subst ((IsEntry gen.W.Width.unit) (6 * gen.W.Width.unit)) (sym (c.plus-here.ensures.sum))
+    ((settle-sum gen.W.Width.unit gen.W.Width.positive) (4 * gen.W.Width.unit) (2 * gen.W.Width.unit) (c.args.first) ((get_or c.args.row.now c.args.y (pos 0))) (omega arith) wa ((passed-entry gen.W.Width.unit gen.W.Width.positive) (2 * gen.W.Width.unit) (2 * gen.W.Width.unit) c.args.row.now c.args.y (omega arith) c.requires.row (omega arith))) in
+    let b : (IsEntry gen.W.Width.unit) (6 * gen.W.Width.unit) (c.plus-there.result) = subst ((IsEntry gen.W.Width.unit) (6 * gen.W.Width.unit)) (sym (c.plus-there.ensures.sum))
+    ((settle-sum gen.W.Width.unit gen.W.Width.positive) (4 * gen.W.Width.unit) (2 * gen.W.Width.unit) (c.args.second) ((get_or c.args.row.now c.other_sign-other.result (pos 0))) (omega arith) wb ((passed-entry gen.W.Width.unit gen.W.Width.positive) (2 * gen.W.Width.unit) (2 * gen.W.Width.unit) c.args.row.now c.other_sign-other.result (omega arith) c.requires.row (omega arith))) in
     (set-entries gen.W.Width.unit gen.W.Width.positive) (6 * gen.W.Width.unit) _ (2 * c.args.q + 1) _ ((set-entries gen.W.Width.unit gen.W.Width.positive) (6 * gen.W.Width.unit) c.stepped-stood.result (2 * c.args.q) _ all a) b

@@ -5,4 +5,4 @@ use Rattle.dbm_core.specs.Weights.{least}
 use Rattle.dbm_narrow.proofs.widening.least_from.Given as goal
 
 abbrev pub invariant-loop-threshold : goal.invariant-loop-threshold
-invariant-loop-threshold l = least l.next (next_threshold (drop l.threshold-index l.thresholds) false l.from) ≡ next_threshold l.thresholds false l.from
+invariant-loop-threshold gen l = least l.next (next_threshold (drop l.threshold-index l.thresholds) false l.from) ≡ next_threshold l.thresholds false l.from
