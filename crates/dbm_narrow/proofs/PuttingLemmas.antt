@@ -67,7 +67,7 @@ module _ (unit : ℕ) (room : 0 < unit) where
 
   -- the lesser of a bound and of two in a row
   lesser-entry : (x u v : ℤ) → IsEntry unit (2 * unit) x → IsEntry unit (2 * unit) u → IsEntry unit (2 * unit) v → IsEntry unit (4 * unit) (int_min x (settle unit (u +ℤ v)))
-  lesser-entry x u v p q r = (min-entry unit room) (4 * unit) x (settle unit (u +ℤ v)) ((entry-more unit room) (2 * unit) (4 * unit) x (omega arith) p) ((settle-sum unit room) (2 * unit) (2 * unit) u v (omega arith) q r)
+  lesser-entry x u v p q r = (min-entry unit room) (4 * unit) x (settle unit (u +ℤ v)) ((entry-more unit room) (2 * unit) (4 * unit) x (omega arith) p) ((entry-more unit room) (2 * unit + 2 * unit) (4 * unit) (settle unit (u +ℤ v)) (omega arith) ((settle-sum unit room) (2 * unit) (2 * unit) u v (omega arith) q r))
 
   -- ---- all four
 

@@ -1,5 +1,5 @@
 -- Rounds over narrow entries are those of `dbm_close`.
-use Rattle.std.specs.Prelude.{◌≡◌, ℕ, ◌<◌, ◌+◌, ◌*◌, ◌/◌, ◌^◌, ℤ, pos, Option, Some, Bool, List, length, refl}
+use Rattle.std.specs.Prelude.{◌≤◌, ◌≡◌, ℕ, ◌<◌, ◌+◌, ◌*◌, ◌/◌, ◌^◌, ℤ, pos, Option, Some, Bool, List, length, refl}
 use Rattle.std.proofs.Common.{arith, ap, sym, subst, ◌∙◌, inl, inr}
 use Rattle.std.proofs.lemmas.Bool.{cases_eq, eq-eqb, ne_eqb}
 use Rattle.std.proofs.lemmas.List.{length-map}
@@ -70,6 +70,6 @@ module _ (unit : ℕ) (room : 0 < unit) where
   pub narrow-size : (kinds : List Bool) (xs : List ℤ) → IsNarrow unit kinds xs → length xs ≡ row_start (2 * length kinds)
   narrow-size kinds xs t = sym (length-map xs (wide unit)) ∙ t.matrix.fits ∙ sym (row_start-double (length kinds))
 
-  pub first-rounded : (kinds : List Bool) (xs : List ℤ) → IsNarrow unit kinds xs → IsRounded (held unit kinds xs) (held unit kinds xs) 0
-  first-rounded kinds xs t = IsRounded-first (held unit kinds xs) t.matrix
+  pub first-rounded : unit ≤ 2 ^ 69 → (kinds : List Bool) (xs : List ℤ) → IsNarrow unit kinds xs → IsRounded (held unit kinds xs) (held unit kinds xs) 0
+  first-rounded small kinds xs t = IsRounded-first (held unit kinds xs) t.matrix
       (AreWithin-more (2 * length kinds) (2 * unit) (2 ^ 70) (entry (held unit kinds xs)) (omega arith) ((held-within unit room) (2 * unit) kinds xs (2 * length kinds) (omega arith) t.entries))

@@ -1,5 +1,5 @@
 -- Bounds added to narrow entries that are the least weights of their own walks.
-use Rattle.std.specs.Prelude.{ℤ, ◌*◌, Bool, List, length}
+use Rattle.std.specs.Prelude.{ℕ, ℤ, ◌*◌, Bool, List, length}
 use Rattle.dbm_close.specs.declared.closed.Closed.TheVariants as wide
 use Rattle.dbm_close.specs.Walks.{HasNegativeWalk}
 use Rattle.dbm_core.specs.Half.{entry}

@@ -1,5 +1,5 @@
 -- What closing narrow entries answers.
-use Rattle.std.specs.Prelude.{◌*◌, ◌≡◌, ◌^◌, ℤ, Bool, List}
+use Rattle.std.specs.Prelude.{ℕ, ◌*◌, ◌≡◌, ◌^◌, ℤ, Bool, List}
 use Rattle.dbm_close.specs.CloseOf.{close_of}
 use Rattle.dbm_close.specs.declared.closed.Closed.TheVariants as wide
 use Rattle.dbm_close.specs.Finish.{IsFinishOf}

@@ -1,5 +1,5 @@
 //! Widths of entries: how many bytes one takes, and how large its bounds may be.
-ghost use Rattle.std.specs.Prelude.{◌≡◌, ◌<◌, ◌*◌, ◌^◌, ◌+ℤ◌, ℕ, ℤ, pos, neg_ℤ, int_lt, true, refl};
+ghost use Rattle.std.specs.Prelude.{◌≡◌, ◌<◌, ◌≤◌, ◌*◌, ◌^◌, ◌+ℤ◌, ℕ, ℤ, pos, neg_ℤ, int_lt, true, refl};
 ghost use Rattle.std.specs.Int.{int_div_euclid};
 ghost use Rattle.std.proofs.Common.{rules};
 ghost use Rattle.dbm_narrow.specs.Widths.{HasRoom, IsBound, IsUncut, fed_number};
@@ -21,6 +21,9 @@ pub trait Width: Copy + Drop {
 
     // It is not 0.
     ghost positive: { 0 < unit };
+
+    // Closing is asked of bounds up to 2^70 alone.
+    ghost small: { unit ≤ 2 ^ 69 };
 
     /// No bound.
     fn none() -> Self
@@ -93,6 +96,8 @@ impl Width for i32 {
     ghost unit = { 2 ^ 24 };
 
     ghost positive = { Prim.search rules };
+
+    ghost small = { Prim.search rules };
 
     #[inline]
     fn none() -> i32 {
@@ -172,28 +177,30 @@ impl Width for i128 {
 
     ghost of_value = { λ x. refl };
 
-    ghost unit = { 2 ^ 99 };
+    ghost unit = { 2 ^ 69 };
 
     ghost positive = { Prim.search rules };
 
+    ghost small = { Prim.search rules };
+
     #[inline]
     fn none() -> i128 {
-        20282409603651670423947251286016
+        18889465931478580854784
     }
 
     #[inline]
     fn free() -> i128 {
-        10141204801825835211973625643008
+        9444732965739290427392
     }
 
     #[inline]
     fn greatest() -> i128 {
-        1267650600228229401496703205376
+        1180591620717411303424
     }
 
     #[inline]
     fn least() -> i128 {
-        -1267650600228229401496703205376
+        -1180591620717411303424
     }
 
     #[inline]
@@ -238,7 +245,7 @@ impl Width for i128 {
 
     #[inline]
     fn fed(self) -> i64 {
-        if self >= 10141204801825835211973625643008 {
+        if self >= 9444732965739290427392 {
             536870912
         } else if self < -9223372036854775808 {
             0

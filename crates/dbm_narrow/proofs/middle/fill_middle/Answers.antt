@@ -1,9 +1,10 @@
 use Rattle.std.specs.Prelude.{◌≡◌, ◌*◌, ◌^◌, length}
-use Rattle.std.proofs.Common.{arith, subst, ◌∙◌}
+use Rattle.std.proofs.Common.{arith, rules, subst, ◌∙◌}
 use Rattle.dbm_narrow.proofs.MiddleLemmas.{AreWays, ways-middle}
 use Rattle.dbm_narrow.proofs.EntryLemmas.{entry-more}
 use Rattle.dbm_narrow.proofs.PuttingLemmas.{narrow-between, narrow-put, ways-next, ways-none}
 use Rattle.dbm_narrow.proofs.RoundLemmas.{narrow-size}
+use Rattle.dbm_narrow.specs.Entries.{IsEntry}
 use Rattle.dbm_narrow.specs.Putting.{IsNarrowBetween}
 use Rattle.dbm_narrow.proofs.middle.fill_middle.Goals as goal
 
@@ -16,21 +17,19 @@ bounds_between-here-requires-clause-size gen c = (narrow-size gen.W.Width.unit g
 pub loop-slot-init : goal.loop-slot-init
 loop-slot-init gen c = record { ways = (ways-none gen.W.Width.unit gen.W.Width.positive) c.args.entries.now c.args.q c.args.middle.now; narrow = c.requires.entries }
 
-pub put_from-requires-clause-narrow : goal.put_from-requires-clause-narrow
-put_from-requires-clause-narrow gen c = (narrow-between gen.W.Width.unit gen.W.Width.positive) c.args.entries.now c.args.q c.loop-slot.slot c.bounds_between-here.result c.requires.narrow.entries c.bounds_between-here.ensures.bounds
-
-pub put_to-requires-clause-narrow : goal.put_to-requires-clause-narrow
-put_to-requires-clause-narrow gen c = (narrow-between gen.W.Width.unit gen.W.Width.positive) c.args.entries.now c.args.q c.loop-slot.slot c.bounds_between-here.result c.requires.narrow.entries c.bounds_between-here.ensures.bounds
-
-pub put_from-requires-clause-back : goal.put_from-requires-clause-back
-put_from-requires-clause-back gen c =
+pub put_from-requires : goal.put_from-requires
+put_from-requires gen c =
+    let n : (IsNarrowBetween gen.W.Width.unit) c.bounds_between-here.result = (narrow-between gen.W.Width.unit gen.W.Width.positive) c.args.entries.now c.args.q c.loop-slot.slot c.bounds_between-here.result c.requires.narrow.entries c.bounds_between-here.ensures.bounds in
     let own : (IsNarrowBetween gen.W.Width.unit) c.bounds_between-own.result = (narrow-between gen.W.Width.unit gen.W.Width.positive) c.args.entries.now c.args.q c.args.q c.bounds_between-own.result c.requires.narrow.entries c.bounds_between-own.ensures.bounds in
-    entry-more gen.W.Width.unit gen.W.Width.positive (2 * gen.W.Width.unit) (2 * gen.W.Width.unit) c.bounds_between-own.result.second_even (omega arith) own.second_even
+    let b : IsEntry gen.W.Width.unit (2 * gen.W.Width.unit) c.bounds_between-own.result.second_even = own.second_even in
+    search rules
 
-pub put_to-requires-clause-ahead : goal.put_to-requires-clause-ahead
-put_to-requires-clause-ahead gen c =
+pub put_to-requires : goal.put_to-requires
+put_to-requires gen c =
+    let n : (IsNarrowBetween gen.W.Width.unit) c.bounds_between-here.result = (narrow-between gen.W.Width.unit gen.W.Width.positive) c.args.entries.now c.args.q c.loop-slot.slot c.bounds_between-here.result c.requires.narrow.entries c.bounds_between-here.ensures.bounds in
     let own : (IsNarrowBetween gen.W.Width.unit) c.bounds_between-own.result = (narrow-between gen.W.Width.unit gen.W.Width.positive) c.args.entries.now c.args.q c.args.q c.bounds_between-own.result c.requires.narrow.entries c.bounds_between-own.ensures.bounds in
-    entry-more gen.W.Width.unit gen.W.Width.positive (2 * gen.W.Width.unit) (2 * gen.W.Width.unit) c.bounds_between-own.result.first_odd (omega arith) own.first_odd
+    let b : IsEntry gen.W.Width.unit (2 * gen.W.Width.unit) c.bounds_between-own.result.first_odd = own.first_odd in
+    search rules
 
 pub loop-slot-preserved : goal.loop-slot-preserved
 loop-slot-preserved gen c =

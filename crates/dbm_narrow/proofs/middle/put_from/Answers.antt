@@ -16,8 +16,8 @@ returns gen c =
       put = record {
         first = (puts-same gen.W.Width.unit gen.W.Width.positive) _ _ _ _ _ _ _ c.put.ensures.put refl refl;
         second = (puts-same gen.W.Width.unit gen.W.Width.positive) _ _ _ _ _ _ _ c.put-2.ensures.put
-            (read-lesser c.lesser-even.result c.plus.result c.args.here.second_even c.args.back c.args.here.first_even f g c.requires.narrow.second_even c.requires.back c.requires.narrow.first_even c.lesser-even.ensures.value c.plus.ensures.sum)
-            (read-lesser c.lesser-odd.result c.plus-2.result c.args.here.second_odd c.args.back c.args.here.first_odd h i c.requires.narrow.second_odd c.requires.back c.requires.narrow.first_odd c.lesser-odd.ensures.value c.plus-2.ensures.sum);
+            (read-lesser gen.W.Width.unit gen.W.Width.positive c.lesser-even.result c.plus.result c.args.here.second_even c.args.back c.args.here.first_even c.lesser-even.ensures.value c.plus.ensures.sum)
+            (read-lesser gen.W.Width.unit gen.W.Width.positive c.lesser-odd.result c.plus-2.result c.args.here.second_odd c.args.back c.args.here.first_odd c.lesser-odd.ensures.value c.plus-2.ensures.sum);
         to_first = refl;
         to_second = refl;
       };

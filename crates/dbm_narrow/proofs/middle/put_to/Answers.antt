@@ -16,8 +16,8 @@ returns gen c =
       put = record {
         first = (puts-same gen.W.Width.unit gen.W.Width.positive) _ _ _ _ _ _ _ c.put.ensures.put refl refl;
         second = (puts-same gen.W.Width.unit gen.W.Width.positive) _ _ _ _ _ _ _ c.put-2.ensures.put
-            (read-lesser c.lesser-even.result c.plus.result c.args.here.first_odd c.args.ahead c.args.here.second_odd f g c.requires.narrow.first_odd c.requires.ahead c.requires.narrow.second_odd c.lesser-even.ensures.value c.plus.ensures.sum)
-            (read-lesser c.lesser-odd.result c.plus-2.result c.args.here.first_even c.args.ahead c.args.here.second_even h i c.requires.narrow.first_even c.requires.ahead c.requires.narrow.second_even c.lesser-odd.ensures.value c.plus-2.ensures.sum);
+            (read-lesser gen.W.Width.unit gen.W.Width.positive c.lesser-even.result c.plus.result c.args.here.first_odd c.args.ahead c.args.here.second_odd c.lesser-even.ensures.value c.plus.ensures.sum)
+            (read-lesser gen.W.Width.unit gen.W.Width.positive c.lesser-odd.result c.plus-2.result c.args.here.first_even c.args.ahead c.args.here.second_even c.lesser-odd.ensures.value c.plus-2.ensures.sum);
         from_first = refl;
         from_second = refl;
       };
