@@ -1,5 +1,5 @@
 -- What the types of entries have in common.
-use Rattle.std.specs.Prelude.{◌≡◌, ℕ, ◌<◌, ◌*◌, ◌^◌, ℤ, pos, neg_ℤ, ◌≤ℤ◌, ◌<ℤ◌, int_lt, Bool, cond}
+use Rattle.std.specs.Prelude.{◌⊎◌, ◌≡◌, ℕ, ◌<◌, ◌*◌, ◌^◌, ℤ, pos, neg_ℤ, ◌≤ℤ◌, ◌<ℤ◌, int_lt, Bool, cond}
 use Rattle.std.specs.Ordering.{int_eq}
 use Rattle.std.specs.Cmp.{IsEquivalence, decided}
 use Rattle.std.proofs.Common.{ap}
@@ -16,6 +16,10 @@ HasRoom h x = IsBound (64 * h) x
 -- a bound that step 5 of closing leaves as it is
 abbrev pub IsUncut : ℤ → Type 0
 IsUncut x = (neg_ℤ (pos (2 ^ 64)) ≤ℤ x) × (x <ℤ pos (2 ^ 64))
+
+-- a bound, or none
+abbrev pub IsNumber : ℕ → ℤ → Type 0
+IsNumber h x = (x <ℤ pos (16 * h)) ⊎ (x ≡ pos (32 * h))
 
 -- what an entry feeds a hasher: 2^29 for none, 0 for what has more than 64 bits
 abbrev pub fed_number : ℕ → ℤ → ℤ

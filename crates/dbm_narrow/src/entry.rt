@@ -2,7 +2,7 @@
 ghost use Rattle.std.specs.Prelude.{◌≡◌, ◌*◌, ◌+ℤ◌, ℤ, pos, neg_ℤ, int_lt, true};
 ghost use Rattle.std.specs.Cmp.{partial_equiv_from_equiv};
 ghost use Rattle.std.specs.Int.{int_div_euclid};
-ghost use Rattle.dbm_narrow.specs.Widths.{HasRoom, IsBound, IsUncut, fed_number, int_equiv, same_int};
+ghost use Rattle.dbm_narrow.specs.Widths.{HasRoom, IsBound, IsNumber, IsUncut, fed_number, int_equiv, same_int};
 
 use crate::width::Width;
 use std::alloc::AllocError;
@@ -162,6 +162,7 @@ impl<W: Width> Entry<W> {
     /// The number of 64 bits that it feeds a hasher.
     #[inline]
     pub fn fed(self) -> i64
+        requires entry { IsNumber W.unit self }
         ensures number { result ≡ fed_number W.unit self }
     {
         self.number.fed()

@@ -2,7 +2,7 @@
 ghost use Rattle.std.specs.Prelude.{◌≡◌, ◌<◌, ◌≤◌, ◌*◌, ◌^◌, ◌+ℤ◌, ℕ, ℤ, pos, neg_ℤ, int_lt, true, refl};
 ghost use Rattle.std.specs.Int.{int_div_euclid};
 ghost use Rattle.std.proofs.Common.{rules};
-ghost use Rattle.dbm_narrow.specs.Widths.{HasRoom, IsBound, IsUncut, fed_number};
+ghost use Rattle.dbm_narrow.specs.Widths.{HasRoom, IsBound, IsNumber, IsUncut, fed_number};
 
 /// A type of entries: each finite bound lies from `-2 * unit` to `2 * unit`, and `32 * unit` stands for
 /// none.
@@ -78,6 +78,7 @@ pub trait Width: Copy + Drop {
 
     /// The number of 64 bits that an entry feeds a hasher: 2^29 for no bound, 0 for one that has more.
     fn fed(self) -> i64
+        requires entry { IsNumber unit (value self) }
         ensures number { result ≡ fed_number unit (value self) };
 
     /// Whether step 5 of closing leaves a bound as it is.
