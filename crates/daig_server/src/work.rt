@@ -1,8 +1,7 @@
 //! What is done for a program: the clauses of `run`, from a program on.
 ghost use Rattle.std.specs.Prelude.{◌≡◌, ◌<◌, ◌^◌, Some};
 ghost use Rattle.io_edge.specs.Outside.{Rose};
-ghost use Rattle.serve_script.specs.Replies.{ReadsBytes, ReadsToEnd};
-ghost use Rattle.serve_output.specs.Ends.{EndsBy, Fits, WritesFor, WritesOutput};
+ghost use Rattle.serve_output.specs.Ends.{CausedWithin, EndsBy, Fits, WritesFor, WritesOutput};
 ghost use Rattle.serve_output.specs.Jobs.{engine_of, Serves, TellsServed};
 ghost use Rattle.serve_output.specs.Output.{batch_bytes, done, gen_bytes, served_bytes};
 ghost use Rattle.serve_answers.specs.Readings.{Readings};
@@ -40,16 +39,9 @@ fn serve_lines<D: Named, I: Source, O: Sink, L: Ledger>(
         WritesFor (λ text. I.told script.old ≡ Some text) result
         (λ text. done (served_bytes D.name first text))
         (I.told script.new) (O.told out.old) (O.told out.new) }
-    ensures ended { result ≡ Status.Done →
-        ReadsToEnd (I.told script.old) (I.told script.new) }
-    ensures long { result ≡ Status.LongScript →
-        ReadsBytes (2 ^ 40) (I.told script.old) (I.told script.new) }
-    ensures script_failed { result ≡ Status.Script →
-        Rose (I.faults script.old) (I.faults script.new) }
-    ensures sink_failed { result ≡ Status.Sink → Rose (O.faults out.old) (O.faults out.new) }
-    ensures no_file { result ≡ Status.Files → ⊥ }
-    ensures no_words { result ≡ Status.Words → ⊥ }
-    ensures no_long_file { result ≡ Status.LongFile → ⊥ }
+    ensures caused { CausedWithin (Unit {0}) (Rose (I.faults script.old) (I.faults script.new))
+        (Rose (O.faults out.old) (O.faults out.new)) (I.told script.old) (I.told script.new)
+        result }
 {
     match answer_script(alloc, server, script, out, steps) {
         Ok(()) => Status::Done,
@@ -78,16 +70,9 @@ fn serve_program<D: Named, I: Source, O: Sink, L: Ledger>(
         WritesFor (λ text. I.told script.old ≡ Some text) result (λ text. done
         (served_bytes D.name (opening readings (engine_of settings.now) table.program) text))
         (I.told script.new) (O.told out.old) (O.told out.new) }
-    ensures ended { result ≡ Status.Done →
-        ReadsToEnd (I.told script.old) (I.told script.new) }
-    ensures long { result ≡ Status.LongScript →
-        ReadsBytes (2 ^ 40) (I.told script.old) (I.told script.new) }
-    ensures script_failed { result ≡ Status.Script →
-        Rose (I.faults script.old) (I.faults script.new) }
-    ensures sink_failed { result ≡ Status.Sink → Rose (O.faults out.old) (O.faults out.new) }
-    ensures no_file { result ≡ Status.Files → ⊥ }
-    ensures no_words { result ≡ Status.Words → ⊥ }
-    ensures no_long_file { result ≡ Status.LongFile → ⊥ }
+    ensures caused { CausedWithin (Unit {0}) (Rose (I.faults script.old) (I.faults script.new))
+        (Rose (O.faults out.old) (O.faults out.new)) (I.told script.old) (I.told script.new)
+        result }
 {
     match Server::start(alloc, domain, settings, memo, table) {
         Ok(mut server) => serve_lines(alloc, &mut server, script, out, steps),
@@ -104,12 +89,11 @@ fn batch_program<D: Named, O: Sink, L: Ledger>(
     out: &mut O,
     steps: &mut Steps<L>,
 ) -> Status
-    ensures status { EndsBy Status.Done result }
+    ensures ends { EndsBy Status.Done (Rose (O.faults out.old) (O.faults out.new)) result }
     ensures fits { Fits result 0 }
     ensures wrote { WritesOutput result
         (done (batch_bytes D.name (engine_of settings.now) program.now))
         (O.told out.old) (O.told out.new) }
-    ensures sink_failed { result ≡ Status.Sink → Rose (O.faults out.old) (O.faults out.new) }
 {
     let Ok(bytes) = listed(alloc, domain, settings, program, steps) else {
         return Status::Memory;
@@ -131,13 +115,12 @@ fn gen_program<D: Named, O: Sink, L: Ledger>(
     steps: &mut Steps<L>,
 ) -> Status
     requires numbered { IsNumbered table.program }
-    ensures status { EndsBy Status.Done result }
+    ensures ends { EndsBy Status.Done (Rose (O.faults out.old) (O.faults out.new)) result }
     ensures fits { Fits result 0 }
     ensures wrote { (readings : Readings) → WritesOutput result (done
         (gen_bytes D.name (opening readings (engine_of settings.now) table.program)
         drawn.seed drawn.size))
         (O.told out.old) (O.told out.new) }
-    ensures sink_failed { result ≡ Status.Sink → Rose (O.faults out.old) (O.faults out.new) }
 {
     let Ok(line) = summary(alloc, domain, settings, table, drawn, steps) else {
         return Status::Memory;
@@ -166,17 +149,11 @@ fn work_by<D: Named, I: Source, O: Sink, L: Ledger>(
         WritesFor (TellsServed (task_in work) (I.told script.old)) result
         (work_output readings settings.now work)
         (I.told script.new) (O.told out.old) (O.told out.new) }
-    ensures ended { result ≡ Status.Done → Serves (task_in work) →
-        ReadsToEnd (I.told script.old) (I.told script.new) }
     ensures unread { (Serves (task_in work) → ⊥) → script.new ≡ script.old }
-    ensures long { result ≡ Status.LongScript → Serves (task_in work) ×
-        ReadsBytes (2 ^ 40) (I.told script.old) (I.told script.new) }
-    ensures script_failed { result ≡ Status.Script →
-        Serves (task_in work) × Rose (I.faults script.old) (I.faults script.new) }
-    ensures sink_failed { result ≡ Status.Sink → Rose (O.faults out.old) (O.faults out.new) }
-    ensures no_file { result ≡ Status.Files → ⊥ }
-    ensures no_words { result ≡ Status.Words → ⊥ }
-    ensures no_long_file { result ≡ Status.LongFile → ⊥ }
+    ensures caused { CausedWithin (Serves (task_in work))
+        (Rose (I.faults script.old) (I.faults script.new))
+        (Rose (O.faults out.old) (O.faults out.new)) (I.told script.old) (I.told script.new)
+        result }
 {
     match work {
         Work::Serve { table, memo } => {
@@ -205,17 +182,11 @@ pub(crate) fn do_work<I: Source, O: Sink, L: Ledger>(
         WritesFor (TellsServed (task_in work) (I.told script.old)) result
         (work_output readings settings.now work)
         (I.told script.new) (O.told out.old) (O.told out.new) }
-    ensures ended { result ≡ Status.Done → Serves (task_in work) →
-        ReadsToEnd (I.told script.old) (I.told script.new) }
     ensures unread { (Serves (task_in work) → ⊥) → script.new ≡ script.old }
-    ensures long { result ≡ Status.LongScript → Serves (task_in work) ×
-        ReadsBytes (2 ^ 40) (I.told script.old) (I.told script.new) }
-    ensures script_failed { result ≡ Status.Script →
-        Serves (task_in work) × Rose (I.faults script.old) (I.faults script.new) }
-    ensures sink_failed { result ≡ Status.Sink → Rose (O.faults out.old) (O.faults out.new) }
-    ensures no_file { result ≡ Status.Files → ⊥ }
-    ensures no_words { result ≡ Status.Words → ⊥ }
-    ensures no_long_file { result ≡ Status.LongFile → ⊥ }
+    ensures caused { CausedWithin (Serves (task_in work))
+        (Rose (I.faults script.old) (I.faults script.new))
+        (Rose (O.faults out.old) (O.faults out.new)) (I.told script.old) (I.told script.new)
+        result }
 {
     match settings.domain {
         DomainName::Interval => work_by(alloc, Interval, settings, work, script, out, steps),

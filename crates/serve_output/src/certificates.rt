@@ -6,7 +6,7 @@ ghost use Rattle.cert_lines.specs.Theorem.{IsYesSound};
 ghost use Rattle.serve_answers.specs.Readings.{Readings};
 ghost use Rattle.serve_output.specs.declared.task.CertTask.TheVariants.{Check};
 ghost use Rattle.serve_output.specs.Domains.{IsYesSoundBy};
-ghost use Rattle.serve_output.specs.Ends.{EndsBy, EndsByFile, Fits, FitsIn, WritesIn, Wrote};
+ghost use Rattle.serve_output.specs.Ends.{CausedByFiles, EndsBy, Fits, FitsIn, WritesIn, Wrote};
 ghost use Rattle.serve_output.specs.Kept.{WrittenAreAccepted};
 ghost use Rattle.serve_output.specs.Sources.{source_of, IsProgramText};
 ghost use Rattle.serve_output.specs.Output.{cert_bytes, cert_output, done, of_source};
@@ -108,12 +108,11 @@ fn verify_line<L: Ledger>(
 
 /// Writes all that is to be written.
 fn write_done<O: Sink>(bytes: Result<Vec<u8>, Memory>, out: &mut O) -> Status
-    ensures status { EndsBy Status.Done result }
+    ensures ends { EndsBy Status.Done (Rose (O.faults out.old) (O.faults out.new)) result }
     ensures fits { Fits result 0 }
     ensures wrote { (all text taken : List ℕ) (rest : Option (List ℕ)) →
         IfOk bytes (λ v. v.items ≡ all) → O.told out.old ≡ Some taken →
         Wrote result (done all) text taken rest (O.told out.new) }
-    ensures sink_failed { result ≡ Status.Sink → Rose (O.faults out.old) (O.faults out.new) }
 {
     let Ok(bytes) = bytes else {
         return Status::Memory;
@@ -139,13 +138,10 @@ fn check_file<F: Files, O: Sink, L: Ledger>(
     ensures wrote { WritesIn (F.told files.old) result
         (λ folder. cert_output domain (Check name.now) folder program.now)
         (O.told out.old) (O.told out.new) }
-    ensures sink_failed { result ≡ Status.Sink → Rose (O.faults out.old) (O.faults out.new) }
-    ensures quiet { EndsByFile result → O.told out.new ≡ O.told out.old }
-    ensures files_failed { result ≡ Status.Files →
-        (Rose (F.faults files.old) (F.faults files.new)) ⊎ (Lacks (F.told files.old) name.now) }
-    ensures no_words { result ≡ Status.Words → ⊥ }
-    ensures no_script { result ≡ Status.Script → ⊥ }
-    ensures no_long_script { result ≡ Status.LongScript → ⊥ }
+    ensures caused { CausedByFiles (O.told out.new ≡ O.told out.old)
+        ((Rose (F.faults files.old) (F.faults files.new)) ⊎
+        (Lacks (F.told files.old) name.now))
+        (Rose (O.faults out.old) (O.faults out.new)) result }
 {
     match files.load(alloc, name, MOST_CERTIFICATE) {
         Ok(cert) => {
@@ -174,14 +170,10 @@ fn certify<F: Files, O: Sink, L: Ledger>(
     ensures wrote { WritesIn (F.told files.old) result
         (λ folder. cert_output domain task.now folder program.now)
         (O.told out.old) (O.told out.new) }
-    ensures sink_failed { result ≡ Status.Sink → Rose (O.faults out.old) (O.faults out.new) }
-    ensures quiet { EndsByFile result → O.told out.new ≡ O.told out.old }
-    ensures files_failed { result ≡ Status.Files →
-        (Rose (F.faults files.old) (F.faults files.new)) ⊎
-        (LacksCertificate (F.told files.old) task.now) }
-    ensures no_words { result ≡ Status.Words → ⊥ }
-    ensures no_script { result ≡ Status.Script → ⊥ }
-    ensures no_long_script { result ≡ Status.LongScript → ⊥ }
+    ensures caused { CausedByFiles (O.told out.new ≡ O.told out.old)
+        ((Rose (F.faults files.old) (F.faults files.new)) ⊎
+        (LacksCertificate (F.told files.old) task.now))
+        (Rose (O.faults out.old) (O.faults out.new)) result }
 {
     match task {
         CertTask::Write { widening, budget } => {
@@ -211,14 +203,10 @@ fn certify_source<F: Files, O: Sink, L: Ledger>(
     ensures wrote { (readings : Readings) → WritesIn (F.told files.old) result
         (λ folder. of_source (source_of readings source.now) (cert_output domain task.now folder))
         (O.told out.old) (O.told out.new) }
-    ensures sink_failed { result ≡ Status.Sink → Rose (O.faults out.old) (O.faults out.new) }
-    ensures quiet { EndsByFile result → O.told out.new ≡ O.told out.old }
-    ensures files_failed { result ≡ Status.Files →
-        (Rose (F.faults files.old) (F.faults files.new)) ⊎
-        (IsProgramText source.now × LacksCertificate (F.told files.old) task.now) }
-    ensures no_words { result ≡ Status.Words → ⊥ }
-    ensures no_script { result ≡ Status.Script → ⊥ }
-    ensures no_long_script { result ≡ Status.LongScript → ⊥ }
+    ensures caused { CausedByFiles (O.told out.new ≡ O.told out.old)
+        ((Rose (F.faults files.old) (F.faults files.new)) ⊎
+        (IsProgramText source.now × LacksCertificate (F.told files.old) task.now))
+        (Rose (O.faults out.old) (O.faults out.new)) result }
 {
     match read_checked(alloc, source) {
         Ok(program) => certify(alloc, domain, task, &program, files, out, steps),
@@ -242,14 +230,10 @@ pub fn run_certificate<F: Files, O: Sink, L: Ledger>(
     ensures wrote { (readings : Readings) → WritesIn (F.told files.old) result
         (λ folder. program_output readings (folder name.now) (cert_output domain task.now folder))
         (O.told out.old) (O.told out.new) }
-    ensures sink_failed { result ≡ Status.Sink → Rose (O.faults out.old) (O.faults out.new) }
-    ensures quiet { EndsByFile result → O.told out.new ≡ O.told out.old }
-    ensures files_failed { result ≡ Status.Files →
-        (Rose (F.faults files.old) (F.faults files.new)) ⊎
-        (LacksEither (F.told files.old) name.now task.now) }
-    ensures no_words { result ≡ Status.Words → ⊥ }
-    ensures no_script { result ≡ Status.Script → ⊥ }
-    ensures no_long_script { result ≡ Status.LongScript → ⊥ }
+    ensures caused { CausedByFiles (O.told out.new ≡ O.told out.old)
+        ((Rose (F.faults files.old) (F.faults files.new)) ⊎
+        (LacksEither (F.told files.old) name.now task.now))
+        (Rose (O.faults out.old) (O.faults out.new)) result }
 {
     match files.load(alloc, name, MOST_SOURCE) {
         Ok(source) => certify_source(alloc, domain, task, source.as_slice(), files, out, steps),
