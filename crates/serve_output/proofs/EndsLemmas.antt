@@ -1,10 +1,10 @@
 -- What an end comes of, from what the end of a part comes of.
-use Rattle.std.proofs.Common.{◌≡◌, ℕ, ◌⊎◌, inl, inr, List, Option, refl, arith}
+use Rattle.std.proofs.Common.{◌≡◌, ℕ, inl, inr, List, Option, refl, arith}
 use Rattle.serve_output.specs.declared.status.Status.{Status}
 use Rattle.serve_output.specs.declared.status.Status.TheVariants.{Done, Words, Source, Script, Sink, Memory, Files, LongScript, LongFile}
 use Rattle.serve_output.specs.Ends.{Caused, CausedByFiles, CausedWithin, EndsBy, Fits}
 
-module _ {words serves quiet file_fails script_fails sink_fails : Type 0} {script script' : Option (List ℕ)} where
+module _ (words serves quiet file_fails script_fails sink_fails : Type 0) (script script' : Option (List ℕ)) where
   -- all is written, unless a write fails
   pub caused_by_end : (wanted status : Status) → Caused words serves quiet file_fails script_fails sink_fails script script' wanted →
       EndsBy wanted sink_fails status → Caused words serves quiet file_fails script_fails sink_fails script script' status
@@ -50,25 +50,25 @@ module _ {words serves quiet file_fails script_fails sink_fails : Type 0} {scrip
   caused_for LongFile caused = caused
 
 -- other files may be at fault
-pub caused_by_more : {quiet file_fails more_fail sink_fails : Type 0} (status : Status) → (file_fails → more_fail) → CausedByFiles quiet file_fails sink_fails status → CausedByFiles quiet more_fail sink_fails status
-caused_by_more Done more caused = caused
-caused_by_more Words more caused = caused
-caused_by_more Source more caused = caused
-caused_by_more Script more caused = caused
-caused_by_more Sink more caused = caused
-caused_by_more Memory more caused = caused
-caused_by_more Files more caused = (caused.0, more caused.1)
-caused_by_more LongScript more caused = caused
-caused_by_more LongFile more caused = caused
+pub caused_by_more : (quiet file_fails more_fail sink_fails : Type 0) (status : Status) → (file_fails → more_fail) → CausedByFiles quiet file_fails sink_fails status → CausedByFiles quiet more_fail sink_fails status
+caused_by_more quiet file_fails more_fail sink_fails Done more caused = caused
+caused_by_more quiet file_fails more_fail sink_fails Words more caused = caused
+caused_by_more quiet file_fails more_fail sink_fails Source more caused = caused
+caused_by_more quiet file_fails more_fail sink_fails Script more caused = caused
+caused_by_more quiet file_fails more_fail sink_fails Sink more caused = caused
+caused_by_more quiet file_fails more_fail sink_fails Memory more caused = caused
+caused_by_more quiet file_fails more_fail sink_fails Files more caused = (caused.0, more caused.1)
+caused_by_more quiet file_fails more_fail sink_fails LongScript more caused = caused
+caused_by_more quiet file_fails more_fail sink_fails LongFile more caused = caused
 
 -- What ends without fail where no script is read and no file is loaded.
-pub ended : {script_fails sink_fails : Type 0} {script script' : Option (List ℕ)} (status : Status) → Fits status 0 → CausedWithin ⊥ script_fails sink_fails script script' status → EndsBy Done sink_fails status
-ended Done fits caused = inl refl
-ended Words fits caused = absurd caused
-ended Source fits caused = absurd (omega (arith, fits))
-ended Script fits caused = absurd caused.0
-ended Sink fits caused = inr (inl (refl, caused))
-ended Memory fits caused = inr (inr refl)
-ended Files fits caused = absurd caused.0
-ended LongScript fits caused = absurd caused.0
-ended LongFile fits caused = absurd caused
+pub ended : (script_fails sink_fails : Type 0) (script script' : Option (List ℕ)) (status : Status) → Fits status 0 → CausedWithin ⊥ script_fails sink_fails script script' status → EndsBy Done sink_fails status
+ended script_fails sink_fails script script' Done fits caused = inl refl
+ended script_fails sink_fails script script' Words fits caused = absurd caused
+ended script_fails sink_fails script script' Source fits caused = absurd (omega (arith, fits))
+ended script_fails sink_fails script script' Script fits caused = absurd caused.0
+ended script_fails sink_fails script script' Sink fits caused = inr (inl (refl, caused))
+ended script_fails sink_fails script script' Memory fits caused = inr (inr refl)
+ended script_fails sink_fails script script' Files fits caused = absurd caused.0
+ended script_fails sink_fails script script' LongScript fits caused = absurd caused.0
+ended script_fails sink_fails script script' LongFile fits caused = absurd caused

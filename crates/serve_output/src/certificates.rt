@@ -6,10 +6,10 @@ ghost use Rattle.cert_lines.specs.Theorem.{IsYesSound};
 ghost use Rattle.serve_answers.specs.Readings.{Readings};
 ghost use Rattle.serve_output.specs.declared.task.CertTask.TheVariants.{Check};
 ghost use Rattle.serve_output.specs.Domains.{IsYesSoundBy};
-ghost use Rattle.serve_output.specs.Ends.{CausedByFiles, EndsBy, Fits, FitsIn, WritesIn, Wrote};
+ghost use Rattle.serve_output.specs.Ends.{CausedByFiles, FitsIn, WritesIn};
 ghost use Rattle.serve_output.specs.Kept.{WrittenAreAccepted};
 ghost use Rattle.serve_output.specs.Sources.{source_of, IsProgramText};
-ghost use Rattle.serve_output.specs.Output.{cert_bytes, cert_output, done, of_source};
+ghost use Rattle.serve_output.specs.Output.{cert_bytes, cert_output, of_source};
 ghost use Rattle.serve_output.specs.Output.{program_output, verify_bytes};
 ghost use Rattle.serve_output.specs.Output.{LacksCertificate, LacksEither};
 
@@ -17,6 +17,7 @@ use crate::refusing::refuse_source;
 use crate::source::{MOST_SOURCE, SourceError, read_checked};
 use crate::status::Status;
 use crate::task::CertTask;
+use crate::writing::write_done;
 use base_counter::Steps;
 use base_values::Memory;
 use cert_accepted::{
@@ -32,9 +33,8 @@ use dom_listseg::ListSeg;
 use dom_octagon::Octagon;
 use imp_chains::Widening;
 use imp_table::Checked;
-use io_edge::{Failed, Files, LoadFault, Sink};
+use io_edge::{Files, LoadFault, Sink};
 use serve_command::SingleDomain;
-use serve_script::write_all;
 use std::alloc::Global;
 use std::sync::ledger::Ledger;
 
@@ -103,23 +103,6 @@ fn verify_line<L: Ledger>(
         SingleDomain::Interval => verify(alloc, &Interval, program, cert, steps),
         SingleDomain::Octagon => verify(alloc, &Octagon, program, cert, steps),
         SingleDomain::ListSeg => verify(alloc, &ListSeg, program, cert, steps),
-    }
-}
-
-/// Writes all that is to be written.
-fn write_done<O: Sink>(bytes: Result<Vec<u8>, Memory>, out: &mut O) -> Status
-    ensures ends { EndsBy Status.Done (Rose (O.faults out.old) (O.faults out.new)) result }
-    ensures fits { Fits result 0 }
-    ensures wrote { (all text taken : List ℕ) (rest : Option (List ℕ)) →
-        IfOk bytes (λ v. v.items ≡ all) → O.told out.old ≡ Some taken →
-        Wrote result (done all) text taken rest (O.told out.new) }
-{
-    let Ok(bytes) = bytes else {
-        return Status::Memory;
-    };
-    match write_all(out, bytes.as_slice()) {
-        Ok(()) => Status::Done,
-        Err(Failed) => Status::Sink,
     }
 }
 

@@ -52,27 +52,27 @@ returns-in-Ok-Verify-clause-wrote g c = λ readings folder text taken told scrip
 pub returns-in-Ok-Serve-clause-caused : goal.returns-in-Ok-Serve-clause-caused
 returns-in-Ok-Serve-clause-caused g c =
     let is = rw c.in-Ok-Serve.field-0-is at (c.in-Ok-Serve.ensures {u = tt}).job in
-    rw is (caused_for c.run_file.result (rw c.as_str-name.ensures.is at c.run_file.ensures.caused))
+    rw is (caused_for _ _ _ _ _ _ _ _ c.run_file.result (rw c.as_str-name.ensures.is at c.run_file.ensures.caused))
 
 pub returns-in-Ok-Batch-clause-caused : goal.returns-in-Ok-Batch-clause-caused
 returns-in-Ok-Batch-clause-caused g c =
     let is = rw c.in-Ok-Batch.field-0-is at (c.in-Ok-Batch.ensures {u = tt}).job in
-    rw is (caused_for c.run_file-in-Ok-Batch.result (rw c.as_str-name-in-Ok-Batch.ensures.is at c.run_file-in-Ok-Batch.ensures.caused))
+    rw is (caused_for _ _ _ _ _ _ _ _ c.run_file-in-Ok-Batch.result (rw c.as_str-name-in-Ok-Batch.ensures.is at c.run_file-in-Ok-Batch.ensures.caused))
 
 pub returns-in-Ok-Gen-clause-caused : goal.returns-in-Ok-Gen-clause-caused
 returns-in-Ok-Gen-clause-caused g c =
     let is = rw c.in-Ok-Gen.field-0-is at (c.in-Ok-Gen.ensures {u = tt}).job in
-    rw is (caused_by_end Done c.run_generated.result (λ serves. absurd serves) c.run_generated.ensures.ends)
+    rw is (caused_by_end _ _ _ _ _ _ _ _ Done c.run_generated.result (λ serves. absurd serves) c.run_generated.ensures.ends)
 
 pub returns-in-Ok-Cert-clause-caused : goal.returns-in-Ok-Cert-clause-caused
 returns-in-Ok-Cert-clause-caused g c =
     let is = rw c.in-Ok-Cert.field-0-is at (c.in-Ok-Cert.ensures {u = tt}).job in
-    rw is (caused_by_files c.run_certificate.result (λ serves. serves) (rw c.as_str-name-in-Ok-Cert.ensures.is at c.run_certificate.ensures.caused))
+    rw is (caused_by_files _ _ _ _ _ _ _ _ c.run_certificate.result (λ serves. serves) (rw c.as_str-name-in-Ok-Cert.ensures.is at c.run_certificate.ensures.caused))
 
 pub returns-in-Ok-Verify-clause-caused : goal.returns-in-Ok-Verify-clause-caused
 returns-in-Ok-Verify-clause-caused g c =
     let is = rw c.in-Ok-Verify.field-0-is at (c.in-Ok-Verify.ensures {u = tt}).job in
-    rw is (caused_by_files c.run_certificate-in-Ok-Verify.result (λ serves. serves) (rw c.as_str-name-in-Ok-Verify.ensures.is at c.run_certificate-in-Ok-Verify.ensures.caused))
+    rw is (caused_by_files _ _ _ _ _ _ _ _ c.run_certificate-in-Ok-Verify.result (λ serves. serves) (rw c.as_str-name-in-Ok-Verify.ensures.is at c.run_certificate-in-Ok-Verify.ensures.caused))
 
 pub returns-in-Err-Refused-clause-caused : goal.returns-in-Err-Refused-clause-caused
-returns-in-Err-Refused-clause-caused g c = caused_by_end Words c.refuse_words.result ? c.refuse_words.ensures.ends
+returns-in-Err-Refused-clause-caused g c = caused_by_end _ _ _ _ _ _ _ _ Words c.refuse_words.result ? c.refuse_words.ensures.ends

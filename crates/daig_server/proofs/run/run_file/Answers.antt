@@ -14,4 +14,4 @@ returns-in-Ok-clause-wrote g c = λ readings folder text taken told script sink.
     (λ serves program is. script serves program (loaded readings (g.F.Files.told c.args.files.now) folder c.args.name.now c.in-Ok.source.items program told (c.in-Ok.ensures {u = tt}).bytes (c.in-Ok.ensures {u = tt}).fits (rw c.as_slice.ensures.value at is))) sink))
 
 pub returns-in-Ok-clause-caused : goal.returns-in-Ok-clause-caused
-returns-in-Ok-clause-caused g c = caused_within c.run_source.result c.run_source.ensures.caused
+returns-in-Ok-clause-caused g c = caused_within _ _ _ _ _ _ _ _ c.run_source.result c.run_source.ensures.caused

@@ -13,4 +13,4 @@ returns-clause-ends g c =
     let readings = c.texts_are_read.ensures.there in
     let source = c.as_slice-source.ensures.value ∙ (c.in-Ok.ensures {u = tt}).text in
     let accepted = ap (source_of readings) source ∙ generated_accepted c.each_text_has_one_answer.ensures.program c.sources_are_accepted.ensures.read c.sources_are_accepted.ensures.faultless readings c.args.drawn.seed c.args.drawn.size c.requires.few in
-    ended c.run_source.result (rw accepted at (c.run_source.ensures.fits readings [])) c.run_source.ensures.caused
+    ended _ _ _ _ c.run_source.result (rw accepted at (c.run_source.ensures.fits readings [])) c.run_source.ensures.caused

@@ -25,4 +25,4 @@ pub returns-in-Ok-clause-caused : goal.returns-in-Ok-clause-caused
 returns-in-Ok-clause-caused g c = rw (c.in-Ok.ensures {u = tt}).task at c.do_work.ensures.caused
 
 pub returns-in-Err-Refused-clause-caused : goal.returns-in-Err-Refused-clause-caused
-returns-in-Err-Refused-clause-caused g c = caused_by_end Source c.refuse_source.result tt c.refuse_source.ensures.ends
+returns-in-Err-Refused-clause-caused g c = caused_by_end _ _ _ _ _ _ _ _ Source c.refuse_source.result tt c.refuse_source.ensures.ends

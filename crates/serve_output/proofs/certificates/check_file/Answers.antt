@@ -17,4 +17,4 @@ returns-in-Ok-clause-wrote g c = λ folder text taken rest told sink.
     (c.write_done.ensures.wrote (verify_bytes c.args.domain c.args.program.now c.in-Ok.cert.items) text taken rest (rw c.as_slice.ensures.value at c.verify_line-line.ensures.bytes) sink)
 
 pub returns-in-Ok-clause-caused : goal.returns-in-Ok-clause-caused
-returns-in-Ok-clause-caused g c = caused_by_end Done c.write_done.result (λ serves. absurd serves) c.write_done.ensures.ends
+returns-in-Ok-clause-caused g c = caused_by_end _ _ _ _ _ _ _ _ Done c.write_done.result (λ serves. absurd serves) c.write_done.ensures.ends

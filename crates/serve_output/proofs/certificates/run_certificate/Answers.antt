@@ -18,6 +18,6 @@ returns-in-Ok-clause-wrote g c = λ readings folder text taken rest told sink.
     (rw c.as_slice.ensures.value at (c.certify_source.ensures.wrote readings folder text taken rest (c.load.ensures.stays ∙ told) sink))
 
 pub returns-in-Ok-clause-caused : goal.returns-in-Ok-clause-caused
-returns-in-Ok-clause-caused g c = caused_by_more c.certify_source.result (λ fails.
+returns-in-Ok-clause-caused g c = caused_by_more _ _ _ _ c.certify_source.result (λ fails.
     files_lack _ _ c.args.name.now c.in-Ok.source.items c.args.task.now _ _ _ c.load.ensures.stays c.load.ensures.never_falls
     (c.in-Ok.ensures {u = tt}).bytes (c.in-Ok.ensures {u = tt}).fits (rw c.as_slice.ensures.value at fails)) c.certify_source.ensures.caused
