@@ -75,4 +75,4 @@ returns-in-Ok-Verify-clause-caused g c =
     rw is (caused_by_files _ _ _ _ _ _ _ _ c.run_certificate-in-Ok-Verify.result (λ serves. serves) (rw c.as_str-name-in-Ok-Verify.ensures.is at c.run_certificate-in-Ok-Verify.ensures.caused))
 
 pub returns-in-Err-Refused-clause-caused : goal.returns-in-Err-Refused-clause-caused
-returns-in-Err-Refused-clause-caused g c = caused_by_end _ _ _ _ _ _ _ _ Words c.refuse_words.result ? c.refuse_words.ensures.ends
+returns-in-Err-Refused-clause-caused g c = caused_by_end _ _ _ _ _ _ _ _ Words c.refuse_words.result ((c.in-Err-Refused.ensures {u = tt}).refused c.in-Err-Refused.field-0-is) c.refuse_words.ensures.ends
