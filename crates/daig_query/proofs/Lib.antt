@@ -21,6 +21,7 @@ pub mod Stacked
 pub mod Running
 pub mod Turns
 pub mod Starting
+pub mod Rowing
 pub mod Tops
 pub mod Turning
 pub mod Demands

@@ -6,6 +6,7 @@ pub mod Recalled
 pub mod Overs
 pub mod Opened
 pub mod Looked
+pub mod Rowed
 pub mod Walked
 pub mod Filled
 pub mod Turned

@@ -1,9 +1,12 @@
 //! Filling the missing cells of a demand, for the clauses of `advance` and `demand`.
-ghost use Rattle.std.specs.Prelude.{◌≡◌, ◌+◌, ◌*◌, ◌<◌, ◌≤◌, ◌↔◌, [], ◌∷◌, ◌++◌, Some, true, false, suc, length, map, min, vec_len, IfOk, IfErr, IfSome, IsTrue, OnErr, OnOk};
+ghost use Rattle.std.specs.Prelude.{◌≡◌, ◌+◌, ◌*◌, ◌<◌, ◌≤◌, ◌↔◌, [], ◌∷◌, ◌++◌, Some, true, false, suc, length, map, min, vec_len, IfOk, IfErr, IfSome, IsSome, IsTrue, OnErr, OnOk};
+ghost use Rattle.cell_names.specs.Paths.{name_in};
 ghost use Rattle.cell_rows.specs.Targets.{Target as PlainTarget};
 ghost use Rattle.imp_flow.specs.Reached.{target_of};
 ghost use Rattle.daig_query.specs.Kept.{AddsNoCell, Grows, Names as OnlyNames};
 ghost use Rattle.daig_query.specs.Right.{IsRight};
+ghost use Rattle.daig_query.specs.Opened.{row_at};
+ghost use Rattle.daig_query.specs.Rowed.{HasRows, HasTopRow, AddsRow};
 ghost use Rattle.daig_query.specs.Looked.{HasFurtherTop, IsTopAt, LooksAtTop};
 ghost use Rattle.daig_query.specs.Walked.{AreTargets, IsDone, IsGood, IsPlaced};
 ghost use Rattle.daig_query.specs.Filled.{cells_added, missing, Fills};
@@ -14,10 +17,12 @@ use crate::opening::{Absent, Open, fill, next_absent, opened, row_of};
 use crate::store::Store;
 use crate::walk::{Walk, next_demanded};
 use base_values::Memory;
+use cell_names::{Name, Names};
 use domain_laws::{Domain, Steps};
 use imp_flow::{Flow, Target};
 use imp_flow_rows::Row;
 use std::alloc::Global;
+use std::hash::Hash;
 use std::sync::ledger::Ledger;
 
 /// How many cells were filled, and whether none is missing any more.
@@ -119,15 +124,105 @@ fn take_top(stack: &mut Vec<Open>) -> Open
     }
 }
 
+/// A row more.
+fn put_one<'a>(rows: &mut Vec<Row<'a>>, row: Row<'a>) -> Result<(), Memory>
+    ensures added { OnOk result (rows.new.items ≡ rows.old.items ++ row.entry ∷ []) }
+{
+    rows.push(row)?;
+    Ok(())
+}
+
+/// A row more.
+fn put_two<'a>(rows: &mut Vec<Row<'a>>, row: &Row<'a>) -> Result<(), Memory>
+    ensures added { OnOk result (rows.new.items ≡ rows.old.items ++ row.now ∷ []) }
+{
+    rows.push(*row)?;
+    Ok(())
+}
+
+/// The row of one name more, after the others.
+#[inline]
+fn push_row<'a>(
+    flow: &'a Flow<'_>,
+    names: &Names,
+    name: &Name,
+    rows: &mut Vec<Row<'a>>,
+) -> Result<(), Memory>
+    requires there { name.now.path < length names.now.paths }
+    requires row { IsSome (row_at flow.now (name_in names.now.paths name.now)) }
+    ensures added { OnOk result (AddsRow flow.now (name_in names.now.paths name.now)
+        rows.old.items rows.new.items) }
+{
+    match row_of(flow, names, name) {
+        None => unreachable!(),
+        Some(row) => put_one(rows, row),
+    }
+}
+
+/// The row of the name on top, where no rows are kept.
+#[cold]
+#[inline(never)]
+fn push_top_row<'a, S: Eq + Hash>(
+    flow: &'a Flow<'_>,
+    store: &Store<S>,
+    stack: &[Open],
+    rows: &mut Vec<Row<'a>>,
+) -> Result<(), Memory>
+    requires some { 0 < length stack.now }
+    requires top { HasTopRow flow.now store.now stack.now }
+    requires none { rows.old.items ≡ [] }
+    ensures some { OnOk result (0 < vec_len rows.new) }
+    ensures rows { OnOk result (HasRows flow.now (stacked_names store.now stack.now)
+        rows.new.items) }
+{
+    let top = &stack[stack.len() - 1];
+    push_row(flow, &store.names, &top.name, rows)
+}
+
+/// The row of the name on top is kept, also where that was pushed before this demand.
+#[inline]
+fn keep_top_row<'a, S: Eq + Hash>(
+    flow: &'a Flow<'_>,
+    store: &Store<S>,
+    stack: &[Open],
+    rows: &mut Vec<Row<'a>>,
+) -> Result<(), Memory>
+    requires some { 0 < length stack.now }
+    requires top { HasTopRow flow.now store.now stack.now }
+    requires rows { HasRows flow.now (stacked_names store.now stack.now) rows.old.items }
+    ensures some { OnOk result (0 < vec_len rows.new) }
+    ensures rows { OnOk result (HasRows flow.now (stacked_names store.now stack.now)
+        rows.new.items) }
+{
+    if rows.is_empty() {
+        push_top_row(flow, store, stack, rows)
+    } else {
+        Ok(())
+    }
+}
+
+/// The last row is taken off.
+#[inline]
+fn drop_row(rows: &mut Vec<Row<'_>>)
+    requires some { 0 < vec_len rows.old }
+    ensures last { (row : _) × (rows.old.items ≡ rows.new.items ++ row ∷ []) }
+{
+    match rows.pop() {
+        Some(_) => {}
+        None => unreachable!(),
+    }
+}
+
 /// With a name on top of the stack: its first missing input is pushed on it, or it is filled, taken off and handed down.
 #[inline]
-fn turn_open<D: Domain, L: Ledger>(
+fn turn_open<'a, D: Domain, L: Ledger>(
     alloc: Global,
     dom: &D,
-    flow: &Flow<'_>,
+    flow: &'a Flow<'_>,
     store: &mut Store<D::State>,
     targets: &[Target],
     walk: &mut Walk,
+    rows: &mut Vec<Row<'a>>,
     spent: bool,
     steps: &mut Steps<L>,
 ) -> Result<AdvanceResult, Memory>
@@ -136,6 +231,8 @@ fn turn_open<D: Domain, L: Ledger>(
         walk.old }
     requires some { 0 < vec_len walk.old.stack }
     requires absent { IsTopAbsent store.old walk.old.stack.items }
+    requires rows { HasRows flow.now (stacked_names store.old walk.old.stack.items)
+        rows.old.items }
     ensures right { IsRight (D.operations dom.now) flow.now store.new }
     ensures grows { Grows store.old store.new }
     ensures walk { IsGood (D.operations dom.now) flow.now (map target_of targets.now) store.new
@@ -143,6 +240,8 @@ fn turn_open<D: Domain, L: Ledger>(
     ensures turns { IfOk result (Turns (D.operations dom.now) flow.now
         (map target_of targets.now) store.old store.new
         (stacked_names store.old walk.old.stack.items) walk.new) }
+    ensures rows { IfOk result (λ turn. HasRows flow.now
+        (stacked_names store.new walk.new.stack.items) rows.new.items) }
     ensures obeys { IfOk result (Obeys spent) }
     ensures err { OnErr result (AddsNoCell store.old store.new) }
     ensures least { steps.old ≤ steps.new }
@@ -150,10 +249,10 @@ fn turn_open<D: Domain, L: Ledger>(
         * fills_of turn) }
     ensures most { steps.new ≤ steps.old + D.counted dom.now }
 {
-    let top = &walk.stack[walk.stack.len() - 1];
-    let found = row_of(flow, &store.names, &top.name);
-    let Some(row) = &found else { unreachable!() };
+    keep_top_row(flow, store, walk.stack.as_slice(), rows)?;
+    let row = &rows[rows.len() - 1];
     if let Some(absent) = look_at_top(dom, flow, store, row, &mut walk.stack)? {
+        push_row(flow, &store.names, &absent.name, rows)?;
         walk.stack.push(opened(alloc, absent.cell, &absent.name))?;
         return Ok(AdvanceResult::Pushed);
     }
@@ -164,18 +263,20 @@ fn turn_open<D: Domain, L: Ledger>(
     let cell = entry.cell;
     fill(alloc, dom, flow, store, row, entry, steps)?;
     hand_down(&mut walk.stack, cell);
+    drop_row(rows);
     Ok(AdvanceResult::Filled)
 }
 
 /// A turn of the machine. Where `spent`, nothing is filled.
 #[inline]
-fn take_turn<D: Domain, L: Ledger>(
+fn take_turn<'a, D: Domain, L: Ledger>(
     alloc: Global,
     dom: &D,
-    flow: &Flow<'_>,
+    flow: &'a Flow<'_>,
     store: &mut Store<D::State>,
     targets: &[Target],
     walk: &mut Walk,
+    rows: &mut Vec<Row<'a>>,
     spent: bool,
     steps: &mut Steps<L>,
 ) -> Result<AdvanceResult, Memory>
@@ -184,6 +285,8 @@ fn take_turn<D: Domain, L: Ledger>(
     requires walk { IsGood (D.operations dom.now) flow.now (map target_of targets.now) store.old
         walk.old }
     requires absent { IsTopAbsent store.old walk.old.stack.items }
+    requires rows { HasRows flow.now (stacked_names store.old walk.old.stack.items)
+        rows.old.items }
     ensures right { IsRight (D.operations dom.now) flow.now store.new }
     ensures grows { Grows store.old store.new }
     ensures walk { IsGood (D.operations dom.now) flow.now (map target_of targets.now) store.new
@@ -191,6 +294,8 @@ fn take_turn<D: Domain, L: Ledger>(
     ensures turns { IfOk result (Turns (D.operations dom.now) flow.now
         (map target_of targets.now) store.old store.new
         (stacked_names store.old walk.old.stack.items) walk.new) }
+    ensures rows { IfOk result (λ turn. HasRows flow.now
+        (stacked_names store.new walk.new.stack.items) rows.new.items) }
     ensures obeys { IfOk result (Obeys spent) }
     ensures err { OnErr result (AddsNoCell store.old store.new) }
     ensures least { steps.old ≤ steps.new }
@@ -201,7 +306,7 @@ fn take_turn<D: Domain, L: Ledger>(
     if walk.stack.is_empty() {
         turn_walk(alloc, dom, flow, store, targets, walk)
     } else {
-        turn_open(alloc, dom, flow, store, targets, walk, spent, steps)
+        turn_open(alloc, dom, flow, store, targets, walk, rows, spent, steps)
     }
 }
 
@@ -240,11 +345,12 @@ fn fill_missing<D: Domain, L: Ledger>(
         * suc (cells_added store.old store.new) }
 {
     walk.drop_filled(&store.graph);
+    let mut rows = Vec::new(alloc);
     let before = store.graph.kept_count();
     'turns: loop {
         let filled = store.graph.kept_count() - before;
         let spent = limit == Some(filled);
-        match take_turn(alloc, dom, flow, store, targets, walk, spent, steps)? {
+        match take_turn(alloc, dom, flow, store, targets, walk, &mut rows, spent, steps)? {
             AdvanceResult::Pushed => {}
             AdvanceResult::Filled => {}
             AdvanceResult::Spent => {

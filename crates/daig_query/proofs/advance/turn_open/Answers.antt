@@ -13,32 +13,6 @@ use Rattle.daig_query.proofs.Tops.{open_at_end, lacks_row, good_rest, good_entry
 use Rattle.daig_query.proofs.Turning.{turn_failed, turn_pushed, turn_spent, turn_unfilled, turn_filled}
 use Rattle.daig_query.proofs.advance.turn_open.Goals as goal
 
-pub row_of-found-requires : goal.row_of-found-requires
-row_of-found-requires g c =
-    let dom = g.D.Domain.operations c.args.dom.now in
-    let plan = c.args.flow.now in
-    let ts = map target_of c.args.targets.now in
-    let old = c.args.store.now in
-    let w = c.args.walk.now in
-    let stack = w.stack in
-    let top = c.index-top.result.now in
-    let p = last_set stack.items top top (c.len.result - 1) (omega (arith, stack.ok, c.len.ensures, c.requires.some)) in
-    let split : stack.items ≡ p.0 ++ top ∷ [] = p.1 ∙ ap (λ o. p.0 ++ o ∷ []) (sym c.index-top.ensures) in
-    record { there = (open_at_end dom plan old (place_of ts old w) p.0 top (subst (AreStacked dom plan old (place_of ts old w)) split c.requires.walk.stacked)).path }
-
-pub unreachable-requires : goal.unreachable-requires
-unreachable-requires g c =
-    let dom = g.D.Domain.operations c.args.dom.now in
-    let plan = c.args.flow.now in
-    let ts = map target_of c.args.targets.now in
-    let old = c.args.store.now in
-    let w = c.args.walk.now in
-    let stack = w.stack in
-    let top = c.index-top.result.now in
-    let p = last_set stack.items top top (c.len.result - 1) (omega (arith, stack.ok, c.len.ensures, c.requires.some)) in
-    let split : stack.items ≡ p.0 ++ top ∷ [] = p.1 ∙ ap (λ o. p.0 ++ o ∷ []) (sym c.index-top.ensures) in
-    lacks_row dom plan old top c.requires.right (open_at_end dom plan old (place_of ts old w) p.0 top (subst (AreStacked dom plan old (place_of ts old w)) split c.requires.walk.stacked)) (sym c.row_of-found.ensures.is ∙ ap (option_map (row_in (name_of old top).path)) c.in_default.is)
-
 pub look_at_top-requires-clause-top : goal.look_at_top-requires-clause-top
 look_at_top-requires-clause-top g c =
     let dom = g.D.Domain.operations c.args.dom.now in
@@ -50,12 +24,12 @@ look_at_top-requires-clause-top g c =
     let top = c.index-top.result.now in
     let p = last_set stack.items top top (c.len.result - 1) (omega (arith, stack.ok, c.len.ensures, c.requires.some)) in
     let split : stack.items ≡ p.0 ++ top ∷ [] = p.1 ∙ ap (λ o. p.0 ++ o ∷ []) (sym c.index-top.ensures) in
-    let is_row : IsRowOf plan (name_of old top) c.in-Some.row = sym c.row_of-found.ensures.is ∙ ap (option_map (row_in (name_of old top).path)) c.in-Some.is in
+    let is_row : IsRowOf plan (name_of old top) c.index-row.result.now = sym c.row_of-found.ensures.is ∙ ap (option_map (row_in (name_of old top).path)) c.in-Some.is in
     λ rest u e.
     record {
       right = c.requires.right;
       entry = open_at_end dom plan old (place_of ts old w) rest u (subst (AreStacked dom plan old (place_of ts old w)) e c.requires.walk.stacked);
-      its_row = subst (λ o. IsRowOf plan (name_of old o) c.in-Some.row) (same_last p.0 rest top u (sym split ∙ e)).1 is_row;
+      its_row = subst (λ o. IsRowOf plan (name_of old o) c.index-row.result.now) (same_last p.0 rest top u (sym split ∙ e)).1 is_row;
     }
 
 pub returns-in_err-absent : goal.returns-in_err-absent
@@ -70,7 +44,7 @@ returns-in_err-absent g c =
     let os = s.rest in
     let top = s.top in
     let entry = s.entry in
-    let row = c.in-Some.row in
+    let row = c.index-row.result.now in
     let right = c.look_at_top.ensures.right in
     let names = c.look_at_top.ensures.names in
     let stacked = subst (AreStacked dom plan old (place_of ts old w)) s.before c.requires.walk.stacked in
@@ -86,7 +60,7 @@ pub returns-in_err-push : goal.returns-in_err-push
 returns-in_err-push g c =
     let dom = g.D.Domain.operations c.args.dom.now in
     let plan = c.args.flow.now in
-    let looks = subst (LooksAtTop dom plan c.look_at_top.new.store c.in-Some.row c.args.walk.now.stack.items c.look_at_top.new.stack.items) c.in-Some-2.is c.in_ok-absent.ensures.looks in
+    let looks = subst (LooksAtTop dom plan c.look_at_top.new.store c.index-row.result.now c.args.walk.now.stack.items c.look_at_top.new.stack.items) c.in-Some.is c.in_ok-absent.ensures.looks in
     let ts = map target_of c.args.targets.now in
     let old = c.args.store.now in
     let mid = c.look_at_top.new.store in
@@ -95,7 +69,7 @@ returns-in_err-push g c =
     let os = s.rest in
     let top = s.top in
     let entry = s.entry in
-    let row = c.in-Some.row in
+    let row = c.index-row.result.now in
     let right = c.look_at_top.ensures.right in
     let names = c.look_at_top.ensures.names in
     let stacked = subst (AreStacked dom plan old (place_of ts old w)) s.before c.requires.walk.stacked in
@@ -111,7 +85,7 @@ pub returns-in-Some-2 : goal.returns-in-Some-2
 returns-in-Some-2 g c =
     let dom = g.D.Domain.operations c.args.dom.now in
     let plan = c.args.flow.now in
-    let looks = subst (LooksAtTop dom plan c.look_at_top.new.store c.in-Some.row c.args.walk.now.stack.items c.look_at_top.new.stack.items) c.in-Some-2.is c.in_ok-absent.ensures.looks in
+    let looks = subst (LooksAtTop dom plan c.look_at_top.new.store c.index-row.result.now c.args.walk.now.stack.items c.look_at_top.new.stack.items) c.in-Some.is c.in_ok-absent.ensures.looks in
     let ts = map target_of c.args.targets.now in
     let old = c.args.store.now in
     let mid = c.look_at_top.new.store in
@@ -120,13 +94,13 @@ returns-in-Some-2 g c =
     let os = s.rest in
     let top = s.top in
     let entry = s.entry in
-    let row = c.in-Some.row in
+    let row = c.index-row.result.now in
     let right = c.look_at_top.ensures.right in
     let names = c.look_at_top.ensures.names in
     let stacked = subst (AreStacked dom plan old (place_of ts old w)) s.before c.requires.walk.stacked in
     let before = stacked_names old (os ++ top ∷ []) in
     let each = g.D.Domain.counted c.args.dom.now in
-    let u = unfound c.in-Some-2.absent in
+    let u = unfound c.in-Some.absent in
     let new = record w { stack = c.push.new.self } in
     let e = c.in_ok-push.ensures.items ∙ ap (λ xs. xs ++ c.opened.result ∷ []) s.after ∙ ap (λ o. (os ++ entry ∷ []) ++ o ∷ []) c.opened.ensures.is in
     let good = good_pushed dom plan ts old mid w os top c.requires.right right names c.requires.walk.placed stacked row entry u s.further looks.next new refl refl refl refl e in
@@ -138,7 +112,7 @@ pub returns-then-spent : goal.returns-then-spent
 returns-then-spent g c =
     let dom = g.D.Domain.operations c.args.dom.now in
     let plan = c.args.flow.now in
-    let looks = subst (LooksAtTop dom plan c.look_at_top.new.store c.in-Some.row c.args.walk.now.stack.items c.look_at_top.new.stack.items) c.in_default-2.is c.in_ok-absent.ensures.looks in
+    let looks = subst (LooksAtTop dom plan c.look_at_top.new.store c.index-row.result.now c.args.walk.now.stack.items c.look_at_top.new.stack.items) c.in_default.is c.in_ok-absent.ensures.looks in
     let ts = map target_of c.args.targets.now in
     let old = c.args.store.now in
     let mid = c.look_at_top.new.store in
@@ -147,7 +121,7 @@ returns-then-spent g c =
     let os = s.rest in
     let top = s.top in
     let entry = s.entry in
-    let row = c.in-Some.row in
+    let row = c.index-row.result.now in
     let right = c.look_at_top.ensures.right in
     let names = c.look_at_top.ensures.names in
     let stacked = subst (AreStacked dom plan old (place_of ts old w)) s.before c.requires.walk.stacked in
@@ -163,7 +137,7 @@ pub take_top-entry-requires : goal.take_top-entry-requires
 take_top-entry-requires g c =
     let dom = g.D.Domain.operations c.args.dom.now in
     let plan = c.args.flow.now in
-    let looks = subst (LooksAtTop dom plan c.look_at_top.new.store c.in-Some.row c.args.walk.now.stack.items c.look_at_top.new.stack.items) c.in_default-2.is c.in_ok-absent.ensures.looks in
+    let looks = subst (LooksAtTop dom plan c.look_at_top.new.store c.index-row.result.now c.args.walk.now.stack.items c.look_at_top.new.stack.items) c.in_default.is c.in_ok-absent.ensures.looks in
     let ts = map target_of c.args.targets.now in
     let old = c.args.store.now in
     let mid = c.look_at_top.new.store in
@@ -172,7 +146,7 @@ take_top-entry-requires g c =
     let os = s.rest in
     let top = s.top in
     let entry = s.entry in
-    let row = c.in-Some.row in
+    let row = c.index-row.result.now in
     let right = c.look_at_top.ensures.right in
     let names = c.look_at_top.ensures.names in
     let stacked = subst (AreStacked dom plan old (place_of ts old w)) s.before c.requires.walk.stacked in
@@ -186,7 +160,7 @@ pub fill-requires : goal.fill-requires
 fill-requires g c =
     let dom = g.D.Domain.operations c.args.dom.now in
     let plan = c.args.flow.now in
-    let looks = subst (LooksAtTop dom plan c.look_at_top.new.store c.in-Some.row c.args.walk.now.stack.items c.look_at_top.new.stack.items) c.in_default-2.is c.in_ok-absent.ensures.looks in
+    let looks = subst (LooksAtTop dom plan c.look_at_top.new.store c.index-row.result.now c.args.walk.now.stack.items c.look_at_top.new.stack.items) c.in_default.is c.in_ok-absent.ensures.looks in
     let ts = map target_of c.args.targets.now in
     let old = c.args.store.now in
     let mid = c.look_at_top.new.store in
@@ -195,7 +169,7 @@ fill-requires g c =
     let os = s.rest in
     let top = s.top in
     let entry = s.entry in
-    let row = c.in-Some.row in
+    let row = c.index-row.result.now in
     let right = c.look_at_top.ensures.right in
     let names = c.look_at_top.ensures.names in
     let stacked = subst (AreStacked dom plan old (place_of ts old w)) s.before c.requires.walk.stacked in
@@ -213,7 +187,7 @@ pub returns-in_err-fill : goal.returns-in_err-fill
 returns-in_err-fill g c =
     let dom = g.D.Domain.operations c.args.dom.now in
     let plan = c.args.flow.now in
-    let looks = subst (LooksAtTop dom plan c.look_at_top.new.store c.in-Some.row c.args.walk.now.stack.items c.look_at_top.new.stack.items) c.in_default-2.is c.in_ok-absent.ensures.looks in
+    let looks = subst (LooksAtTop dom plan c.look_at_top.new.store c.index-row.result.now c.args.walk.now.stack.items c.look_at_top.new.stack.items) c.in_default.is c.in_ok-absent.ensures.looks in
     let ts = map target_of c.args.targets.now in
     let old = c.args.store.now in
     let mid = c.look_at_top.new.store in
@@ -222,7 +196,7 @@ returns-in_err-fill g c =
     let os = s.rest in
     let top = s.top in
     let entry = s.entry in
-    let row = c.in-Some.row in
+    let row = c.index-row.result.now in
     let right = c.look_at_top.ensures.right in
     let names = c.look_at_top.ensures.names in
     let stacked = subst (AreStacked dom plan old (place_of ts old w)) s.before c.requires.walk.stacked in
@@ -241,7 +215,7 @@ pub returns : goal.returns
 returns g c =
     let dom = g.D.Domain.operations c.args.dom.now in
     let plan = c.args.flow.now in
-    let looks = subst (LooksAtTop dom plan c.look_at_top.new.store c.in-Some.row c.args.walk.now.stack.items c.look_at_top.new.stack.items) c.in_default-2.is c.in_ok-absent.ensures.looks in
+    let looks = subst (LooksAtTop dom plan c.look_at_top.new.store c.index-row.result.now c.args.walk.now.stack.items c.look_at_top.new.stack.items) c.in_default.is c.in_ok-absent.ensures.looks in
     let ts = map target_of c.args.targets.now in
     let old = c.args.store.now in
     let mid = c.look_at_top.new.store in
@@ -250,7 +224,7 @@ returns g c =
     let os = s.rest in
     let top = s.top in
     let entry = s.entry in
-    let row = c.in-Some.row in
+    let row = c.index-row.result.now in
     let right = c.look_at_top.ensures.right in
     let names = c.look_at_top.ensures.names in
     let stacked = subst (AreStacked dom plan old (place_of ts old w)) s.before c.requires.walk.stacked in
