@@ -135,6 +135,7 @@ pub(crate) fn replaced<D: Domain>(
     stmt: u32,
     text: &str,
 ) -> Result<String, Fail> {
+    session.ready();
     let edit = replacement(alloc, stmt, text, session.next())?;
     edited(alloc, session, &edit)
 }
