@@ -7,7 +7,7 @@ tally_lines-requires g c =
     let same = c.as_slice.ensures.value ∙ (c.in_ok-script.ensures {u = tt}).text in
     let long = ap length same in
     let short = (c.in_ok-script.ensures {u = tt}).short in
-    record { lasts = (c.requires.lasts.0, omega (arith, c.requires.lasts.1, long, short)); few = omega (arith, long, short) }
+    record { lasts = omega (arith, c.requires.lasts, long, short); few = omega (arith, long, short) }
 
 pub returns : goal.returns
 returns g c = record {

@@ -9,7 +9,7 @@ use Rattle.daig_server.proofs.generated.tally_lines.Goals as goal
 
 pub tally_byte-requires : goal.tally_byte-requires
 tally_byte-requires g c = record {
-  lasts = (0, c.loop-byte.invariant.lasts 1 (omega (arith, c.requires.lasts.1, c.loop-byte-test.true)));
+  lasts = (0, c.loop-byte.invariant.lasts 1 (omega (arith, c.requires.lasts, c.loop-byte-test.true)));
   room = (c.loop-byte.byte-index, omega (arith, c.requires.few, c.loop-byte-test.true), c.loop-byte.invariant.within);
 }
 
