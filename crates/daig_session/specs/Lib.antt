@@ -2,6 +2,7 @@ pub mod Books
 pub mod Going
 pub mod Holds
 pub mod Moves
+pub mod Questions
 pub mod Reports
 pub mod Sessions
 pub mod Sides

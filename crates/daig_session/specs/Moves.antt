@@ -1,10 +1,12 @@
 -- Moves from one program to another.
-use Rattle.std.specs.Prelude.{◌≡◌, ◌↔◌, ℕ, ◌≤◌, true, List, [], ◌∷◌, Option, MatchOption}
+use Rattle.std.specs.Prelude.{◌≡◌, ◌↔◌, ℕ, ◌≤◌, true, List, [], ◌∷◌, Option, None, MatchOption}
 use Rattle.imp_syntax.specs.Plain.{Procedure}
 use Rattle.imp_syntax.specs.declared.edit.Edit.{Edit}
 use Rattle.imp_check.specs.Slots.{routines_of}
 use Rattle.imp_table.specs.declared.change.Change.{Change}
 use Rattle.imp_edit.specs.Edited.{edited, next_after, Continues}
+use Rattle.imp_edit.specs.Refusals.{edit_refusal, IsRefusal}
+use Rattle.imp_edit.specs.declared.error.EditError.{EditError}
 use Rattle.domain_laws.specs.Operations.{Operations}
 use Rattle.batch_meaning.specs.Batch.{LoopOptions}
 use Rattle.call_contexts.specs.Settings.{setting_of}
@@ -21,10 +23,14 @@ use Rattle.edit_history.specs.After.{changed_program, Leads, LeadsOn}
 use Rattle.daig_query.specs.declared.store.Store.{Store}
 use Rattle.daig_query.specs.Kept.{kept}
 use Rattle.daig_query.specs.Right.{IsRight}
+use Rattle.daig_machine.specs.Machine.{Machine}
+use Rattle.daig_machine.specs.Turns.{after_edit}
 use Rattle.daig_session.specs.declared.book.Book.{Book}
 use Rattle.daig_session.specs.declared.moving.Moving.{Moving}
 use Rattle.daig_session.specs.declared.edits.Planned.{Planned}
+use Rattle.daig_session.specs.declared.parts.Parts.{Parts}
 use Rattle.daig_session.specs.Books.{AreBelow}
+use Rattle.daig_session.specs.Sessions.{StandsFor}
 
 -- A plan of removal takes away what the change from one program to the other empties.
 pub record Empties {S : Type 0} (old new : Plan) (store : Store S) (plan : List ℕ) : Type 0 where
@@ -47,9 +53,9 @@ abbrev pub IsNearest : {R : Type 0} → Book → Option R → (change_at : R →
 IsNearest book change change_at side = MatchOption change (side ≡ []) (λ c. LeadsOn book.history.places book.history.now (change_at c) side)
 
 -- What is left are the kept names, and all is right for the new program.
-pub record Leaves {S : Type 0} (dom : Operations S) (old new : Plan) (before changed_program : Store S) : Type 0 where
-  pub right : IsRight dom new changed_program
-  pub names : (x : CellName) → (kept changed_program x ≡ true) ↔ IsKept dom (edit_of old new) same_name (kept before) x
+pub record Leaves {S : Type 0} (dom : Operations S) (old new : Plan) (before after : Store S) : Type 0 where
+  pub right : IsRight dom new after
+  pub names : (x : CellName) → (kept after x ≡ true) ↔ IsKept dom (edit_of old new) same_name (kept before) x
 
 -- All that an accepted edit needs is there.
 pub record IsPlanned {S : Type 0} (store : Store S) (book : Book) (e : Edit) (p : Planned) : Type 0 where
@@ -60,3 +66,19 @@ pub record IsPlanned {S : Type 0} (store : Store S) (book : Book) (e : Edit) (p 
   pub low : p.edited.next ≤ 1000001
   pub below : AreBelow p.edited.next (edited e book.history.now)
   pub moving : IsMoving store book.setting.engine book.history.now (edited e book.history.now) p.moving
+
+-- the same for a session
+abbrev pub IsPlannedFor : {D S : Type 0} → Parts D S → Edit → Planned → Type 0
+IsPlannedFor session e p = IsPlanned session.engine.store session.book e p
+
+-- An edit has no fault in the present program, or this one.
+abbrev pub IsAccepted : Book → Edit → Type 0
+IsAccepted book e = edit_refusal e book.history.now book.next ≡ None
+
+abbrev pub IsRefusedFor : Book → Edit → EditError → Type 0
+IsRefusedFor book e why = IsRefusal (edit_refusal e book.history.now book.next) why
+
+-- The edit that was planned is made: the machine after it stands.
+abbrev pub Commits : {D S : Type 0} → (operations : D → Operations S) → (old new : Parts D S) → Planned → Type 0
+Commits operations old new planned = (e : Edit) (m : Machine) → IsPlannedFor old e planned → StandsFor operations old m →
+    StandsFor operations new (after_edit (operations old.engine.domain) e m)

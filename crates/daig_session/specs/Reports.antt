@@ -1,5 +1,5 @@
 -- Reports: the checked statements of a program one after another, what is missing of them in turn, and what is found.
-use Rattle.std.specs.Prelude.{◌≡◌, ℕ, ◌+◌, ◌*◌, List, [], ◌∷◌, ◌++◌, map, take, length, Option, Some, None, Result, Ok, Err}
+use Rattle.std.specs.Prelude.{◌≡◌, ℕ, ◌+◌, ◌*◌, List, [], ◌∷◌, ◌++◌, map, take, length, Option, Some, None, Result, Ok, Err, Contains, IfOk, OnOk}
 use Rattle.imp_syntax.specs.Plain.{Procedure}
 use Rattle.imp_slots.specs.Plain.{Act, DoBreak, Does, Effect, Routine}
 use Rattle.imp_slots.specs.ActionViews.{act_of}
@@ -13,9 +13,13 @@ use Rattle.base_values.specs.declared.error.Memory.{Memory}
 use Rattle.imp_words.specs.declared.findings.Finding.{Finding}
 use Rattle.imp_words.specs.declared.refusal.QueryRefusal.{QueryRefusal}
 use Rattle.domain_laws.specs.Operations.{Operations}
-use Rattle.domain_laws.specs.Checks.{Check, check_of}
+use Rattle.domain_laws.specs.Checks.{Check, check_of, kind_of}
+use Rattle.alarm_report.specs.Reporting.{verdict_for}
+use Rattle.alarm_report.specs.declared.Found.{Found}
 use Rattle.batch_meaning.specs.Answers.{Answer, Refuses}
-use Rattle.batch_meaning.specs.Report.{CheckedStatement, checked_one, checked_statements, finding, report}
+use Rattle.batch_meaning.specs.Batch.{LoopOptions}
+use Rattle.batch_meaning.specs.Report.{CheckedStatement, checked_one, checked_statements, finding, report, verdict_on}
+use Rattle.batch_sound.specs.Theorem.{IsFindingSound}
 use Rattle.cell_names.specs.Paths.{CellName}
 use Rattle.cell_rows.specs.Targets.{demanded}
 use Rattle.daig_order.specs.InTurn.{missing_in_turn}
@@ -30,7 +34,9 @@ use Rattle.daig_machine.specs.Turns.{IsBetween, cell_value, is_kept, missing_for
 use Rattle.daig_session.specs.declared.book.Book.{Book}
 use Rattle.daig_session.specs.declared.error.QueryError.{QueryError}
 use Rattle.daig_session.specs.declared.error.QueryError.TheVariants as query
+use Rattle.daig_session.specs.declared.parts.Parts.{Parts}
 use Rattle.daig_session.specs.Holds.{Holds}
+use Rattle.daig_session.specs.Sessions.{FromEach, StandsFor, TicksAtMost, TicksFilling}
 
 -- a statement of a number, if it has a check
 abbrev pub checked_act : ℕ → Act → List CheckedStatement
@@ -87,7 +93,7 @@ IsUnticked before after query.Memory = Unit {0}
 module _ {S : Type 0} (dom : Operations S) (m : Machine) where
   -- A report: that of the present program, interpreted from scratch; what was missing for it is kept.
   abbrev pub Reports : (stands : Machine → Type 0) → Result (List Finding) Memory → Type 0
-  Reports stands (Ok cell_value) = (cell_value ≡ report dom m.engine (routines_of m.program)) × stands (after_report dom m)
+  Reports stands (Ok found) = (found ≡ report dom m.engine (routines_of m.program)) × stands (after_report dom m)
   Reports stands (Err e) = IsBetween (missing_for_report dom m) m stands
 
   -- what is missing of checked statements, one after another
@@ -114,3 +120,77 @@ module _ {S : Type 0} (dom : Operations S) (m : Machine) where
   -- what is found of them
   abbrev pub findings : List CheckedStatement → List Finding
   findings cs = map (finding dom m.engine (routines_of m.program)) cs
+
+-- what a report makes of an answer: the verdict of each answer that is told so
+abbrev pub GivesVerdict : {S : Type 0} → (is_told : Answer S → Type 0) → Found S → Type 0
+GivesVerdict {S} is_told found =
+    (dom : Operations S) (engine : LoopOptions) (a : Answer S) (e : Effect) → is_told a → verdict_for dom (Does e) found ≡ verdict_on dom engine e a
+
+-- the finding of the one check that these statements have, by each answer that is told so
+abbrev pub GivesFinding : {S : Type 0} → Operations S → (id : ℕ) → Result (Value S) QueryRefusal → List CheckedStatement → Result Finding Memory → Type 0
+GivesFinding {S} dom id known checked result =
+    (engine : LoopOptions) (a : Answer S) (e : Effect) (k : Check) → Tells a known → checked ≡ checked_one id e (Some k) →
+    IfOk result (λ f. f ≡ record { id = id; check = kind_of k; verdict = verdict_on dom engine e a })
+
+-- the checked statement of this number in a machine's program, those of these numbers, and all of them
+abbrev pub checked_here : ℕ → Machine → List CheckedStatement
+checked_here id m = checked_at m.program id
+
+abbrev pub checked_in : List ℕ → Machine → List CheckedStatement
+checked_in ids m = checked_among m.program ids
+
+abbrev pub all_checked : Machine → List CheckedStatement
+all_checked m = checked_statements (routines_of m.program)
+
+-- What a report does for the checked statements of each machine that the session stood for.
+module _ {D S : Type 0} (operations : D → Operations S) (old new : Parts D S) where
+  -- All that is missing of them is kept, ..
+  abbrev pub KeepsAll : (Machine → List CheckedStatement) → Type 0
+  KeepsAll checked = FromEach operations old new (λ dom m _. HoldsAll dom m new.engine.store new.book (checked m))
+
+  -- .. or the first so much of it.
+  abbrev pub KeepsPart : (Machine → List CheckedStatement) → Type 0
+  KeepsPart checked = FromEach operations old new (λ dom m _. HoldsPart dom m new.engine.store new.book (checked m))
+
+  -- What is found of them comes after what was found before.
+  abbrev pub Finds : (Machine → List CheckedStatement) → (before after : List Finding) → Type 0
+  Finds checked before after = FromEach operations old new (λ dom m _. after ≡ before ++ findings dom m (checked m))
+
+  -- The work for them is counted, ..
+  abbrev pub TicksForAll : (counted : D → ℕ) → (Machine → List CheckedStatement) → (before after : ℕ) → Type 0
+  TicksForAll counted checked before after = FromEach operations old new (λ dom m _. TicksAtMost counted old before after (work_on dom m (checked m)))
+
+  -- .. or that for what was filled of it.
+  abbrev pub TicksForPart : (counted : D → ℕ) → (Machine → List CheckedStatement) → (before after : ℕ) → Type 0
+  TicksForPart counted checked before after =
+      (m : Machine) → StandsFor operations old m → TicksFilling counted old new before after (2 * chain_count (routines_of m.program) (checked m))
+
+  -- The same of the one check of a statement, whatever it is.
+  abbrev pub KeepsAllOfOne : ℕ → Type 0
+  KeepsAllOfOne id = (m : Machine) (e : Effect) (k : Check) → StandsFor operations old m →
+      HoldsAll (operations old.engine.domain) m new.engine.store new.book (checked_one id e (Some k))
+
+  abbrev pub KeepsPartOfOne : ℕ → Type 0
+  KeepsPartOfOne id = (m : Machine) (e : Effect) (k : Check) → StandsFor operations old m →
+      HoldsPart (operations old.engine.domain) m new.engine.store new.book (checked_one id e (Some k))
+
+  abbrev pub TicksForOne : (counted : D → ℕ) → ℕ → (before after : ℕ) → Type 0
+  TicksForOne counted id before after = (m : Machine) (e : Effect) (k : Check) → StandsFor operations old m →
+      TicksAtMost counted old before after (work_on (operations old.engine.domain) m (checked_one id e (Some k)))
+
+  abbrev pub TicksForPartOfOne : (counted : D → ℕ) → ℕ → (before after : ℕ) → Type 0
+  TicksForPartOfOne counted id before after = (m : Machine) (e : Effect) (k : Check) → StandsFor operations old m →
+      TicksFilling counted old new before after (2 * chain_count (routines_of m.program) (checked_one id e (Some k)))
+
+  -- A report: that of the present program, interpreted from scratch, ..
+  abbrev pub ReportsFrom : Result (List Finding) Memory → Type 0
+  ReportsFrom result = FromEach operations old new (λ dom m stands. Reports dom m stands result)
+
+  -- .. and the work for it.
+  abbrev pub TicksForReport : {E : Type 0} → (counted : D → ℕ) → (before after : ℕ) → Result (List Finding) E → Type 0
+  TicksForReport counted before after result = FromEach operations old new
+      (λ dom m _. OnOk result (TicksAtMost counted old before after (length (missing_for_report dom m) + 2 * checked_chains m)))
+
+-- each finding is sound for every run of the session's program
+abbrev pub AreFindingsSound : {D S : Type 0} → Parts D S → List Finding → Type 0
+AreFindingsSound session found = (f : Finding) → Contains found f → IsFindingSound (routines_of session.book.history.now) f

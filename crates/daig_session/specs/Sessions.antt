@@ -1,7 +1,8 @@
 -- What is said of a session as a whole, by the operations of its domain.
-use Rattle.std.specs.Prelude.{◌≤◌, ◌+◌, ◌*◌, ℕ}
+use Rattle.std.specs.Prelude.{◌≤◌, ◌+◌, ◌*◌, ℕ, suc}
 use Rattle.domain_laws.specs.Operations.{Operations}
 use Rattle.daig_query.specs.Filled.{cells_added}
+use Rattle.daig_query.specs.Swept.{IsBounded}
 use Rattle.daig_machine.specs.Machine.{Machine}
 use Rattle.daig_session.specs.declared.parts.Parts.{Parts}
 use Rattle.daig_session.specs.Holds.{Holds, IsReady}
@@ -27,3 +28,15 @@ cells_filled old new = cells_added old.engine.store new.engine.store
 -- So much work is counted at most, each piece as one operation of the session's domain.
 abbrev pub TicksAtMost : {D S : Type 0} → (counted : D → ℕ) → Parts D S → (before after work : ℕ) → Type 0
 TicksAtMost counted session before after work = after ≤ before + counted session.engine.domain * work
+
+-- What is counted for a call: an operation for each cell that it fills, one more, and so much beside.
+abbrev pub TicksFilling : {D S : Type 0} → (counted : D → ℕ) → (old new : Parts D S) → (before after beside : ℕ) → Type 0
+TicksFilling counted old new before after beside = TicksAtMost counted old before after (suc (cells_filled old new + beside))
+
+-- A call leaves the kept cells within their bound where they were.
+abbrev pub StaysBounded : {D S : Type 0} → (old new : Parts D S) → Type 0
+StaysBounded old new = IsBounded old.engine.spare old.engine.store → IsBounded new.engine.spare new.engine.store
+
+-- The same with nothing beside.
+abbrev pub TicksForFilled : {D S : Type 0} → (counted : D → ℕ) → (old new : Parts D S) → (before after : ℕ) → Type 0
+TicksForFilled counted old new before after = TicksAtMost counted old before after (suc (cells_filled old new))

@@ -91,7 +91,7 @@ impl Book {
         self.tickets.begin_anew();
     }
 
-    /// Goes back to the program after, which has this setting.
+    /// Goes back to the program before, which has this setting.
     pub(crate) fn back(&mut self, setting: Setting)
         requires there { 0 < length self.old.history.past }
         ensures past { self.new.history.now ∷ self.new.history.past ≡ self.old.history.past }
@@ -105,7 +105,7 @@ impl Book {
         self.tickets.begin_anew();
     }
 
-    /// Goes on to the program ahead, which has this setting.
+    /// Goes on to the program after, which has this setting.
     pub(crate) fn forth(&mut self, setting: Setting)
         requires there { 0 < length self.old.history.future }
         ensures future { self.new.history.now ∷ self.new.history.future ≡ self.old.history.future }

@@ -1,16 +1,14 @@
-//! An edit in two steps, for `accepted` and `refused` of `prepare` and `after_edit` of `commit`.
-ghost use Rattle.std.specs.Prelude.{◌≡◌, IfOk, IfErr, None};
+//! An edit in two steps, for `accepted` and `refused` of `prepare` and `committed` of `commit`.
+ghost use Rattle.std.specs.Prelude.{◌≡◌, IfOk, IfErr};
 ghost use Rattle.std.specs.Borrow.{sem, RestsIfErr};
 ghost use Rattle.imp_syntax.specs.declared.edit.Edit.{Edit as AnyEdit};
 ghost use Rattle.imp_edit.specs.Edited.{next_after, Continues};
-ghost use Rattle.imp_edit.specs.Refusals.{edit_refusal, IsRefusal};
 ghost use Rattle.daig_query.specs.Swept.{IsBounded};
 ghost use Rattle.daig_machine.specs.Machine.{Machine};
-ghost use Rattle.daig_machine.specs.Turns.{after_edit};
 ghost use Rattle.daig_session.specs.contracts.session.Session.{the_row};
 ghost use Rattle.daig_session.specs.Books.{IsSame};
 ghost use Rattle.daig_session.specs.Sessions.{IsReadyBy, StandsFor};
-ghost use Rattle.daig_session.specs.Moves.{IsPlanned};
+ghost use Rattle.daig_session.specs.Moves.{IsPlannedFor, IsAccepted, IsRefusedFor, Commits};
 
 use crate::moving::{Moving, leave, planned_move};
 use crate::parts::Parts;
@@ -34,11 +32,9 @@ impl<D: Domain> Parts<D> {
         requires continues { Continues edit.now self.old.book.next }
         ensures engine { self.new.engine ≡ self.old.engine }
         ensures same { IsSame self.old.book self.new.book }
-        ensures planned { IfOk result (IsPlanned self.new.engine.store self.new.book edit.now) }
-        ensures accepted { IfOk result (λ _. edit_refusal edit.now self.old.book.history.now
-            self.old.book.next ≡ None) }
-        ensures refused { IfErr result (IsRefusal
-            (edit_refusal edit.now self.old.book.history.now self.old.book.next)) }
+        ensures planned { IfOk result (IsPlannedFor self.new edit.now) }
+        ensures accepted { IfOk result (λ _. IsAccepted self.old.book edit.now) }
+        ensures refused { IfErr result (IsRefusedFor self.old.book edit.now) }
     {
         let edited = apply(alloc, self.book.history.table(), edit, self.book.next)?;
         self.book.history.make_room(alloc, &edited.change)?;
@@ -55,16 +51,13 @@ impl<D: Domain> Parts<D> {
     /// Makes a planned edit.
     fn make(&mut self, planned: Planned)
         requires ready { IsReadyBy D.operations self.old }
-        requires planned { (e : AnyEdit) × IsPlanned self.old.engine.store self.old.book e planned }
+        requires planned { (e : AnyEdit) × IsPlannedFor self.old e planned }
         ensures ready { IsReadyBy D.operations self.new }
         ensures domain { self.new.engine.domain ≡ self.old.engine.domain }
         ensures spare { self.new.engine.spare ≡ self.old.engine.spare }
         ensures bounded { IsBounded self.new.engine.spare self.new.engine.store }
         ensures next_ticket { self.new.book.tickets.next ≡ self.old.book.tickets.next }
-        ensures committed { (e : AnyEdit) (m : Machine) →
-            IsPlanned self.old.engine.store self.old.book e planned →
-            StandsFor D.operations self.old m →
-            StandsFor D.operations self.new (after_edit (D.operations self.old.engine.domain) e m) }
+        ensures committed { Commits D.operations self.old self.new planned }
     {
         let Planned { edited, moving } = planned;
         let Edited { change, next } = edited;
@@ -103,8 +96,7 @@ impl<D: Domain> Session<D> {
             (λ p. p.session.ghost_name) result
             (λ s. (s.engine ≡ self.old.engine) × IsSame self.old.book s.book)) }
         ensures same_reference { IfOk result (λ p. p.session.ghost_name ≡ self.entry.ghost_name) }
-        ensures planned { IfOk result (λ p. IsPlanned p.session.now.engine.store p.session.now.book
-            edit.now p.planned) }
+        ensures planned { IfOk result (λ p. IsPlannedFor p.session.now edit.now p.planned) }
         ensures holds { (m : Machine) → StandsFor D.operations self.old m →
             IfOk result (λ p. StandsFor D.operations p.session.now m) }
         ensures domain { IfOk result (λ p. p.session.now.engine.domain ≡ self.old.engine.domain) }
@@ -112,10 +104,8 @@ impl<D: Domain> Session<D> {
         ensures unmoved { IfOk result (λ p. p.session.now.engine.store ≡ self.old.engine.store) }
         ensures next_ticket { IfOk result
             (λ p. p.session.now.book.tickets.next ≡ self.old.book.tickets.next) }
-        ensures accepted { IfOk result (λ _. edit_refusal edit.now self.old.book.history.now
-            self.old.book.next ≡ None) }
-        ensures refused { IfErr result (IsRefusal
-            (edit_refusal edit.now self.old.book.history.now self.old.book.next)) }
+        ensures accepted { IfOk result (λ _. IsAccepted self.old.book edit.now) }
+        ensures refused { IfErr result (IsRefusedFor self.old.book edit.now) }
     {
         let planned = self.parts.planned(alloc, edit)?;
         Ok(Prepared {
@@ -128,8 +118,7 @@ impl<D: Domain> Session<D> {
 impl<D: Domain> Prepared<'_, D, Planned> {
     /// The number of the next new statement once the edit is made.
     pub fn next(&self) -> u32
-        ensures is { (e : AnyEdit) → IsPlanned self.now.session.now.engine.store
-            self.now.session.now.book e self.now.planned →
+        ensures is { (e : AnyEdit) → IsPlannedFor self.now.session.now e self.now.planned →
             result ≡ next_after e self.now.session.now.book.next }
     {
         self.planned.edited.next
@@ -138,18 +127,14 @@ impl<D: Domain> Prepared<'_, D, Planned> {
     /// Makes the edit: of the kept cells those are kept that it leaves, and all tickets begin anew. It cannot fail: it takes
     /// memory for new tables of names alone, and keeps the old ones where there is none.
     pub fn commit(self)
-        requires planned { (e : AnyEdit) × IsPlanned self.session.now.engine.store
-            self.session.now.book e self.planned }
+        requires planned { (e : AnyEdit) × IsPlannedFor self.session.now e self.planned }
         ensures domain { self.exit.0.now.engine.domain ≡ self.entry.session.now.engine.domain }
         ensures spare { self.exit.0.now.engine.spare ≡ self.entry.session.now.engine.spare }
         ensures bounded { IsBounded self.exit.0.now.engine.spare self.exit.0.now.engine.store }
         ensures next_ticket { self.exit.0.now.book.tickets.next ≡
             self.entry.session.now.book.tickets.next }
-        ensures committed { (e : AnyEdit) (m : Machine) →
-            IsPlanned self.entry.session.now.engine.store self.entry.session.now.book e
-            self.entry.planned → StandsFor D.operations self.entry.session.now m →
-            StandsFor D.operations self.exit.0.now
-            (after_edit (D.operations self.entry.session.now.engine.domain) e m) }
+        ensures committed { Commits D.operations self.entry.session.now self.exit.0.now
+            self.entry.planned }
     {
         let Prepared { session, planned } = self;
         session.parts.make(planned);

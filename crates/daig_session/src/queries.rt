@@ -1,22 +1,19 @@
 //! Queries, for `answers` and `sound` of `query`, and for `explains` and `stays` of `why`.
-ghost use Rattle.std.specs.Prelude.{◌≡◌, ℕ, suc, ◌+◌, ◌*◌, ◌≤◌, List, length, map, Some, IfErr};
-ghost use Rattle.std.specs.Prelude.{IfOk, OnOk};
+ghost use Rattle.std.specs.Prelude.{◌≡◌, ℕ, suc, ◌+◌, ◌*◌, ◌≤◌, List, map, IfErr, IfOk, OnOk};
 ghost use Rattle.imp_syntax.specs.declared.edit.Location.{Location};
-ghost use Rattle.imp_check.specs.Slots.{routines_of};
 ghost use Rattle.imp_flow.specs.Reached.{target_of};
-ghost use Rattle.daig_query.specs.Answered.{AreFilled, Covers};
+ghost use Rattle.daig_query.specs.Answered.{AreFilled};
 ghost use Rattle.daig_query.specs.Filled.{cells_added, missing, Fills};
 ghost use Rattle.daig_query.specs.Swept.{FillsFew, IsBounded};
-ghost use Rattle.why_slice.specs.Claims.{Suffices};
-ghost use Rattle.daig_machine.specs.Machine.{Machine};
-ghost use Rattle.daig_machine.specs.Turns.{after_question, missing_at, targets_of, IsBetween};
 ghost use Rattle.daig_session.specs.Books.{flow_in};
-ghost use Rattle.daig_session.specs.Going.{IsAsked, IsGoing};
-ghost use Rattle.daig_session.specs.Holds.{Holds, IsReady};
-ghost use Rattle.daig_session.specs.Sessions.{IsReadyBy, StandsFor, FromEach, TicksAtMost};
-ghost use Rattle.daig_session.specs.Sessions.{cells_filled};
+ghost use Rattle.daig_session.specs.Going.{IsGoing};
+ghost use Rattle.daig_session.specs.Holds.{IsReady};
+ghost use Rattle.daig_session.specs.Sessions.{IsReadyBy, TicksAtMost, TicksForFilled, cells_filled};
 ghost use Rattle.daig_session.specs.Reports.{IsUnticked};
-ghost use Rattle.daig_session.specs.Turns.{Explains, Fails, Questions};
+ghost use Rattle.daig_session.specs.Questions.{Asks, HasFilled, FillsMissing, StandsAnswered};
+ghost use Rattle.daig_session.specs.Questions.{missing_count, StandsBetween, FailsFrom};
+ghost use Rattle.daig_session.specs.Questions.{QuestionsFrom, ExplainsFrom, TicksForMissing};
+ghost use Rattle.daig_session.specs.Questions.{TicksForAnswer, TicksForSome, CoversIn, SufficesIn};
 
 use crate::asking::{begun, read_answer};
 use crate::book::{Book, Going};
@@ -54,8 +51,7 @@ fn fill_all<D: Domain, L: Ledger>(
     ensures few { FillsFew engine.old.store engine.new.store }
     ensures counted { IfOk result (λ n. n ≡ cells_added engine.old.store engine.new.store) }
     ensures all { IfOk result (λ n. n ≡
-        length (missing (D.operations engine.old.domain) (flow_in book.now)
-        (map target_of going.old.targets) engine.old.store)) }
+        missing_count (D.operations engine.old.domain) book.now going.old engine.old.store) }
     ensures filled { OnOk result (AreFilled (D.operations engine.old.domain) engine.new.store
         going.new.walk (flow_in book.now) (map target_of going.old.targets)) }
     ensures least { steps.old ≤ steps.new }
@@ -90,28 +86,20 @@ impl<D: Domain> Parts<D> {
         ensures spare { self.new.engine.spare ≡ self.old.engine.spare }
         ensures book { self.new.book ≡ self.old.book }
         ensures few { FillsFew self.old.engine.store self.new.engine.store }
-        ensures targets { IfOk result (λ f. IsAsked (flow_in self.old.book).program at.now
-            string.now (map target_of f.going.targets)) }
-        ensures filled { IfOk result (λ f. AreFilled (D.operations self.old.engine.domain)
-            self.new.engine.store f.going.walk (flow_in self.old.book)
-            (map target_of f.going.targets)) }
+        ensures targets { IfOk result (λ f. Asks self.old at.now string.now f.going) }
+        ensures filled { IfOk result (λ f. HasFilled D.operations self.old self.new f.going) }
         ensures counted { IfOk result (λ f. f.count ≡ cells_filled self.old self.new) }
-        ensures all { FromEach D.operations self.old self.new
-            (λ dom m _. IfOk result (λ f. f.count ≡ length (missing_at dom at.now string.now m))) }
-        ensures answered { FromEach D.operations self.old self.new
-            (λ dom m _. IfOk result (λ f. Holds dom self.new.engine.store
-            (record self.old.book { cost = f.count }) (after_question dom at.now string.now m))) }
-        ensures unanswered { FromEach D.operations self.old self.new
-            (λ dom m stands. IfOk result
-            (λ _. IsBetween (missing_at dom at.now string.now m) m stands)) }
-        ensures fails { FromEach D.operations self.old self.new
-            (λ dom m stands. IfErr result (Fails dom m stands at.now string.now)) }
+        ensures all { FillsMissing D.operations self.old self.new at.now string.now result
+            (λ f. f.count) }
+        ensures answered { StandsAnswered D.operations self.old self.new at.now string.now result
+            (λ f. f.count) }
+        ensures unanswered { StandsBetween D.operations self.old self.new at.now string.now result }
+        ensures fails { FailsFrom D.operations self.old self.new at.now string.now result }
         ensures least { steps.old ≤ steps.new }
         ensures unticked { IfErr result (IsUnticked steps.old steps.new) }
         ensures ticked { IfOk result (λ f. TicksAtMost D.counted self.old steps.old
             steps.new f.count) }
-        ensures most { TicksAtMost D.counted self.old steps.old steps.new
-            (suc (cells_filled self.old self.new)) }
+        ensures most { TicksForFilled D.counted self.old self.new steps.old steps.new }
     {
         questions_keep_cells::<D>();
         let flow = self.book.flow();
@@ -134,28 +122,20 @@ impl<D: Domain> Parts<D> {
         ensures spare { self.new.engine.spare ≡ self.old.engine.spare }
         ensures book { self.new.book ≡ self.old.book }
         ensures bounded { IsBounded self.new.engine.spare self.new.engine.store }
-        ensures targets { IfOk result (λ f. IsAsked (flow_in self.old.book).program at.now
-            string.now (map target_of f.going.targets)) }
-        ensures filled { IfOk result (λ f. AreFilled (D.operations self.old.engine.domain)
-            self.new.engine.store f.going.walk (flow_in self.old.book)
-            (map target_of f.going.targets)) }
+        ensures targets { IfOk result (λ f. Asks self.old at.now string.now f.going) }
+        ensures filled { IfOk result (λ f. HasFilled D.operations self.old self.new f.going) }
         ensures counted { IfOk result (λ f. f.count ≡ cells_filled self.old self.new) }
-        ensures all { FromEach D.operations self.old self.new
-            (λ dom m _. IfOk result (λ f. f.count ≡ length (missing_at dom at.now string.now m))) }
-        ensures answered { FromEach D.operations self.old self.new
-            (λ dom m _. IfOk result (λ f. Holds dom self.new.engine.store
-            (record self.old.book { cost = f.count }) (after_question dom at.now string.now m))) }
-        ensures unanswered { FromEach D.operations self.old self.new
-            (λ dom m stands. IfOk result
-            (λ _. IsBetween (missing_at dom at.now string.now m) m stands)) }
-        ensures fails { FromEach D.operations self.old self.new
-            (λ dom m stands. IfErr result (Fails dom m stands at.now string.now)) }
+        ensures all { FillsMissing D.operations self.old self.new at.now string.now result
+            (λ f. f.count) }
+        ensures answered { StandsAnswered D.operations self.old self.new at.now string.now result
+            (λ f. f.count) }
+        ensures unanswered { StandsBetween D.operations self.old self.new at.now string.now result }
+        ensures fails { FailsFrom D.operations self.old self.new at.now string.now result }
         ensures least { steps.old ≤ steps.new }
         ensures unticked { IfErr result (IsUnticked steps.old steps.new) }
         ensures ticked { IfOk result (λ f. TicksAtMost D.counted self.old steps.old
             steps.new f.count) }
-        ensures most { TicksAtMost D.counted self.old steps.old steps.new
-            (suc (cells_filled self.old self.new)) }
+        ensures most { TicksForFilled D.counted self.old self.new steps.old steps.new }
     {
         self.engine.sweep();
         self.fill_now(alloc, at, string, steps)
@@ -187,19 +167,14 @@ impl<D: Domain> Session<D> {
         ensures spare { self.new.engine.spare ≡ self.old.engine.spare }
         ensures bounded { IsBounded self.new.engine.spare self.new.engine.store }
         ensures next_ticket { self.new.book.tickets.next ≡ self.old.book.tickets.next }
-        ensures answers { FromEach D.operations self.old self.new
-            (λ dom m stands. Questions dom m stands at.now string.now result) }
-        ensures sound { IfOk result (λ v. Covers (D.covers self.old.engine.domain)
-            (routines_of self.old.book.history.now) at.now string.now (Some v)) }
+        ensures answers { QuestionsFrom D.operations self.old self.new at.now string.now result }
+        ensures sound { IfOk result (CoversIn D.covers self.old at.now string.now) }
         ensures least { steps.old ≤ steps.new }
         ensures unticked { IfErr result (IsUnticked steps.old steps.new) }
-        ensures ticked { FromEach D.operations self.old self.new
-            (λ dom m _. IfOk result (λ _. TicksAtMost D.counted self.old steps.old steps.new
-            (length (missing_at dom at.now string.now m)
-            + 2 * length (targets_of m at.now string.now)))) }
-        ensures most { (m : Machine) → StandsFor D.operations self.old m →
-            TicksAtMost D.counted self.old steps.old steps.new
-            (suc (cells_filled self.old self.new + 2 * length (targets_of m at.now string.now))) }
+        ensures ticked { TicksForAnswer D.operations self.old self.new at.now string.now D.counted
+            steps.old steps.new result }
+        ensures most { TicksForSome D.operations self.old self.new at.now string.now D.counted
+            steps.old steps.new }
     {
         let filled = self.parts.fill_for(alloc, at, string, steps)?;
         let value = read_answer(alloc, &self.parts.engine, &filled.going.walk, steps)?;
@@ -231,17 +206,13 @@ impl<D: Domain> Session<D> {
         ensures spare { self.new.engine.spare ≡ self.old.engine.spare }
         ensures bounded { IsBounded self.new.engine.spare self.new.engine.store }
         ensures next_ticket { self.new.book.tickets.next ≡ self.old.book.tickets.next }
-        ensures explains { FromEach D.operations self.old self.new
-            (λ dom m stands. Explains dom m stands at.now string.now result) }
-        ensures stays { IfOk result (Suffices (D.operations self.old.engine.domain)
-            self.old.book.setting.engine self.old.book.history.now at.now string.now) }
+        ensures explains { ExplainsFrom D.operations self.old self.new at.now string.now result }
+        ensures stays { IfOk result (SufficesIn D.operations self.old at.now string.now) }
         ensures least { steps.old ≤ steps.new }
         ensures unticked { IfErr result (IsUnticked steps.old steps.new) }
-        ensures ticked { FromEach D.operations self.old self.new
-            (λ dom m _. IfOk result (λ _. TicksAtMost D.counted self.old steps.old steps.new
-            (length (missing_at dom at.now string.now m)))) }
-        ensures most { TicksAtMost D.counted self.old steps.old steps.new
-            (suc (cells_filled self.old self.new)) }
+        ensures ticked { TicksForMissing D.operations self.old self.new at.now string.now D.counted
+            steps.old steps.new result }
+        ensures most { TicksForFilled D.counted self.old self.new steps.old steps.new }
     {
         answers_stay::<D>();
         let filled = self.parts.fill_for(alloc, at, string, steps)?;

@@ -1,27 +1,18 @@
 //! Reports out of the cells, for `reports` and `sound` of `report`.
-ghost use Rattle.std.specs.Prelude.{◌≡◌, ◌+◌, ◌*◌, ◌≤◌, [], ◌++◌, Contains, IfOk, IsFalse, IsSome};
-ghost use Rattle.std.specs.Prelude.{IsTrue, OnOk, Some, length, suc};
+ghost use Rattle.std.specs.Prelude.{◌≡◌, ◌≤◌, [], IfOk, IsFalse, IsSome, IsTrue, OnOk, Some};
 ghost use Rattle.imp_syntax.specs.declared.edit.Location.TheVariants.{Before};
 ghost use Rattle.imp_slots.specs.ActionViews.{act_of};
-ghost use Rattle.imp_slots.specs.Plain.{Does, Effect};
-ghost use Rattle.imp_check.specs.Slots.{routines_of};
-ghost use Rattle.imp_words.specs.declared.findings.Finding.{Finding as AnyFinding};
-ghost use Rattle.domain_laws.specs.Checks.{Check, kind_in, kind_of};
-ghost use Rattle.domain_laws.specs.Operations.{Operations};
-ghost use Rattle.batch_meaning.specs.Answers.{Answer};
-ghost use Rattle.batch_meaning.specs.Batch.{LoopOptions};
-ghost use Rattle.batch_meaning.specs.Report.{checked_one, checked_statements, verdict_on};
-ghost use Rattle.batch_sound.specs.Theorem.{IsFindingSound};
-ghost use Rattle.alarm_report.specs.Reporting.{verdict_for};
+ghost use Rattle.domain_laws.specs.Checks.{kind_in};
 ghost use Rattle.daig_query.specs.Answered.{Says};
 ghost use Rattle.daig_query.specs.Swept.{IsBounded};
-ghost use Rattle.daig_machine.specs.Machine.{Machine};
-ghost use Rattle.daig_machine.specs.Turns.{answer_at, missing_for_report};
-ghost use Rattle.daig_session.specs.Sessions.{IsReadyBy, StandsFor, FromEach, TicksAtMost};
-ghost use Rattle.daig_session.specs.Sessions.{cells_filled};
-ghost use Rattle.daig_session.specs.Reports.{checked_act, checked_among, chain_count, checked_at};
-ghost use Rattle.daig_session.specs.Reports.{checked_chains, findings, work_on, HasCheck, HoldsAll};
-ghost use Rattle.daig_session.specs.Reports.{HoldsPart, Reports, Tells};
+ghost use Rattle.daig_machine.specs.Turns.{answer_at};
+ghost use Rattle.daig_session.specs.Sessions.{FromEach, StaysBounded};
+ghost use Rattle.daig_session.specs.Reports.{checked_act, checked_at, GivesVerdict, GivesFinding};
+ghost use Rattle.daig_session.specs.Reports.{checked_here, checked_in, all_checked, KeepsAll};
+ghost use Rattle.daig_session.specs.Reports.{KeepsPart, Finds, TicksForAll, TicksForPart};
+ghost use Rattle.daig_session.specs.Reports.{KeepsAllOfOne, KeepsPartOfOne, TicksForOne};
+ghost use Rattle.daig_session.specs.Reports.{TicksForPartOfOne, ReportsFrom, TicksForReport};
+ghost use Rattle.daig_session.specs.Reports.{AreFindingsSound, findings, HasCheck, Tells};
 
 use crate::checks::{all_statements, checked_stmt};
 use crate::error::QueryError;
@@ -39,8 +30,7 @@ use std::sync::ledger::Ledger;
 
 /// What a report makes of an answer.
 fn found_in<S>(value: &Value<S>) -> Found<'_, S>
-    ensures verdict { (dom : Operations S) (engine : LoopOptions) (a : Answer S) (e : Effect) →
-        Says a (Some value.now) → verdict_for dom (Does e) result ≡ verdict_on dom engine e a }
+    ensures verdict { GivesVerdict (λ a. Says a (Some value.now)) result }
 {
     match value {
         Value::State(state) => Found::State(state),
@@ -51,8 +41,7 @@ fn found_in<S>(value: &Value<S>) -> Found<'_, S>
 /// What a report makes of an answer, or of a refusal: where no chain comes nothing is found, and any other refusal is told
 /// as an Over is.
 fn found_of<S>(known: &Result<Value<S>, QueryRefusal>) -> Found<'_, S>
-    ensures verdict { (dom : Operations S) (engine : LoopOptions) (a : Answer S) (e : Effect) →
-        Tells a known.now → verdict_for dom (Does e) result ≡ verdict_on dom engine e a }
+    ensures verdict { GivesVerdict (λ a. Tells a known.now) result }
 {
     match known {
         Ok(value) => found_in(value),
@@ -73,13 +62,8 @@ fn finding<D: Domain>(
     known: &Result<Value<D::State>, QueryRefusal>,
 ) -> Result<Finding, Memory>
     requires asks { IsSome (kind_in (act_of stmt.now)) }
-    ensures is { (engine : LoopOptions) (a : Answer D.State) (e : Effect) (k : Check) →
-        Tells a known.now → checked_act id (act_of stmt.now) ≡ checked_one id e (Some k) →
-        IfOk result (λ f. f ≡ record {
-          id = id;
-          check = kind_of k;
-          verdict = verdict_on (D.operations dom.now) engine e a;
-        }) }
+    ensures is { GivesFinding (D.operations dom.now) id known.now
+        (checked_act id (act_of stmt.now)) result }
 {
     alarm_report::report(alloc, dom, id, stmt, found_of(known))
 }
@@ -102,14 +86,8 @@ impl<D: Domain> Session<D> {
         known: &Result<Value<D::State>, QueryRefusal>,
     ) -> Result<Finding, Memory>
         requires there { HasCheck self.now.book.history.now id }
-        ensures is { (engine : LoopOptions) (a : Answer D.State) (e : Effect) (k : Check) →
-            Tells a known.now →
-            checked_at self.now.book.history.now id ≡ checked_one id e (Some k) →
-            IfOk result (λ f. f ≡ record {
-              id = id;
-              check = kind_of k;
-              verdict = verdict_on (D.operations self.now.engine.domain) engine e a;
-            }) }
+        ensures is { GivesFinding (D.operations self.now.engine.domain) id known.now
+            (checked_at self.now.book.history.now id) result }
     {
         let view = self.parts.book.history.table().view();
         match checked_stmt(&view, id) {
@@ -129,24 +107,15 @@ impl<D: Domain> Session<D> {
         ensures domain { self.new.engine.domain ≡ self.old.engine.domain }
         ensures spare { self.new.engine.spare ≡ self.old.engine.spare }
         ensures program { self.new.book.history.now ≡ self.old.book.history.now }
-        ensures part { (m : Machine) (e : Effect) (k : Check) → StandsFor D.operations self.old m →
-            HoldsPart (D.operations self.old.engine.domain) m self.new.engine.store self.new.book
-            (checked_one id e (Some k)) }
-        ensures all { OnOk result ((m : Machine) (e : Effect) (k : Check) →
-            StandsFor D.operations self.old m →
-            HoldsAll (D.operations self.old.engine.domain) m self.new.engine.store self.new.book
-            (checked_one id e (Some k))) }
+        ensures part { KeepsPartOfOne D.operations self.old self.new id }
+        ensures all { OnOk result (KeepsAllOfOne D.operations self.old self.new id) }
         ensures tells { IfOk result (λ known. FromEach D.operations self.old self.new
             (λ dom m _. Tells (answer_at dom (Before id) [] m) known)) }
         ensures least { steps.old ≤ steps.new }
-        ensures ticked { OnOk result ((m : Machine) (e : Effect) (k : Check) →
-            StandsFor D.operations self.old m →
-            TicksAtMost D.counted self.old steps.old steps.new
-            (work_on (D.operations self.old.engine.domain) m (checked_one id e (Some k)))) }
-        ensures most { (m : Machine) (e : Effect) (k : Check) → StandsFor D.operations self.old m →
-            TicksAtMost D.counted self.old steps.old steps.new
-            (suc (cells_filled self.old self.new + 2 * chain_count (routines_of m.program)
-            (checked_one id e (Some k)))) }
+        ensures ticked { OnOk result (TicksForOne D.operations self.old self.new D.counted id
+            steps.old steps.new) }
+        ensures most { TicksForPartOfOne D.operations self.old self.new D.counted id
+            steps.old steps.new }
     {
         self.ready();
         match self.query(alloc, &Location::Before(id), &[], steps) {
@@ -164,26 +133,18 @@ impl<D: Domain> Session<D> {
         found: &mut Findings,
         steps: &mut Steps<L>,
     ) -> Result<(), Memory>
-        ensures stays_bounded { IsBounded self.old.engine.spare self.old.engine.store →
-            IsBounded self.new.engine.spare self.new.engine.store }
+        ensures stays_bounded { StaysBounded self.old self.new }
         ensures domain { self.new.engine.domain ≡ self.old.engine.domain }
         ensures spare { self.new.engine.spare ≡ self.old.engine.spare }
-        ensures part { FromEach D.operations self.old self.new
-            (λ dom m _. HoldsPart dom m self.new.engine.store self.new.book
-            (checked_at m.program id)) }
-        ensures all { OnOk result (FromEach D.operations self.old self.new
-            (λ dom m _. HoldsAll dom m self.new.engine.store self.new.book
-            (checked_at m.program id))) }
-        ensures found { OnOk result (FromEach D.operations self.old self.new
-            (λ dom m _. found.new ≡ found.old ++ findings dom m (checked_at m.program id))) }
+        ensures part { KeepsPart D.operations self.old self.new (checked_here id) }
+        ensures all { OnOk result (KeepsAll D.operations self.old self.new (checked_here id)) }
+        ensures found { OnOk result (Finds D.operations self.old self.new (checked_here id)
+            found.old found.new) }
         ensures least { steps.old ≤ steps.new }
-        ensures ticked { OnOk result (FromEach D.operations self.old self.new
-            (λ dom m _. TicksAtMost D.counted self.old steps.old steps.new
-            (work_on dom m (checked_at m.program id)))) }
-        ensures most { (m : Machine) → StandsFor D.operations self.old m →
-            TicksAtMost D.counted self.old steps.old steps.new
-            (suc (cells_filled self.old self.new + 2 * chain_count (routines_of m.program)
-            (checked_at m.program id))) }
+        ensures ticked { OnOk result (TicksForAll D.operations self.old self.new D.counted
+            (checked_here id) steps.old steps.new) }
+        ensures most { TicksForPart D.operations self.old self.new D.counted (checked_here id)
+            steps.old steps.new }
     {
         if !self.has_check(id) {
             return Ok(());
@@ -201,27 +162,18 @@ impl<D: Domain> Session<D> {
         found: &mut Findings,
         steps: &mut Steps<L>,
     ) -> Result<(), Memory>
-        ensures stays_bounded { IsBounded self.old.engine.spare self.old.engine.store →
-            IsBounded self.new.engine.spare self.new.engine.store }
+        ensures stays_bounded { StaysBounded self.old self.new }
         ensures domain { self.new.engine.domain ≡ self.old.engine.domain }
         ensures spare { self.new.engine.spare ≡ self.old.engine.spare }
-        ensures part { FromEach D.operations self.old self.new
-            (λ dom m _. HoldsPart dom m self.new.engine.store self.new.book
-            (checked_among m.program stmts.now)) }
-        ensures all { OnOk result (FromEach D.operations self.old self.new
-            (λ dom m _. HoldsAll dom m self.new.engine.store self.new.book
-            (checked_among m.program stmts.now))) }
-        ensures found { OnOk result (FromEach D.operations self.old self.new
-            (λ dom m _. found.new ≡ found.old ++ findings dom m
-            (checked_among m.program stmts.now))) }
+        ensures part { KeepsPart D.operations self.old self.new (checked_in stmts.now) }
+        ensures all { OnOk result (KeepsAll D.operations self.old self.new (checked_in stmts.now)) }
+        ensures found { OnOk result (Finds D.operations self.old self.new (checked_in stmts.now)
+            found.old found.new) }
         ensures least { steps.old ≤ steps.new }
-        ensures ticked { OnOk result (FromEach D.operations self.old self.new
-            (λ dom m _. TicksAtMost D.counted self.old steps.old steps.new
-            (work_on dom m (checked_among m.program stmts.now)))) }
-        ensures most { (m : Machine) → StandsFor D.operations self.old m →
-            TicksAtMost D.counted self.old steps.old steps.new
-            (suc (cells_filled self.old self.new + 2 * chain_count (routines_of m.program)
-            (checked_among m.program stmts.now))) }
+        ensures ticked { OnOk result (TicksForAll D.operations self.old self.new D.counted
+            (checked_in stmts.now) steps.old steps.new) }
+        ensures most { TicksForPart D.operations self.old self.new D.counted (checked_in stmts.now)
+            steps.old steps.new }
     {
         self.ready();
         for stmt in stmts {
@@ -238,25 +190,18 @@ impl<D: Domain> Session<D> {
         alloc: Global,
         steps: &mut Steps<L>,
     ) -> Result<Findings, Memory>
-        ensures stays_bounded { IsBounded self.old.engine.spare self.old.engine.store →
-            IsBounded self.new.engine.spare self.new.engine.store }
+        ensures stays_bounded { StaysBounded self.old self.new }
         ensures domain { self.new.engine.domain ≡ self.old.engine.domain }
         ensures spare { self.new.engine.spare ≡ self.old.engine.spare }
-        ensures part { FromEach D.operations self.old self.new
-            (λ dom m _. HoldsPart dom m self.new.engine.store self.new.book
-            (checked_statements (routines_of m.program))) }
-        ensures all { OnOk result (FromEach D.operations self.old self.new
-            (λ dom m _. HoldsAll dom m self.new.engine.store self.new.book
-            (checked_statements (routines_of m.program)))) }
+        ensures part { KeepsPart D.operations self.old self.new all_checked }
+        ensures all { OnOk result (KeepsAll D.operations self.old self.new all_checked) }
         ensures found { IfOk result (λ found. FromEach D.operations self.old self.new
-            (λ dom m _. found ≡ findings dom m (checked_statements (routines_of m.program)))) }
+            (λ dom m _. found ≡ findings dom m (all_checked m))) }
         ensures least { steps.old ≤ steps.new }
-        ensures ticked { OnOk result (FromEach D.operations self.old self.new
-            (λ dom m _. TicksAtMost D.counted self.old steps.old steps.new
-            (work_on dom m (checked_statements (routines_of m.program))))) }
-        ensures most { (m : Machine) → StandsFor D.operations self.old m →
-            TicksAtMost D.counted self.old steps.old steps.new
-            (suc (cells_filled self.old self.new + 2 * checked_chains m)) }
+        ensures ticked { OnOk result (TicksForAll D.operations self.old self.new D.counted
+            all_checked steps.old steps.new) }
+        ensures most { TicksForPart D.operations self.old self.new D.counted all_checked
+            steps.old steps.new }
     {
         self.ready();
         let stmts = all_statements(alloc, &self.parts.book.history.table().view())?;
@@ -273,20 +218,15 @@ impl<D: Domain> Session<D> {
     ) -> Result<Findings, Memory>
         ensures domain { self.new.engine.domain ≡ self.old.engine.domain }
         ensures spare { self.new.engine.spare ≡ self.old.engine.spare }
-        ensures stays_bounded { IsBounded self.old.engine.spare self.old.engine.store →
-            IsBounded self.new.engine.spare self.new.engine.store }
+        ensures stays_bounded { StaysBounded self.old self.new }
         ensures next_ticket { self.new.book.tickets.next ≡ self.old.book.tickets.next }
-        ensures reports { FromEach D.operations self.old self.new
-            (λ dom m stands. Reports dom m stands result) }
-        ensures sound { IfOk result (λ found. (f : AnyFinding) → Contains found f →
-            IsFindingSound (routines_of self.old.book.history.now) f) }
+        ensures reports { ReportsFrom D.operations self.old self.new result }
+        ensures sound { IfOk result (AreFindingsSound self.old) }
         ensures least { steps.old ≤ steps.new }
-        ensures ticked { FromEach D.operations self.old self.new
-            (λ dom m _. OnOk result (TicksAtMost D.counted self.old steps.old steps.new
-            (length (missing_for_report dom m) + 2 * checked_chains m))) }
-        ensures most { (m : Machine) → StandsFor D.operations self.old m →
-            TicksAtMost D.counted self.old steps.old steps.new
-            (suc (cells_filled self.old self.new + 2 * checked_chains m)) }
+        ensures ticked { TicksForReport D.operations self.old self.new D.counted steps.old
+            steps.new result }
+        ensures most { TicksForPart D.operations self.old self.new D.counted all_checked
+            steps.old steps.new }
     {
         reports_are_sound::<D>();
         self.ready();
@@ -324,17 +264,13 @@ impl<D: Domain> Session<D> {
         ensures spare { self.new.engine.spare ≡ self.old.engine.spare }
         ensures bounded { IsBounded self.new.engine.spare self.new.engine.store }
         ensures next_ticket { self.new.book.tickets.next ≡ self.old.book.tickets.next }
-        ensures reports { FromEach D.operations self.old self.new
-            (λ dom m stands. Reports dom m stands result) }
-        ensures sound { IfOk result (λ found. (f : AnyFinding) → Contains found f →
-            IsFindingSound (routines_of self.old.book.history.now) f) }
+        ensures reports { ReportsFrom D.operations self.old self.new result }
+        ensures sound { IfOk result (AreFindingsSound self.old) }
         ensures least { steps.old ≤ steps.new }
-        ensures ticked { FromEach D.operations self.old self.new
-            (λ dom m _. OnOk result (TicksAtMost D.counted self.old steps.old steps.new
-            (length (missing_for_report dom m) + 2 * checked_chains m))) }
-        ensures most { (m : Machine) → StandsFor D.operations self.old m →
-            TicksAtMost D.counted self.old steps.old steps.new
-            (suc (cells_filled self.old self.new + 2 * checked_chains m)) }
+        ensures ticked { TicksForReport D.operations self.old self.new D.counted steps.old
+            steps.new result }
+        ensures most { TicksForPart D.operations self.old self.new D.counted all_checked
+            steps.old steps.new }
     {
         self.parts.engine.sweep();
         self.report_now(alloc, steps)

@@ -1,6 +1,6 @@
 //! Steps of tickets.
 ghost use Rattle.std.specs.Prelude.{◌≡◌, ◌+◌, ◌*◌, ◌<◌, ◌≤◌, ◌↔◌, ℕ, suc, List, length, map, min};
-ghost use Rattle.std.specs.Prelude.{Some, IfOk, IfErr, IfSome, IsTrue, MatchOption, slice_get};
+ghost use Rattle.std.specs.Prelude.{Some, IfOk, IfErr, IsTrue, slice_get};
 ghost use Rattle.imp_syntax.specs.declared.edit.Location.{Location};
 ghost use Rattle.batch_meaning.specs.Answers.{answer};
 ghost use Rattle.imp_check.specs.Slots.{routines_of};
@@ -8,17 +8,15 @@ ghost use Rattle.imp_flow.specs.Reached.{target_of};
 ghost use Rattle.daig_query.specs.Answered.{AreFilled};
 ghost use Rattle.daig_query.specs.Filled.{cells_added, missing, Fills};
 ghost use Rattle.daig_query.specs.Swept.{FillsFew, IsBounded};
-ghost use Rattle.daig_machine.specs.Machine.{Machine, ticket_of};
-ghost use Rattle.daig_machine.specs.Turns.{targets_of};
 ghost use Rattle.daig_tickets.specs.declared.tickets.OpenTicket.{OpenTicket};
 ghost use Rattle.daig_session.specs.declared.book.Going.{Going as AnyGoing};
 ghost use Rattle.daig_session.specs.Books.{flow_in, IsWithout};
 ghost use Rattle.daig_session.specs.Going.{IsGoing, IsRefused};
-ghost use Rattle.daig_tickets.specs.Tickets.{ticket};
 ghost use Rattle.daig_session.specs.Holds.{IsAtPlace, IsReady};
-ghost use Rattle.daig_session.specs.Sessions.{IsReadyBy, StandsFor, FromEach, TicksAtMost};
-ghost use Rattle.daig_session.specs.Sessions.{cells_filled};
-ghost use Rattle.daig_session.specs.Turns.{work_of, CoversDone, IsStep, IsStepOf};
+ghost use Rattle.daig_session.specs.Sessions.{IsReadyBy};
+ghost use Rattle.daig_session.specs.Questions.{StepsFrom, CoversStep, TicksForStep, missing_count};
+ghost use Rattle.daig_session.specs.Questions.{StepsThere, CoversThere, TicksForThere};
+ghost use Rattle.daig_session.specs.Questions.{TicksForSomeThere, TicksForSomeStep};
 
 use crate::asking::{begun, read_answer};
 use crate::book::{Book, Going};
@@ -96,11 +94,9 @@ fn fill_some<D: Domain, L: Ledger>(
         engine.new.store l string going.new }
     ensures counted { IfOk result (λ p. p.filled ≡ cells_added engine.old.store engine.new.store) }
     ensures first { IfOk result (λ p. p.filled ≡ min most
-        (length (missing (D.operations engine.old.domain) (flow_in book.now)
-        (map target_of going.old.targets) engine.old.store))) }
+        (missing_count (D.operations engine.old.domain) book.now going.old engine.old.store)) }
     ensures all { IfOk result (λ p. IsTrue p.done ↔
-        (length (missing (D.operations engine.old.domain) (flow_in book.now)
-        (map target_of going.old.targets) engine.old.store) ≤ most)) }
+        (missing_count (D.operations engine.old.domain) book.now going.old engine.old.store ≤ most)) }
     ensures filled { IfOk result (λ p. IsTrue p.done →
         AreFilled (D.operations engine.old.domain) engine.new.store going.new.walk
         (flow_in book.now) (map target_of going.old.targets)) }
@@ -133,25 +129,13 @@ impl<D: Domain> Parts<D> {
         ensures spare { self.new.engine.spare ≡ self.old.engine.spare }
         ensures few { FillsFew self.old.engine.store self.new.engine.store }
         ensures next_ticket { self.new.book.tickets.next ≡ self.old.book.tickets.next }
-        ensures steps { (m : Machine) (o : OpenTicket AnyGoing) →
-            StandsFor D.operations self.old m →
-            slice_get self.old.book.tickets.open_ones.items place ≡ Some o →
-            IsStep (D.operations self.old.engine.domain) m (StandsFor D.operations self.new)
-            (ticket o) most result }
-        ensures sound { (o : OpenTicket AnyGoing) →
-            slice_get self.old.book.tickets.open_ones.items place ≡ Some o →
-            IfOk result (CoversDone (D.covers self.old.engine.domain)
-            (routines_of self.old.book.history.now) (ticket o)) }
+        ensures steps { StepsThere D.operations self.old self.new place most result }
+        ensures sound { CoversThere D.operations self.old self.new place D.covers result }
         ensures least { steps.old ≤ steps.new }
-        ensures ticked { (m : Machine) (o : OpenTicket AnyGoing) →
-            StandsFor D.operations self.old m →
-            slice_get self.old.book.tickets.open_ones.items place ≡ Some o →
-            IfOk result (λ turn. TicksAtMost D.counted self.old steps.old steps.new
-            (work_of (D.operations self.old.engine.domain) m (ticket o) turn)) }
-        ensures most { (m : Machine) (o : OpenTicket AnyGoing) → StandsFor D.operations self.old m →
-            slice_get self.old.book.tickets.open_ones.items place ≡ Some o →
-            TicksAtMost D.counted self.old steps.old steps.new
-            (suc (cells_filled self.old self.new + 2 * length (targets_of m o.at o.string))) }
+        ensures ticked { TicksForThere D.operations self.old self.new place D.counted steps.old
+            steps.new result }
+        ensures most { TicksForSomeThere D.operations self.old self.new place D.counted steps.old
+            steps.new }
     {
         questions_keep_cells::<D>();
         let progress = fill_some(alloc, &mut self.engine, &self.book, &mut going, most, steps)?;
@@ -181,20 +165,13 @@ impl<D: Domain> Parts<D> {
         ensures spare { self.new.engine.spare ≡ self.old.engine.spare }
         ensures few { FillsFew self.old.engine.store self.new.engine.store }
         ensures next_ticket { self.new.book.tickets.next ≡ self.old.book.tickets.next }
-        ensures steps { FromEach D.operations self.old self.new
-            (λ dom m stands. IsStepOf dom m stands most (ticket_of ticket m.tickets) result) }
-        ensures sound { (m : Machine) → StandsFor D.operations self.old m →
-            IfOk result (λ turn. IfSome (ticket_of ticket m.tickets)
-            (λ t. CoversDone (D.covers self.old.engine.domain)
-            (routines_of self.old.book.history.now) t turn)) }
+        ensures steps { StepsFrom D.operations self.old self.new ticket most result }
+        ensures sound { CoversStep D.operations self.old self.new ticket D.covers result }
         ensures least { steps.old ≤ steps.new }
-        ensures ticked { FromEach D.operations self.old self.new
-            (λ dom m _. IfOk result (λ turn. IfSome (ticket_of ticket m.tickets)
-            (λ t. TicksAtMost D.counted self.old steps.old steps.new (work_of dom m t turn)))) }
-        ensures most { (m : Machine) → StandsFor D.operations self.old m →
-            MatchOption (ticket_of ticket m.tickets) (steps.new ≡ steps.old)
-            (λ t. TicksAtMost D.counted self.old steps.old steps.new
-            (suc (cells_filled self.old self.new + 2 * length (targets_of m t.at t.string)))) }
+        ensures ticked { TicksForStep D.operations self.old self.new ticket D.counted steps.old
+            steps.new result }
+        ensures most { TicksForSomeStep D.operations self.old self.new ticket D.counted steps.old
+            steps.new }
     {
         let Some(place) = self.book.tickets.place_of(ticket) else {
             return Err(StepError::NoTicket);
@@ -231,20 +208,13 @@ impl<D: Domain> Session<D> {
         ensures spare { self.new.engine.spare ≡ self.old.engine.spare }
         ensures bounded { IsBounded self.new.engine.spare self.new.engine.store }
         ensures next_ticket { self.new.book.tickets.next ≡ self.old.book.tickets.next }
-        ensures steps { FromEach D.operations self.old self.new
-            (λ dom m stands. IsStepOf dom m stands most (ticket_of ticket m.tickets) result) }
-        ensures sound { (m : Machine) → StandsFor D.operations self.old m →
-            IfOk result (λ turn. IfSome (ticket_of ticket m.tickets)
-            (λ t. CoversDone (D.covers self.old.engine.domain)
-            (routines_of self.old.book.history.now) t turn)) }
+        ensures steps { StepsFrom D.operations self.old self.new ticket most result }
+        ensures sound { CoversStep D.operations self.old self.new ticket D.covers result }
         ensures least { steps.old ≤ steps.new }
-        ensures ticked { FromEach D.operations self.old self.new
-            (λ dom m _. IfOk result (λ turn. IfSome (ticket_of ticket m.tickets)
-            (λ t. TicksAtMost D.counted self.old steps.old steps.new (work_of dom m t turn)))) }
-        ensures most { (m : Machine) → StandsFor D.operations self.old m →
-            MatchOption (ticket_of ticket m.tickets) (steps.new ≡ steps.old)
-            (λ t. TicksAtMost D.counted self.old steps.old steps.new
-            (suc (cells_filled self.old self.new + 2 * length (targets_of m t.at t.string)))) }
+        ensures ticked { TicksForStep D.operations self.old self.new ticket D.counted steps.old
+            steps.new result }
+        ensures most { TicksForSomeStep D.operations self.old self.new ticket D.counted steps.old
+            steps.new }
     {
         self.parts.engine.sweep();
         self.parts.step_now(alloc, ticket, most, steps)

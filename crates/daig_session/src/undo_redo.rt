@@ -56,8 +56,8 @@ impl<D: Domain> Session<D> {
     ///
     /// # Errors
     ///
-    /// [`UndoError::Nothing`] exactly where no program is after, and [`UndoError::Memory`] when memory runs out. The session
-    /// is then as it was.
+    /// [`UndoError::Nothing`] exactly where no program is before the present one, and [`UndoError::Memory`] when memory runs
+    /// out. The session is then as it was.
     pub fn undo(&mut self, alloc: Global) -> Result<u32, UndoError>
         ensures domain { self.new.engine.domain ≡ self.old.engine.domain }
         ensures spare { self.new.engine.spare ≡ self.old.engine.spare }
@@ -74,8 +74,8 @@ impl<D: Domain> Session<D> {
     ///
     /// # Errors
     ///
-    /// [`UndoError::Nothing`] exactly where no program is ahead, and [`UndoError::Memory`] when memory runs out. The session
-    /// is then as it was.
+    /// [`UndoError::Nothing`] exactly where no program is after the present one, and [`UndoError::Memory`] when memory runs
+    /// out. The session is then as it was.
     pub fn redo(&mut self, alloc: Global) -> Result<u32, UndoError>
         ensures domain { self.new.engine.domain ≡ self.old.engine.domain }
         ensures spare { self.new.engine.spare ≡ self.old.engine.spare }
