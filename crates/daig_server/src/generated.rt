@@ -121,12 +121,13 @@ pub(crate) fn summary<D: Named, L: Ledger>(
     table: Table,
     drawn: Drawn,
     steps: &mut Steps<L>,
-) -> Result<String, Memory>
+) -> Result<Vec<u8>, Memory>
     requires numbered { IsNumbered table.program }
-    ensures line { IfOk result (λ v. (readings : Readings) → string_bytes v ≡
+    ensures line { (readings : Readings) → IfOk result (λ v. v.items ≡
         gen_bytes D.name (opening readings (engine_of settings.now) table.program)
         drawn.seed drawn.size) }
 {
     let mut server = Server::start(alloc, domain, settings, MEMO, table)?;
-    summed(alloc, &mut server, drawn, steps)
+    let line = summed(alloc, &mut server, drawn, steps)?;
+    Ok(line.into_bytes())
 }

@@ -4,13 +4,13 @@ ghost use Rattle.std.specs.Prelude.{◌≡◌, ◌^◌, ◌<◌, ◌≤◌, ◌�
 ghost use Rattle.std.specs.Prelude.{None, Ok, Option, Some};
 ghost use Rattle.io_edge.specs.Outside.{Rose, Lacks};
 ghost use Rattle.imp_syntax.specs.Plain.{Procedure};
-ghost use Rattle.serve_script.specs.Replies.{ReadsBytes, ReadsToEnd};
 ghost use Rattle.serve_answers.specs.Readings.{Readings};
 ghost use Rattle.serve_output.specs.Sources.{source_of};
 ghost use Rattle.serve_output.specs.Jobs.{AsksToGenerate, AsksToServe, Serves};
 ghost use Rattle.serve_output.specs.Output.{file_output, generated_output, output, source_output};
 ghost use Rattle.serve_output.specs.Output.{usage, IsProgram, LacksFile};
-ghost use Rattle.serve_output.specs.Ends.{EndsBy, EndsByFile, Fits, WritesFor, WritesOutput, Wrote};
+ghost use Rattle.serve_output.specs.Ends.{Caused, CausedWithin, EndsBy, Fits};
+ghost use Rattle.serve_output.specs.Ends.{WritesFor, WritesOutput, Wrote};
 ghost use Rattle.serve_output.specs.Told.{job_of_words, TellsFiles, TellsScript};
 ghost use Rattle.serve_output.specs.Works.{Remembers};
 
@@ -36,11 +36,10 @@ const USAGE: &[u8] = b"usage: daig serve|batch|gen [OPTIONS] [FILE]\n";
 /// Refuses the words.
 #[tactic(auto, unfolding(serve_output::specs::Output::usage))]
 fn refuse_words<O: Sink>(out: &mut O) -> Status
-    ensures status { (result ≡ Status.Words) ⊎ (result ≡ Status.Sink) }
+    ensures ends { EndsBy Status.Words (Rose (O.faults out.old) (O.faults out.new)) result }
     ensures fits { Fits result 2 }
     ensures wrote { WritesOutput result (record { status = 2; bytes = usage })
         (O.told out.old) (O.told out.new) }
-    ensures sink_failed { result ≡ Status.Sink → Rose (O.faults out.old) (O.faults out.new) }
 {
     match write_all(out, USAGE) {
         Ok(()) => Status::Words,
@@ -67,17 +66,10 @@ fn run_source<I: Source, O: Sink, L: Ledger>(
         source_of readings source.now ≡ Ok program → I.told script.old ≡ Some text)
         result (source_output readings task settings.now (source_of readings source.now))
         (I.told script.new) (O.told out.old) (O.told out.new) }
-    ensures ended { result ≡ Status.Done → Serves task →
-        ReadsToEnd (I.told script.old) (I.told script.new) }
     ensures unread { (Serves task → ⊥) → script.new ≡ script.old }
-    ensures long { result ≡ Status.LongScript → Serves task ×
-        ReadsBytes (2 ^ 40) (I.told script.old) (I.told script.new) }
-    ensures script_failed { result ≡ Status.Script →
-        Serves task × Rose (I.faults script.old) (I.faults script.new) }
-    ensures sink_failed { result ≡ Status.Sink → Rose (O.faults out.old) (O.faults out.new) }
-    ensures no_file { result ≡ Status.Files → ⊥ }
-    ensures no_words { result ≡ Status.Words → ⊥ }
-    ensures no_long_file { result ≡ Status.LongFile → ⊥ }
+    ensures caused { CausedWithin (Serves task) (Rose (I.faults script.old) (I.faults script.new))
+        (Rose (O.faults out.old) (O.faults out.new)) (I.told script.old) (I.told script.new)
+        result }
 {
     match read_source(alloc, task, source) {
         Ok(work) => do_work(alloc, settings, work, script, out, steps),
@@ -108,18 +100,12 @@ fn run_file<F: Files, I: Source, O: Sink, L: Ledger>(
         → O.told out.old ≡ Some taken
         → Wrote result (file_output readings task settings.now (folder name.now) text) text taken
         (I.told script.new) (O.told out.new) }
-    ensures ended { result ≡ Status.Done → Serves task →
-        ReadsToEnd (I.told script.old) (I.told script.new) }
     ensures unread { (Serves task → ⊥) → script.new ≡ script.old }
-    ensures long { result ≡ Status.LongScript → Serves task ×
-        ReadsBytes (2 ^ 40) (I.told script.old) (I.told script.new) }
-    ensures script_failed { result ≡ Status.Script →
-        Serves task × Rose (I.faults script.old) (I.faults script.new) }
-    ensures sink_failed { result ≡ Status.Sink → Rose (O.faults out.old) (O.faults out.new) }
-    ensures quiet { EndsByFile result → O.told out.new ≡ O.told out.old }
-    ensures no_words { result ≡ Status.Words → ⊥ }
-    ensures files_failed { result ≡ Status.Files →
-        (Rose (F.faults files.old) (F.faults files.new)) ⊎ (Lacks (F.told files.old) name.now) }
+    ensures caused { Caused ⊥ (Serves task) (O.told out.new ≡ O.told out.old)
+        ((Rose (F.faults files.old) (F.faults files.new)) ⊎ (Lacks (F.told files.old) name.now))
+        (Rose (I.faults script.old) (I.faults script.new))
+        (Rose (O.faults out.old) (O.faults out.new)) (I.told script.old) (I.told script.new)
+        result }
 {
     match files.load(alloc, name, MOST_SOURCE) {
         Ok(source) => run_source(alloc, task, settings, source.as_slice(), script, out, steps),
@@ -140,14 +126,13 @@ fn run_generated<I: Source, O: Sink, L: Ledger>(
     steps: &mut Steps<L>,
 ) -> Status
     requires few { drawn.size ≤ 1000 }
-    ensures status { EndsBy Status.Done result }
+    ensures ends { EndsBy Status.Done (Rose (O.faults out.old) (O.faults out.new)) result }
     ensures fits { (readings : Readings) (text : List ℕ) →
         Fits result (generated_output readings drawn domain text).status }
     ensures wrote { (readings : Readings) (text taken : List ℕ) → O.told out.old ≡ Some taken
         → Wrote result (generated_output readings drawn domain text) text taken
         (I.told script.new) (O.told out.new) }
     ensures unread { script.new ≡ script.old }
-    ensures sink_failed { result ≡ Status.Sink → Rose (O.faults out.old) (O.faults out.new) }
 {
     sources_are_accepted();
     each_text_has_one_answer();
@@ -184,8 +169,10 @@ pub(crate) fn run<F: Files, I: Source, O: Sink, L: Ledger>(
     out: &mut O,
     steps: &mut Steps<L>,
 ) -> Status
-    ensures words_taken { job_of_words words.now ≡ None → EndsBy Status.Words result }
-    ensures words_refused { result ≡ Status.Words → job_of_words words.now ≡ None }
+    ensures refuses { job_of_words words.now ≡ None →
+        EndsBy Status.Words (Rose (O.faults out.old) (O.faults out.new)) result }
+    ensures generates { AsksToGenerate (job_of_words words.now) →
+        EndsBy Status.Done (Rose (O.faults out.old) (O.faults out.new)) result }
     ensures fits { (readings : Readings) (folder : List ℕ → Option (List ℕ)) (text : List ℕ)
         → TellsFiles (job_of_words words.now) (F.told files.old) folder
         → Fits result (output readings (job_of_words words.now) folder text).status }
@@ -195,19 +182,14 @@ pub(crate) fn run<F: Files, I: Source, O: Sink, L: Ledger>(
         → O.told out.old ≡ Some taken
         → Wrote result (output readings (job_of_words words.now) folder text) text taken
         (I.told script.new) (O.told out.new) }
-    ensures ended { result ≡ Status.Done → AsksToServe (job_of_words words.now) →
-        ReadsToEnd (I.told script.old) (I.told script.new) }
     ensures unread { (AsksToServe (job_of_words words.now) → ⊥) → script.new ≡ script.old }
-    ensures long { result ≡ Status.LongScript → AsksToServe (job_of_words words.now) ×
-        ReadsBytes (2 ^ 40) (I.told script.old) (I.told script.new) }
-    ensures script_failed { result ≡ Status.Script →
-        AsksToServe (job_of_words words.now) × Rose (I.faults script.old) (I.faults script.new) }
-    ensures sink_failed { result ≡ Status.Sink → Rose (O.faults out.old) (O.faults out.new) }
-    ensures generated { AsksToGenerate (job_of_words words.now) → EndsBy Status.Done result }
-    ensures quiet { EndsByFile result → O.told out.new ≡ O.told out.old }
-    ensures files_failed { result ≡ Status.Files →
-        (Rose (F.faults files.old) (F.faults files.new)) ⊎
-        (LacksFile (F.told files.old) (job_of_words words.now)) }
+    ensures caused { Caused (job_of_words words.now ≡ None) (AsksToServe (job_of_words words.now))
+        (O.told out.new ≡ O.told out.old)
+        ((Rose (F.faults files.old) (F.faults files.new)) ⊎
+        (LacksFile (F.told files.old) (job_of_words words.now)))
+        (Rose (I.faults script.old) (I.faults script.new))
+        (Rose (O.faults out.old) (O.faults out.new)) (I.told script.old) (I.told script.new)
+        result }
 {
     match read_words(alloc, words) {
         Ok(

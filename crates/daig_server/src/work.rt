@@ -1,10 +1,9 @@
 //! What is done for a program: the clauses of `run`, from a program on.
 ghost use Rattle.std.specs.Prelude.{◌≡◌, ◌<◌, ◌^◌, Some};
 ghost use Rattle.io_edge.specs.Outside.{Rose};
-ghost use Rattle.serve_script.specs.Replies.{ReadsBytes, ReadsToEnd};
-ghost use Rattle.serve_output.specs.Ends.{EndsBy, Fits, WritesFor, WritesOutput};
+ghost use Rattle.serve_output.specs.Ends.{CausedWithin, Fits, WritesFor};
 ghost use Rattle.serve_output.specs.Jobs.{engine_of, Serves, TellsServed};
-ghost use Rattle.serve_output.specs.Output.{batch_bytes, done, gen_bytes, served_bytes};
+ghost use Rattle.serve_output.specs.Output.{done, served_bytes};
 ghost use Rattle.serve_answers.specs.Readings.{Readings};
 ghost use Rattle.serve_answers.specs.Fine.{opening};
 ghost use Rattle.serve_answers.specs.Lines.{Served};
@@ -18,11 +17,11 @@ use dom_interval::Interval;
 use dom_listseg::ListSeg;
 use dom_octagon::Octagon;
 use dom_product::Pair;
-use imp_table::{Checked, Table};
-use io_edge::{Failed, Sink, Source};
+use imp_table::Table;
+use io_edge::{Sink, Source};
 use serve_command::{AnalysisOptions, DomainName};
-use serve_output::{Drawn, Named, Status, Work, listed};
-use serve_script::{Answerer, Stop, answer_script, write_all};
+use serve_output::{Named, Status, Work, listed, write_done};
+use serve_script::{Answerer, Stop, answer_script};
 use std::alloc::Global;
 use std::sync::ledger::Ledger;
 
@@ -40,16 +39,9 @@ fn serve_lines<D: Named, I: Source, O: Sink, L: Ledger>(
         WritesFor (λ text. I.told script.old ≡ Some text) result
         (λ text. done (served_bytes D.name first text))
         (I.told script.new) (O.told out.old) (O.told out.new) }
-    ensures ended { result ≡ Status.Done →
-        ReadsToEnd (I.told script.old) (I.told script.new) }
-    ensures long { result ≡ Status.LongScript →
-        ReadsBytes (2 ^ 40) (I.told script.old) (I.told script.new) }
-    ensures script_failed { result ≡ Status.Script →
-        Rose (I.faults script.old) (I.faults script.new) }
-    ensures sink_failed { result ≡ Status.Sink → Rose (O.faults out.old) (O.faults out.new) }
-    ensures no_file { result ≡ Status.Files → ⊥ }
-    ensures no_words { result ≡ Status.Words → ⊥ }
-    ensures no_long_file { result ≡ Status.LongFile → ⊥ }
+    ensures caused { CausedWithin (Unit {0}) (Rose (I.faults script.old) (I.faults script.new))
+        (Rose (O.faults out.old) (O.faults out.new)) (I.told script.old) (I.told script.new)
+        result }
 {
     match answer_script(alloc, server, script, out, steps) {
         Ok(()) => Status::Done,
@@ -78,73 +70,13 @@ fn serve_program<D: Named, I: Source, O: Sink, L: Ledger>(
         WritesFor (λ text. I.told script.old ≡ Some text) result (λ text. done
         (served_bytes D.name (opening readings (engine_of settings.now) table.program) text))
         (I.told script.new) (O.told out.old) (O.told out.new) }
-    ensures ended { result ≡ Status.Done →
-        ReadsToEnd (I.told script.old) (I.told script.new) }
-    ensures long { result ≡ Status.LongScript →
-        ReadsBytes (2 ^ 40) (I.told script.old) (I.told script.new) }
-    ensures script_failed { result ≡ Status.Script →
-        Rose (I.faults script.old) (I.faults script.new) }
-    ensures sink_failed { result ≡ Status.Sink → Rose (O.faults out.old) (O.faults out.new) }
-    ensures no_file { result ≡ Status.Files → ⊥ }
-    ensures no_words { result ≡ Status.Words → ⊥ }
-    ensures no_long_file { result ≡ Status.LongFile → ⊥ }
+    ensures caused { CausedWithin (Unit {0}) (Rose (I.faults script.old) (I.faults script.new))
+        (Rose (O.faults out.old) (O.faults out.new)) (I.told script.old) (I.told script.new)
+        result }
 {
     match Server::start(alloc, domain, settings, memo, table) {
         Ok(mut server) => serve_lines(alloc, &mut server, script, out, steps),
         Err(_) => Status::Memory,
-    }
-}
-
-/// Writes the listing and the report of the program.
-fn batch_program<D: Named, O: Sink, L: Ledger>(
-    alloc: Global,
-    domain: &D,
-    settings: &AnalysisOptions,
-    program: &Checked,
-    out: &mut O,
-    steps: &mut Steps<L>,
-) -> Status
-    ensures status { EndsBy Status.Done result }
-    ensures fits { Fits result 0 }
-    ensures wrote { WritesOutput result
-        (done (batch_bytes D.name (engine_of settings.now) program.now))
-        (O.told out.old) (O.told out.new) }
-    ensures sink_failed { result ≡ Status.Sink → Rose (O.faults out.old) (O.faults out.new) }
-{
-    let Ok(bytes) = listed(alloc, domain, settings, program, steps) else {
-        return Status::Memory;
-    };
-    match write_all(out, bytes.as_slice()) {
-        Ok(()) => Status::Done,
-        Err(Failed) => Status::Sink,
-    }
-}
-
-/// Writes the summary of the generated script over the program.
-fn gen_program<D: Named, O: Sink, L: Ledger>(
-    alloc: Global,
-    domain: D,
-    settings: &AnalysisOptions,
-    table: Table,
-    drawn: Drawn,
-    out: &mut O,
-    steps: &mut Steps<L>,
-) -> Status
-    requires numbered { IsNumbered table.program }
-    ensures status { EndsBy Status.Done result }
-    ensures fits { Fits result 0 }
-    ensures wrote { (readings : Readings) → WritesOutput result (done
-        (gen_bytes D.name (opening readings (engine_of settings.now) table.program)
-        drawn.seed drawn.size))
-        (O.told out.old) (O.told out.new) }
-    ensures sink_failed { result ≡ Status.Sink → Rose (O.faults out.old) (O.faults out.new) }
-{
-    let Ok(line) = summary(alloc, domain, settings, table, drawn, steps) else {
-        return Status::Memory;
-    };
-    match write_all(out, line.as_bytes()) {
-        Ok(()) => Status::Done,
-        Err(Failed) => Status::Sink,
     }
 }
 
@@ -166,25 +98,21 @@ fn work_by<D: Named, I: Source, O: Sink, L: Ledger>(
         WritesFor (TellsServed (task_in work) (I.told script.old)) result
         (work_output readings settings.now work)
         (I.told script.new) (O.told out.old) (O.told out.new) }
-    ensures ended { result ≡ Status.Done → Serves (task_in work) →
-        ReadsToEnd (I.told script.old) (I.told script.new) }
     ensures unread { (Serves (task_in work) → ⊥) → script.new ≡ script.old }
-    ensures long { result ≡ Status.LongScript → Serves (task_in work) ×
-        ReadsBytes (2 ^ 40) (I.told script.old) (I.told script.new) }
-    ensures script_failed { result ≡ Status.Script →
-        Serves (task_in work) × Rose (I.faults script.old) (I.faults script.new) }
-    ensures sink_failed { result ≡ Status.Sink → Rose (O.faults out.old) (O.faults out.new) }
-    ensures no_file { result ≡ Status.Files → ⊥ }
-    ensures no_words { result ≡ Status.Words → ⊥ }
-    ensures no_long_file { result ≡ Status.LongFile → ⊥ }
+    ensures caused { CausedWithin (Serves (task_in work))
+        (Rose (I.faults script.old) (I.faults script.new))
+        (Rose (O.faults out.old) (O.faults out.new)) (I.told script.old) (I.told script.new)
+        result }
 {
     match work {
         Work::Serve { table, memo } => {
             serve_program(alloc, domain, settings, memo, table, script, out, steps)
         }
-        Work::Batch { program } => batch_program(alloc, &domain, settings, &program, out, steps),
+        Work::Batch { program } => {
+            write_done(listed(alloc, &domain, settings, &program, steps), out)
+        }
         Work::Gen { table, drawn } => {
-            gen_program(alloc, domain, settings, table, drawn, out, steps)
+            write_done(summary(alloc, domain, settings, table, drawn, steps), out)
         }
     }
 }
@@ -205,17 +133,11 @@ pub(crate) fn do_work<I: Source, O: Sink, L: Ledger>(
         WritesFor (TellsServed (task_in work) (I.told script.old)) result
         (work_output readings settings.now work)
         (I.told script.new) (O.told out.old) (O.told out.new) }
-    ensures ended { result ≡ Status.Done → Serves (task_in work) →
-        ReadsToEnd (I.told script.old) (I.told script.new) }
     ensures unread { (Serves (task_in work) → ⊥) → script.new ≡ script.old }
-    ensures long { result ≡ Status.LongScript → Serves (task_in work) ×
-        ReadsBytes (2 ^ 40) (I.told script.old) (I.told script.new) }
-    ensures script_failed { result ≡ Status.Script →
-        Serves (task_in work) × Rose (I.faults script.old) (I.faults script.new) }
-    ensures sink_failed { result ≡ Status.Sink → Rose (O.faults out.old) (O.faults out.new) }
-    ensures no_file { result ≡ Status.Files → ⊥ }
-    ensures no_words { result ≡ Status.Words → ⊥ }
-    ensures no_long_file { result ≡ Status.LongFile → ⊥ }
+    ensures caused { CausedWithin (Serves (task_in work))
+        (Rose (I.faults script.old) (I.faults script.new))
+        (Rose (O.faults out.old) (O.faults out.new)) (I.told script.old) (I.told script.new)
+        result }
 {
     match settings.domain {
         DomainName::Interval => work_by(alloc, Interval, settings, work, script, out, steps),

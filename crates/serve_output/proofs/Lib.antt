@@ -1,3 +1,4 @@
+pub mod EndsLemmas
 pub mod OutputLemmas
 pub mod CertificateLemmas
 pub mod SourceLemmas

@@ -6,7 +6,6 @@ use Rattle.imp_parse.specs.declared.error.ParseError.{ParseError}
 use Rattle.imp_check.specs.declared.fault.LocatedFault.{LocatedFault}
 use Rattle.imp_check.specs.Programs.{check_fault}
 use Rattle.io_edge.specs.Outside.{Rose}
-use Rattle.serve_script.specs.Replies.{ReadBytes}
 use Rattle.request_json.specs.declared.reply.Refusal.{Refusal}
 use Rattle.serve_answers.specs.Readings.{Readings}
 use Rattle.serve_answers.specs.Fine.{IsProgramOf}
@@ -25,7 +24,7 @@ use Rattle.serve_output.specs.Jobs.{by_default, engine_of, AsksToServe}
 use Rattle.serve_output.specs.Sources.{checked, source_of, unless_faulty}
 use Rattle.serve_output.specs.Output.{Output, source_output, file_output, output, program_bytes, cert_output, done, of_file, of_source, program_output, verify_bytes, most_certificate, most_source, HasProgram, IsAccepted, IsProgram, LacksCertificate, LacksEither, LacksFile}
 use Rattle.serve_output.specs.Told.{TellsFiles}
-use Rattle.serve_output.specs.Ends.{code_of, status_of, Fits, IsStatus, Wrote, WroteAll}
+use Rattle.serve_output.specs.Ends.{code_of, status_of, Caused, EndsBy, Fits, IsStatus, Wrote, WroteAll}
 use Rattle.serve_script.proofs.WriteLemmas.{rose_since}
 
 -- the number of a status tells it
@@ -171,46 +170,40 @@ zero_accepted readings (Some (job.Cert domain widening budget file)) folder scri
 zero_accepted readings (Some (job.Verify domain file cert)) folder script is = program_zero readings (folder file) (cert_output domain (Check cert) folder) is
 
 -- numbers of ends
-pub ends_refused : (s : Status) (n : ℕ) → n ≡ code_of s → (s ≡ Words) ⊎ (s ≡ Sink) ⊎ (s ≡ Memory) → (n ≡ 2) ⊎ (n ≡ 5) ⊎ (n ≡ 6)
-ends_refused s n is (inl words) = inl (is ∙ ap code_of words)
-ends_refused s n is (inr (inl sink)) = inr (inl (is ∙ ap code_of sink))
-ends_refused s n is (inr (inr memory)) = inr (inr (is ∙ ap code_of memory))
-
-pub ends_generated : (s : Status) (n : ℕ) → n ≡ code_of s → (s ≡ Done) ⊎ ((s ≡ Sink) ⊎ (s ≡ Memory)) → (n ≡ 0) ⊎ (n ≡ 5) ⊎ (n ≡ 6)
-ends_generated s n is (inl done) = inl (is ∙ ap code_of done)
-ends_generated s n is (inr (inl sink)) = inr (inl (is ∙ ap code_of sink))
-ends_generated s n is (inr (inr memory)) = inr (inr (is ∙ ap code_of memory))
+pub end_number : (wanted s : Status) (n : ℕ) (fails : Type 0) → n ≡ code_of s → EndsBy wanted fails s → (n ≡ code_of wanted) ⊎ (n ≡ 5) ⊎ (n ≡ 6)
+end_number wanted s n fails is (inl ends) = inl (is ∙ ap code_of ends)
+end_number wanted s n fails is (inr (inl sink)) = inr (inl (is ∙ ap code_of sink.0))
+end_number wanted s n fails is (inr (inr memory)) = inr (inr (is ∙ ap code_of memory))
 
 -- at the end of all without a fault
-pub wrote_complete : (s : Status) (readings : Readings) (job : Option Job) (files : Option (List ℕ → Option (List ℕ))) (folder : List ℕ → Option (List ℕ)) (script taken : List ℕ) (rest written : Option (List ℕ))
-    (files_rose script_rose sink_rose : Type 0) →
+pub wrote_complete : (s : Status) (readings : Readings) (job : Option Job) (files : Option (List ℕ → Option (List ℕ))) (folder : List ℕ → Option (List ℕ)) (script taken : List ℕ) (told rest written : Option (List ℕ))
+    (words quiet files_rose script_rose sink_rose : Type 0) →
     TellsFiles job files folder →
     (files_rose ⊎ script_rose ⊎ sink_rose → ⊥) →
     length script < 2 ^ 40 → code_of s ≢ 6 →
-    (s ≡ Script → AsksToServe job × script_rose) → (s ≡ Sink → sink_rose) →
-    (s ≡ Files → files_rose ⊎ LacksFile files job) →
-    (s ≡ LongScript → ReadBytes (2 ^ 40) script rest) →
+    (s ≡ LongScript → told ≡ Some script) →
+    Caused words (AsksToServe job) quiet (files_rose ⊎ LacksFile files job) script_rose sink_rose told rest s →
     Fits s (output readings job folder script).status →
     Wrote s (output readings job folder script) script taken rest written →
     WroteAll (code_of s) (output readings job folder script) taken written
-wrote_complete Done readings job files folder script taken rest written f i o is none short out script_fails sink_fails files_fail long fits wrote = wrote
-wrote_complete Words readings job files folder script taken rest written f i o is none short out script_fails sink_fails files_fail long fits wrote = wrote
-wrote_complete Source readings job files folder script taken rest written f i o is none short out script_fails sink_fails files_fail long fits wrote = wrote
-wrote_complete Script readings job files folder script taken rest written f i o is none short out script_fails sink_fails files_fail long fits wrote = absurd (none (inr (inl (script_fails refl).1)))
-wrote_complete Sink readings job files folder script taken rest written f i o is none short out script_fails sink_fails files_fail long fits wrote = absurd (none (inr (inr (sink_fails refl))))
-wrote_complete Memory readings job files folder script taken rest written f i o is none short out script_fails sink_fails files_fail long fits wrote = absurd (out refl)
-wrote_complete Files readings job files folder script taken rest written f i o is none short out script_fails sink_fails files_fail long fits wrote =
-    elim (files_fail refl) [
+wrote_complete Done readings job files folder script taken told rest written w q f i o is none short out read caused fits wrote = wrote
+wrote_complete Words readings job files folder script taken told rest written w q f i o is none short out read caused fits wrote = wrote
+wrote_complete Source readings job files folder script taken told rest written w q f i o is none short out read caused fits wrote = wrote
+wrote_complete Script readings job files folder script taken told rest written w q f i o is none short out read caused fits wrote = absurd (none (inr (inl caused.1)))
+wrote_complete Sink readings job files folder script taken told rest written w q f i o is none short out read caused fits wrote = absurd (none (inr (inr caused)))
+wrote_complete Memory readings job files folder script taken told rest written w q f i o is none short out read caused fits wrote = absurd (out refl)
+wrote_complete Files readings job files folder script taken told rest written w q f i o is none short out read caused fits wrote =
+    elim caused.1 [
       | inl rose ↦ absurd (none (inl rose))
       | inr lacks ↦
           let status : (output readings job folder script).status ≡ 7 = lacking_output readings job files folder script is lacks in
           let quiet : (output readings job folder script).bytes ≡ [] = quiet_output readings job folder script (omega (arith, status)) in
           record { same = status; all = wrote ∙ ap Some (sym (append-nil taken)) ∙ ap (λ xs. Some (taken ++ xs)) (sym quiet) }
     ]
-wrote_complete LongScript readings job files folder script taken rest written f i o is none short out script_fails sink_fails files_fail long fits wrote =
-    let read = long refl in
-    absurd (omega (arith, short, read.many, ap length read.split, length-append read.read read.left))
-wrote_complete LongFile readings job files folder script taken rest written f i o is none short out script_fails sink_fails files_fail long fits wrote =
+wrote_complete LongScript readings job files folder script taken told rest written w q f i o is none short out read caused fits wrote =
+    let all = caused.1 script (read refl) in
+    absurd (omega (arith, short, all.many, ap length all.split, length-append all.read all.left))
+wrote_complete LongFile readings job files folder script taken told rest written w q f i o is none short out read caused fits wrote =
     let quiet : (output readings job folder script).bytes ≡ [] = quiet_output readings job folder script (omega (arith, fits)) in
     record { same = fits; all = wrote ∙ ap Some (sym (append-nil taken)) ∙ ap (λ xs. Some (taken ++ xs)) (sym quiet) }
 

@@ -1,7 +1,7 @@
 -- How the program ends: by a status, with what was read and written.
-use Rattle.std.specs.Prelude.{◌≡◌, ℕ, ◌<◌, ◌==◌, ◌++◌, ◌⊎◌, List, [], ◌∷◌, Option, Some, if◌then◌else◌}
+use Rattle.std.specs.Prelude.{◌≡◌, ℕ, ◌<◌, ◌==◌, ◌^◌, ◌++◌, ◌⊎◌, List, [], ◌∷◌, Option, Some, None, if◌then◌else◌}
 use Rattle.serve_command.specs.declared.job.DomainName.{DomainName}
-use Rattle.serve_script.specs.Replies.{AnsweredRead, WrotePrefix}
+use Rattle.serve_script.specs.Replies.{AnsweredRead, ReadsBytes, ReadsToEnd, WrotePrefix}
 use Rattle.serve_answers.specs.Lines.{Served, server}
 use Rattle.serve_output.specs.declared.status.Status.{Status}
 use Rattle.serve_output.specs.declared.status.Status.TheVariants.{Done, Words, Source, Script, Sink, Memory, Files, LongScript, LongFile}
@@ -99,9 +99,27 @@ WritesFor tells status output script' sink sink' =
     (text taken : List ℕ) → tells text → sink ≡ Some taken → Wrote status (output text) text taken script' sink'
 
 -- It ends so, unless a write fails or memory runs out.
-abbrev pub EndsBy : (wanted status : Status) → Type 0
-EndsBy wanted status = (status ≡ wanted) ⊎ ((status ≡ Sink) ⊎ (status ≡ Memory))
+abbrev pub EndsBy : (wanted : Status) (sink_fails : Type 0) → (status : Status) → Type 0
+EndsBy wanted sink_fails status = (status ≡ wanted) ⊎ (((status ≡ Sink) × sink_fails) ⊎ (status ≡ Memory))
 
--- A file is at fault, and nothing is written.
-abbrev pub EndsByFile : Status → Type 0
-EndsByFile status = (status ≡ Files) ⊎ (status ≡ LongFile)
+-- What an end comes of, and what was read and written before it. These are given: `words`, the words are not taken; `serves`,
+-- the lines of the script are answered; `quiet`, nothing is written; `file_fails`, a file could not be loaded or is not there;
+-- `script_fails`, a read of the script failed; `sink_fails`, a write failed. A prime marks what is told after the job.
+abbrev pub Caused : (words serves quiet file_fails script_fails sink_fails : Type 0) → (script script' : Option (List ℕ)) → Status → Type 0
+Caused words serves quiet file_fails script_fails sink_fails script script' Done = serves → ReadsToEnd script script'
+Caused words serves quiet file_fails script_fails sink_fails script script' Words = words
+Caused words serves quiet file_fails script_fails sink_fails script script' Source = Unit {0}
+Caused words serves quiet file_fails script_fails sink_fails script script' Script = serves × script_fails
+Caused words serves quiet file_fails script_fails sink_fails script script' Sink = sink_fails
+Caused words serves quiet file_fails script_fails sink_fails script script' Memory = Unit {0}
+Caused words serves quiet file_fails script_fails sink_fails script script' Files = quiet × file_fails
+Caused words serves quiet file_fails script_fails sink_fails script script' LongScript = serves × ReadsBytes (2 ^ 40) script script'
+Caused words serves quiet file_fails script_fails sink_fails script script' LongFile = quiet
+
+-- What the end of work comes of that loads no file.
+abbrev pub CausedWithin : (serves script_fails sink_fails : Type 0) → (script script' : Option (List ℕ)) → Status → Type 0
+CausedWithin serves script_fails sink_fails = Caused ⊥ serves ⊥ ⊥ script_fails sink_fails
+
+-- What the end of work comes of that reads no script.
+abbrev pub CausedByFiles : (quiet file_fails sink_fails : Type 0) → Status → Type 0
+CausedByFiles quiet file_fails sink_fails = Caused ⊥ ⊥ quiet file_fails ⊥ sink_fails None None

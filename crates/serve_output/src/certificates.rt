@@ -6,10 +6,10 @@ ghost use Rattle.cert_lines.specs.Theorem.{IsYesSound};
 ghost use Rattle.serve_answers.specs.Readings.{Readings};
 ghost use Rattle.serve_output.specs.declared.task.CertTask.TheVariants.{Check};
 ghost use Rattle.serve_output.specs.Domains.{IsYesSoundBy};
-ghost use Rattle.serve_output.specs.Ends.{EndsBy, EndsByFile, Fits, FitsIn, WritesIn, Wrote};
+ghost use Rattle.serve_output.specs.Ends.{CausedByFiles, FitsIn, WritesIn};
 ghost use Rattle.serve_output.specs.Kept.{WrittenAreAccepted};
 ghost use Rattle.serve_output.specs.Sources.{source_of, IsProgramText};
-ghost use Rattle.serve_output.specs.Output.{cert_bytes, cert_output, done, of_source};
+ghost use Rattle.serve_output.specs.Output.{cert_bytes, cert_output, of_source};
 ghost use Rattle.serve_output.specs.Output.{program_output, verify_bytes};
 ghost use Rattle.serve_output.specs.Output.{LacksCertificate, LacksEither};
 
@@ -17,6 +17,7 @@ use crate::refusing::refuse_source;
 use crate::source::{MOST_SOURCE, SourceError, read_checked};
 use crate::status::Status;
 use crate::task::CertTask;
+use crate::writing::write_done;
 use base_counter::Steps;
 use base_values::Memory;
 use cert_accepted::{
@@ -32,9 +33,8 @@ use dom_listseg::ListSeg;
 use dom_octagon::Octagon;
 use imp_chains::Widening;
 use imp_table::Checked;
-use io_edge::{Failed, Files, LoadFault, Sink};
+use io_edge::{Files, LoadFault, Sink};
 use serve_command::SingleDomain;
-use serve_script::write_all;
 use std::alloc::Global;
 use std::sync::ledger::Ledger;
 
@@ -106,24 +106,6 @@ fn verify_line<L: Ledger>(
     }
 }
 
-/// Writes all that is to be written.
-fn write_done<O: Sink>(bytes: Result<Vec<u8>, Memory>, out: &mut O) -> Status
-    ensures status { EndsBy Status.Done result }
-    ensures fits { Fits result 0 }
-    ensures wrote { (all text taken : List ℕ) (rest : Option (List ℕ)) →
-        IfOk bytes (λ v. v.items ≡ all) → O.told out.old ≡ Some taken →
-        Wrote result (done all) text taken rest (O.told out.new) }
-    ensures sink_failed { result ≡ Status.Sink → Rose (O.faults out.old) (O.faults out.new) }
-{
-    let Ok(bytes) = bytes else {
-        return Status::Memory;
-    };
-    match write_all(out, bytes.as_slice()) {
-        Ok(()) => Status::Done,
-        Err(Failed) => Status::Sink,
-    }
-}
-
 /// Checks the certificate that a file has.
 fn check_file<F: Files, O: Sink, L: Ledger>(
     alloc: Global,
@@ -139,13 +121,10 @@ fn check_file<F: Files, O: Sink, L: Ledger>(
     ensures wrote { WritesIn (F.told files.old) result
         (λ folder. cert_output domain (Check name.now) folder program.now)
         (O.told out.old) (O.told out.new) }
-    ensures sink_failed { result ≡ Status.Sink → Rose (O.faults out.old) (O.faults out.new) }
-    ensures quiet { EndsByFile result → O.told out.new ≡ O.told out.old }
-    ensures files_failed { result ≡ Status.Files →
-        (Rose (F.faults files.old) (F.faults files.new)) ⊎ (Lacks (F.told files.old) name.now) }
-    ensures no_words { result ≡ Status.Words → ⊥ }
-    ensures no_script { result ≡ Status.Script → ⊥ }
-    ensures no_long_script { result ≡ Status.LongScript → ⊥ }
+    ensures caused { CausedByFiles (O.told out.new ≡ O.told out.old)
+        ((Rose (F.faults files.old) (F.faults files.new)) ⊎
+        (Lacks (F.told files.old) name.now))
+        (Rose (O.faults out.old) (O.faults out.new)) result }
 {
     match files.load(alloc, name, MOST_CERTIFICATE) {
         Ok(cert) => {
@@ -174,14 +153,10 @@ fn certify<F: Files, O: Sink, L: Ledger>(
     ensures wrote { WritesIn (F.told files.old) result
         (λ folder. cert_output domain task.now folder program.now)
         (O.told out.old) (O.told out.new) }
-    ensures sink_failed { result ≡ Status.Sink → Rose (O.faults out.old) (O.faults out.new) }
-    ensures quiet { EndsByFile result → O.told out.new ≡ O.told out.old }
-    ensures files_failed { result ≡ Status.Files →
-        (Rose (F.faults files.old) (F.faults files.new)) ⊎
-        (LacksCertificate (F.told files.old) task.now) }
-    ensures no_words { result ≡ Status.Words → ⊥ }
-    ensures no_script { result ≡ Status.Script → ⊥ }
-    ensures no_long_script { result ≡ Status.LongScript → ⊥ }
+    ensures caused { CausedByFiles (O.told out.new ≡ O.told out.old)
+        ((Rose (F.faults files.old) (F.faults files.new)) ⊎
+        (LacksCertificate (F.told files.old) task.now))
+        (Rose (O.faults out.old) (O.faults out.new)) result }
 {
     match task {
         CertTask::Write { widening, budget } => {
@@ -211,14 +186,10 @@ fn certify_source<F: Files, O: Sink, L: Ledger>(
     ensures wrote { (readings : Readings) → WritesIn (F.told files.old) result
         (λ folder. of_source (source_of readings source.now) (cert_output domain task.now folder))
         (O.told out.old) (O.told out.new) }
-    ensures sink_failed { result ≡ Status.Sink → Rose (O.faults out.old) (O.faults out.new) }
-    ensures quiet { EndsByFile result → O.told out.new ≡ O.told out.old }
-    ensures files_failed { result ≡ Status.Files →
-        (Rose (F.faults files.old) (F.faults files.new)) ⊎
-        (IsProgramText source.now × LacksCertificate (F.told files.old) task.now) }
-    ensures no_words { result ≡ Status.Words → ⊥ }
-    ensures no_script { result ≡ Status.Script → ⊥ }
-    ensures no_long_script { result ≡ Status.LongScript → ⊥ }
+    ensures caused { CausedByFiles (O.told out.new ≡ O.told out.old)
+        ((Rose (F.faults files.old) (F.faults files.new)) ⊎
+        (IsProgramText source.now × LacksCertificate (F.told files.old) task.now))
+        (Rose (O.faults out.old) (O.faults out.new)) result }
 {
     match read_checked(alloc, source) {
         Ok(program) => certify(alloc, domain, task, &program, files, out, steps),
@@ -242,14 +213,10 @@ pub fn run_certificate<F: Files, O: Sink, L: Ledger>(
     ensures wrote { (readings : Readings) → WritesIn (F.told files.old) result
         (λ folder. program_output readings (folder name.now) (cert_output domain task.now folder))
         (O.told out.old) (O.told out.new) }
-    ensures sink_failed { result ≡ Status.Sink → Rose (O.faults out.old) (O.faults out.new) }
-    ensures quiet { EndsByFile result → O.told out.new ≡ O.told out.old }
-    ensures files_failed { result ≡ Status.Files →
-        (Rose (F.faults files.old) (F.faults files.new)) ⊎
-        (LacksEither (F.told files.old) name.now task.now) }
-    ensures no_words { result ≡ Status.Words → ⊥ }
-    ensures no_script { result ≡ Status.Script → ⊥ }
-    ensures no_long_script { result ≡ Status.LongScript → ⊥ }
+    ensures caused { CausedByFiles (O.told out.new ≡ O.told out.old)
+        ((Rose (F.faults files.old) (F.faults files.new)) ⊎
+        (LacksEither (F.told files.old) name.now task.now))
+        (Rose (O.faults out.old) (O.faults out.new)) result }
 {
     match files.load(alloc, name, MOST_SOURCE) {
         Ok(source) => certify_source(alloc, domain, task, source.as_slice(), files, out, steps),

@@ -21,11 +21,10 @@ fn refusal_line(alloc: Global, why: Refusal) -> Result<Vec<u8>, Memory>
 
 /// Refuses a source: its refusal is written as a line.
 pub fn refuse_source<O: Sink>(alloc: Global, why: Refusal, out: &mut O) -> Status
-    ensures status { EndsBy Status.Source result }
+    ensures ends { EndsBy Status.Source (Rose (O.faults out.old) (O.faults out.new)) result }
     ensures fits { Fits result 3 }
     ensures wrote { WritesOutput result (record { status = 3; bytes = reply_text (r.Refused why) })
         (O.told out.old) (O.told out.new) }
-    ensures sink_failed { result ≡ Status.Sink → Rose (O.faults out.old) (O.faults out.new) }
 {
     let Ok(line) = refusal_line(alloc, why) else {
         return Status::Memory;

@@ -1,3 +1,5 @@
+use Rattle.serve_output.specs.declared.status.Status.TheVariants.{Source}
+use Rattle.serve_output.proofs.EndsLemmas.{caused_by_end}
 use Rattle.daig_server.proofs.run.run_source.Goals as goal
 
 pub returns-in-Err-Refused-clause-fits : goal.returns-in-Err-Refused-clause-fits
@@ -19,5 +21,8 @@ returns-in-Ok-clause-wrote g c = λ readings text taken script told.
     let task = (c.in-Ok.ensures {u = tt}).task in
     rw (is, ← task) (c.do_work.ensures.wrote readings text taken (λ serves. script (rw task at serves) _ is) told)
 
-pub returns-in-Ok-clause-ended : goal.returns-in-Ok-clause-ended
-returns-in-Ok-clause-ended g c = λ done serves. c.do_work.ensures.ended done (rw (c.in-Ok.ensures {u = tt}).task serves)
+pub returns-in-Ok-clause-caused : goal.returns-in-Ok-clause-caused
+returns-in-Ok-clause-caused g c = rw (c.in-Ok.ensures {u = tt}).task at c.do_work.ensures.caused
+
+pub returns-in-Err-Refused-clause-caused : goal.returns-in-Err-Refused-clause-caused
+returns-in-Err-Refused-clause-caused g c = caused_by_end _ _ _ _ _ _ _ _ Source c.refuse_source.result tt c.refuse_source.ensures.ends

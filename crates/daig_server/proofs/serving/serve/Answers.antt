@@ -4,7 +4,7 @@ use Rattle.serve_output.specs.Told.{job_of_words}
 use Rattle.serve_output.specs.declared.status.Status.TheVariants.{Done, Words, Script, Sink, Files, LongScript, LongFile}
 use Rattle.serve_output.proofs.CertificateLemmas.{yes_covers}
 use Rattle.serve_output.proofs.SettlesLemmas.{settled}
-use Rattle.serve_output.proofs.OutputLemmas.{accepted_read, ends_generated, ends_refused, file_read, named_by, same_status, told_by, wrote_complete, zero_accepted}
+use Rattle.serve_output.proofs.OutputLemmas.{accepted_read, end_number, file_read, named_by, same_status, told_by, wrote_complete, zero_accepted}
 use Rattle.serve_output.specs.Domains.{meaning_of}
 use Rattle.serve_answers.proofs.Histories.{same_alike, undo_restores, redo_restores}
 use Rattle.reply_lines.proofs.Refused.{refusals_keep}
@@ -18,10 +18,10 @@ returns-clause-named g c = named_by c.run.result _ c.code.ensures.code
 
 pub returns-clause-complete : goal.returns-clause-complete
 returns-clause-complete g c = λ readings told tells none short enough.
-    rw c.code.ensures.code (wrote_complete c.run.result readings (job_of_words c.args.words.now) (g.F.Files.told c.args.files.now) told.folder told.script told.taken _ _ _ _ _
-    tells.files_are none short (λ six. enough (c.code.ensures.code ∙ six)) c.run.ensures.script_failed c.run.ensures.sink_failed c.run.ensures.files_failed
+    rw c.code.ensures.code (wrote_complete c.run.result readings (job_of_words c.args.words.now) (g.F.Files.told c.args.files.now) told.folder told.script told.taken _ _ _ _ _ _ _ _
+    tells.files_are none short (λ six. enough (c.code.ensures.code ∙ six))
     (λ long. let found = zero_accepted readings (job_of_words c.args.words.now) told.folder told.script (rw long at (c.run.ensures.fits readings told.folder told.script tells.files_are)) in
-    (c.run.ensures.long long).1 told.script (tells.script_is (c.run.ensures.long long).0 found.0 found.1))
+    tells.script_is (rw long at c.run.ensures.caused).0 found.0 found.1) c.run.ensures.caused
     (c.run.ensures.fits readings told.folder told.script tells.files_are) (c.run.ensures.wrote readings told.folder told.script told.taken tells.files_are tells.script_is tells.sink_is))
 
 pub returns-clause-exactly : goal.returns-clause-exactly
@@ -34,31 +34,31 @@ returns-clause-written g c = λ readings told tells.
 
 pub returns-clause-words_exactly : goal.returns-clause-words_exactly
 returns-clause-words_exactly g c = (
-  (λ two. c.run.ensures.words_refused (same_status c.run.result Words _ c.code.ensures.code two)),
-  (λ none. ends_refused c.run.result _ c.code.ensures.code (c.run.ensures.words_taken none)),
+  (λ is. rw (same_status c.run.result Words _ c.code.ensures.code is) at c.run.ensures.caused),
+  (λ none. end_number Words c.run.result _ _ c.code.ensures.code (c.run.ensures.refuses none)),
 )
 
 pub returns-clause-read_to_end : goal.returns-clause-read_to_end
-returns-clause-read_to_end g c = λ is. c.run.ensures.ended (same_status c.run.result Done _ c.code.ensures.code is)
+returns-clause-read_to_end g c = λ is. rw (same_status c.run.result Done _ c.code.ensures.code is) at c.run.ensures.caused
 
 pub returns-clause-gen_ends : goal.returns-clause-gen_ends
-returns-clause-gen_ends g c = λ asks. ends_generated c.run.result _ c.code.ensures.code (c.run.ensures.generated asks)
+returns-clause-gen_ends g c = λ asks. end_number Done c.run.result _ _ c.code.ensures.code (c.run.ensures.generates asks)
 
 pub returns-clause-script_failed : goal.returns-clause-script_failed
-returns-clause-script_failed g c = λ is. c.run.ensures.script_failed (same_status c.run.result Script _ c.code.ensures.code is)
+returns-clause-script_failed g c = λ is. rw (same_status c.run.result Script _ c.code.ensures.code is) at c.run.ensures.caused
 
 pub returns-clause-sink_failed : goal.returns-clause-sink_failed
-returns-clause-sink_failed g c = λ is. c.run.ensures.sink_failed (same_status c.run.result Sink _ c.code.ensures.code is)
+returns-clause-sink_failed g c = λ is. rw (same_status c.run.result Sink _ c.code.ensures.code is) at c.run.ensures.caused
 
 pub returns-clause-files_failed : goal.returns-clause-files_failed
-returns-clause-files_failed g c = λ is. c.run.ensures.files_failed (same_status c.run.result Files _ c.code.ensures.code is)
+returns-clause-files_failed g c = λ is. (rw (same_status c.run.result Files _ c.code.ensures.code is) at c.run.ensures.caused).1
 
 pub returns-clause-long_script : goal.returns-clause-long_script
-returns-clause-long_script g c = λ is. c.run.ensures.long (same_status c.run.result LongScript _ c.code.ensures.code is)
+returns-clause-long_script g c = λ is. rw (same_status c.run.result LongScript _ c.code.ensures.code is) at c.run.ensures.caused
 
 pub returns-clause-nothing_written : goal.returns-clause-nothing_written
-returns-clause-nothing_written g c (inl is) = c.run.ensures.quiet (inl (same_status c.run.result Files _ c.code.ensures.code is))
-returns-clause-nothing_written g c (inr is) = c.run.ensures.quiet (inr (same_status c.run.result LongFile _ c.code.ensures.code is))
+returns-clause-nothing_written g c (inl is) = (rw (same_status c.run.result Files _ c.code.ensures.code is) at c.run.ensures.caused).0
+returns-clause-nothing_written g c (inr is) = rw (same_status c.run.result LongFile _ c.code.ensures.code is) at c.run.ensures.caused
 
 pub returns-clause-sound : goal.returns-clause-sound
 returns-clause-sound g c = λ readings folder program before line accepted.
@@ -103,10 +103,10 @@ returns-clause-answered_part g c = λ readings told program tells accepted ends.
     elim ends [
       | inl is ↦
           let stopped = same_status c.run.result Script _ c.code.ensures.code is in
-          answered_by_words readings words told.folder program told.script told.taken _ _ accepted (c.run.ensures.script_failed stopped).0 (rw stopped at wrote)
+          answered_by_words readings words told.folder program told.script told.taken _ _ accepted (rw stopped at c.run.ensures.caused).0 (rw stopped at wrote)
       | inr is ↦
           let stopped = same_status c.run.result LongScript _ c.code.ensures.code is in
-          answered_by_words readings words told.folder program told.script told.taken _ _ accepted (c.run.ensures.long stopped).0 (rw stopped at wrote)
+          answered_by_words readings words told.folder program told.script told.taken _ _ accepted (rw stopped at c.run.ensures.caused).0 (rw stopped at wrote)
     ]
 
 pub returns-clause-one_reply_each : goal.returns-clause-one_reply_each
