@@ -1,5 +1,5 @@
 -- What is written for a line, and which machine stands after it.
-use Rattle.std.specs.Prelude.{◌≡◌, ◌⊎◌, ℕ, List, [], Option, Some, None, Result, Ok, Err, IfErr, IfOk}
+use Rattle.std.specs.Prelude.{◌≡◌, ◌⊎◌, ℕ, List, [], Option, Some, None, Result, Ok, Err, IfErr, IfOk, Vec}
 use Rattle.imp_syntax.specs.declared.edit.Location.{Location}
 use Rattle.imp_check.specs.Slots.{routines_of}
 use Rattle.domain_laws.specs.Operations.{Operations}
@@ -23,6 +23,7 @@ use Rattle.daig_session.specs.declared.stepping.StepResult.TheVariants.{Pending,
 use Rattle.request_json.specs.declared.error.ReadError.{ReadError}
 use Rattle.request_json.specs.declared.request.Request.{Request}
 use Rattle.request_json.specs.declared.request.Request.TheVariants as q
+use Rattle.request_json.specs.declared.reply.Reply.{Reply}
 use Rattle.request_json.specs.declared.reply.Reply.TheVariants as r
 use Rattle.request_json.specs.declared.reply.Refusal.{Refusal}
 use Rattle.request_json.specs.declared.reply.Refusal.TheVariants as refusal
@@ -127,9 +128,9 @@ Makes e (Err error) = IsTextError e error
 -- of the machine. A line is the result, if there is memory.
 module _ {D S : Type 0} (operations : D → Operations S) (old new : Session D S) where
   -- The line is the reply of the turn, and the session then stands for the machine after it.
-  abbrev pub TakesTurn : {V E : Type 0} → (Operations S → Machine → Outcome) → Result V E → (items : V → List ℕ) → Type 0
-  TakesTurn turn line items = (m : Machine) → StandsFor operations old m →
-      IfOk line (λ v. Follows (turn (operations old.engine.domain) m) (StandsFor operations new) (items v))
+  abbrev pub TakesTurn : {E Z : Type 0} → (Operations S → Machine → Outcome) → Result (Vec ℕ Z) E → Type 0
+  TakesTurn turn line = (m : Machine) → StandsFor operations old m →
+      IfOk line (λ v. Follows (turn (operations old.engine.domain) m) (StandsFor operations new) v.items)
 
   -- When memory runs out some of the missing names are kept, the first ones; or the reply alone is not written.
   abbrev pub FillsOrTurns : {V E : Type 0} → (missing : Operations S → Machine → List CellName) → (Operations S → Machine → Outcome) → Result V E → Type 0
@@ -148,3 +149,7 @@ module _ {D S : Type 0} (operations : D → Operations S) (old new : Session D S
   abbrev pub StaysUnlessFilled : {V E : Type 0} → Result Request ReadError → Result V E → Type 0
   StaysUnlessFilled request line = (m : Machine) → StandsFor operations old m → (Fills request → ⊥) →
       IfErr line (λ _. StandsFor operations new m)
+
+-- The line is this reply, from each machine that a session stands for.
+abbrev pub TellsReply : {D S E Z : Type 0} → (operations : D → Operations S) → Session D S → (Machine → Reply) → Result (Vec ℕ Z) E → Type 0
+TellsReply operations session reply line = (m : Machine) → StandsFor operations session m → IfOk line (λ v. v.items ≡ reply_text (reply m))

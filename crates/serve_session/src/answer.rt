@@ -32,7 +32,7 @@ fn request_line<D: Domain, L: Ledger>(
     ensures rises { session.new.book.tickets.next ≤ session.old.book.tickets.next + 1 }
     ensures turn { (readings : Readings) →
         TakesTurn D.operations session.old session.new
-        (λ dom. request_turn readings dom request) result (λ v. v.items) }
+        (λ dom. request_turn readings dom request) result }
     ensures between { (readings : Readings) →
         FillsWhereAsked D.operations session.old session.new
         (Ok request) (λ dom. request_turn readings dom request) result }
@@ -85,7 +85,7 @@ pub fn answer_line<D: Domain, L: Ledger>(
     ensures rises { session.new.book.tickets.next ≤ session.old.book.tickets.next + 1 }
     ensures turn { (readings : Readings) →
         TakesTurn D.operations session.old session.new
-        (λ dom. line_turn readings dom line.now) result (λ v. v.items) }
+        (λ dom. line_turn readings dom line.now) result }
     ensures between { (readings : Readings) →
         FillsWhereAsked D.operations session.old session.new
         (request_of line.now) (λ dom. line_turn readings dom line.now) result }

@@ -8,8 +8,8 @@ ghost use Rattle.serve_answers.specs.Refusals.{refusal_of};
 ghost use Rattle.serve_answers.specs.Turns.{edit_turn};
 ghost use Rattle.serve_answers.specs.Lines.{request_turn};
 ghost use Rattle.serve_answers.specs.Readings.{Readings};
-ghost use Rattle.serve_session.specs.Followed.{edit_asked, Edits, Follows, Makes};
-ghost use Rattle.serve_session.specs.Followed.{StaysOnErr, TakesTurn};
+ghost use Rattle.serve_session.specs.Followed.{edit_asked, Edits, Follows, Makes, StaysOnErr};
+ghost use Rattle.serve_session.specs.Followed.{TakesTurn};
 
 use crate::written::{line_of, refused};
 use base_values::Memory;
@@ -52,7 +52,7 @@ pub(crate) fn edit_line<D: Domain>(
     ensures domain { session.new.engine.domain ≡ session.old.engine.domain }
     ensures rises { session.new.book.tickets.next ≤ session.old.book.tickets.next + 1 }
     ensures turn { TakesTurn D.operations session.old session.new
-        (λ dom. edit_turn dom (Ok edit.now)) result (λ v. v.items) }
+        (λ dom. edit_turn dom (Ok edit.now)) result }
     ensures unchanged { StaysOnErr D.operations session.old session.new result }
 {
     match session.prepare(alloc, edit) {

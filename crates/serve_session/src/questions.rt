@@ -67,7 +67,7 @@ pub(crate) fn state_line<D: Domain, L: Ledger>(
     ensures domain { session.new.engine.domain ≡ session.old.engine.domain }
     ensures rises { session.new.book.tickets.next ≤ session.old.book.tickets.next + 1 }
     ensures turn { TakesTurn D.operations session.old session.new
-        (λ dom. state_turn dom query.now) result (λ v. v.items) }
+        (λ dom. state_turn dom query.now) result }
     ensures between { FillsOrTurns D.operations session.old session.new
         (λ dom. missing_at dom query.now.at query.now.string)
         (λ dom. state_turn dom query.now) result }
@@ -89,7 +89,7 @@ pub(crate) fn why_line<D: Domain, L: Ledger>(
     ensures domain { session.new.engine.domain ≡ session.old.engine.domain }
     ensures rises { session.new.book.tickets.next ≤ session.old.book.tickets.next + 1 }
     ensures turn { TakesTurn D.operations session.old session.new
-        (λ dom. why_turn dom query.now) result (λ v. v.items) }
+        (λ dom. why_turn dom query.now) result }
     ensures between { FillsOrTurns D.operations session.old session.new
         (λ dom. missing_at dom query.now.at query.now.string)
         (λ dom. why_turn dom query.now) result }
@@ -109,8 +109,7 @@ pub(crate) fn report_line<D: Domain, L: Ledger>(
 ) -> Result<Vec<u8>, Memory>
     ensures domain { session.new.engine.domain ≡ session.old.engine.domain }
     ensures rises { session.new.book.tickets.next ≤ session.old.book.tickets.next + 1 }
-    ensures turn { TakesTurn D.operations session.old session.new
-        report_turn result (λ v. v.items) }
+    ensures turn { TakesTurn D.operations session.old session.new report_turn result }
     ensures between { FillsOrTurns D.operations session.old session.new
         missing_for_report report_turn result }
 {

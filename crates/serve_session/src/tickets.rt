@@ -4,8 +4,8 @@ ghost use Rattle.daig_machine.specs.Machine.{ticket_of};
 ghost use Rattle.daig_session.specs.Sessions.{StandsFor};
 ghost use Rattle.serve_answers.specs.Turns.{ask_turn, cancel_turn, redo_turn, step_turn, undo_turn};
 ghost use Rattle.serve_session.specs.Followed.{FillsOrTurns, StaysOnErr, TakesTurn, TellsTurn};
-ghost use Rattle.serve_session.specs.Followed.{ask_refusal, missing_for_ticket};
-ghost use Rattle.serve_session.specs.Followed.{move_refusal, step_refusal};
+ghost use Rattle.serve_session.specs.Followed.{ask_refusal, missing_for_ticket, move_refusal};
+ghost use Rattle.serve_session.specs.Followed.{step_refusal};
 
 use crate::questions::value_line;
 use crate::written::{line_of, refused, refused_if};
@@ -60,7 +60,7 @@ pub(crate) fn ask_line<D: Domain>(
     ensures domain { session.new.engine.domain ≡ session.old.engine.domain }
     ensures rises { session.new.book.tickets.next ≤ session.old.book.tickets.next + 1 }
     ensures turn { TakesTurn D.operations session.old session.new
-        (λ dom. ask_turn dom query) result (λ v. v.items) }
+        (λ dom. ask_turn dom query) result }
     ensures unchanged { StaysOnErr D.operations session.old session.new result }
 {
     let line = line_of(alloc, Reply::Ticket(session.next_ticket()))?;
@@ -111,7 +111,7 @@ pub(crate) fn step_line<D: Domain, L: Ledger>(
     ensures domain { session.new.engine.domain ≡ session.old.engine.domain }
     ensures rises { session.new.book.tickets.next ≤ session.old.book.tickets.next + 1 }
     ensures turn { TakesTurn D.operations session.old session.new
-        (λ dom. step_turn dom ticket n) result (λ v. v.items) }
+        (λ dom. step_turn dom ticket n) result }
     ensures between { FillsOrTurns D.operations session.old session.new
         (λ dom m. missing_for_ticket dom (ticket_of ticket m.tickets) m)
         (λ dom. step_turn dom ticket n) result }
@@ -135,8 +135,7 @@ pub(crate) fn cancel_line<D: Domain>(
 ) -> Result<Vec<u8>, Memory>
     ensures domain { session.new.engine.domain ≡ session.old.engine.domain }
     ensures rises { session.new.book.tickets.next ≤ session.old.book.tickets.next + 1 }
-    ensures turn { TakesTurn D.operations session.old session.new
-        (λ _. cancel_turn ticket) result (λ v. v.items) }
+    ensures turn { TakesTurn D.operations session.old session.new (λ _. cancel_turn ticket) result }
     ensures unchanged { StaysOnErr D.operations session.old session.new result }
 {
     let line = line_of(alloc, Reply::Cancelled(ticket))?;
@@ -153,8 +152,7 @@ pub(crate) fn undo_line<D: Domain>(
 ) -> Result<Vec<u8>, Memory>
     ensures domain { session.new.engine.domain ≡ session.old.engine.domain }
     ensures rises { session.new.book.tickets.next ≤ session.old.book.tickets.next + 1 }
-    ensures turn { TakesTurn D.operations session.old session.new
-        undo_turn result (λ v. v.items) }
+    ensures turn { TakesTurn D.operations session.old session.new undo_turn result }
     ensures unchanged { StaysOnErr D.operations session.old session.new result }
 {
     let line = line_of(alloc, Reply::Next(session.next()))?;
@@ -171,8 +169,7 @@ pub(crate) fn redo_line<D: Domain>(
 ) -> Result<Vec<u8>, Memory>
     ensures domain { session.new.engine.domain ≡ session.old.engine.domain }
     ensures rises { session.new.book.tickets.next ≤ session.old.book.tickets.next + 1 }
-    ensures turn { TakesTurn D.operations session.old session.new
-        redo_turn result (λ v. v.items) }
+    ensures turn { TakesTurn D.operations session.old session.new redo_turn result }
     ensures unchanged { StaysOnErr D.operations session.old session.new result }
 {
     let line = line_of(alloc, Reply::Next(session.next()))?;

@@ -5,6 +5,7 @@ ghost use Rattle.daig_machine.specs.Machine.{Machine};
 ghost use Rattle.daig_session.specs.Sessions.{StandsFor};
 ghost use Rattle.request_json.specs.Replies.{reply_text};
 ghost use Rattle.serve_answers.specs.Turns.{cost_turn, listing_turn, program_turn, run_turn};
+ghost use Rattle.serve_session.specs.Followed.{TellsReply};
 
 use crate::written::line_of;
 use base_values::Memory;
@@ -17,8 +18,7 @@ use std::alloc::Global;
 
 /// How many cells the last question filled, and how many are kept.
 pub(crate) fn cost_line<D: Domain>(alloc: Global, session: &Session<D>) -> Result<Vec<u8>, Memory>
-    ensures line { (m : Machine) → StandsFor D.operations session.now m →
-        IfOk result (λ v. v.items ≡ reply_text (cost_turn m).reply) }
+    ensures line { TellsReply D.operations session.now (λ m. (cost_turn m).reply) result }
 {
     let cost = session.cost();
     let kept = session.kept_count() as u64;
@@ -30,8 +30,7 @@ pub(crate) fn program_line<D: Domain>(
     alloc: Global,
     session: &Session<D>,
 ) -> Result<Vec<u8>, Memory>
-    ensures line { (m : Machine) → StandsFor D.operations session.now m →
-        IfOk result (λ v. v.items ≡ reply_text (program_turn m).reply) }
+    ensures line { TellsReply D.operations session.now (λ m. (program_turn m).reply) result }
 {
     let program = session.program().tree(alloc)?;
     let reply = program_reply(alloc, session.next(), &program)?;
@@ -43,8 +42,7 @@ pub(crate) fn listing_line<D: Domain>(
     alloc: Global,
     session: &Session<D>,
 ) -> Result<Vec<u8>, Memory>
-    ensures line { (m : Machine) → StandsFor D.operations session.now m →
-        IfOk result (λ v. v.items ≡ reply_text (listing_turn m).reply) }
+    ensures line { TellsReply D.operations session.now (λ m. (listing_turn m).reply) result }
 {
     let program = session.program().tree(alloc)?;
     let text = listing(alloc, &program)?;
