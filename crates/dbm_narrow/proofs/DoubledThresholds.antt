@@ -1,13 +1,17 @@
 -- Thresholds doubled: the least that is not less than a bound is the double of the least that is not less than half of it.
-use Rattle.std.specs.Prelude.{◌≡◌, ℤ, pos, ◌+ℤ◌, ◌≤ℤ◌, ◌<ℤ◌, Option, Some, None, Bool, true, false, cond, int_lt, List, [], ◌∷◌, refl}
-use Rattle.std.specs.Int.{int_div_euclid, int_min}
-use Rattle.std.proofs.Common.{arith, ap, sym, ◌∙◌}
+use Rattle.std.specs.Prelude.{◌≡◌, ℕ, ◌^◌, ◌+◌, ◌<◌, ◌≤◌, ℤ, pos, neg_ℤ, ◌+ℤ◌, ◌≤ℤ◌, ◌<ℤ◌, Option, Some, None, Bool, true, false, FitsSigned, cond, int_lt, List, [], ◌∷◌, refl}
+use Rattle.std.specs.Int.{int_div_euclid, int_max, int_min}
+use Rattle.std.proofs.Common.{arith, ap, subst, sym, ◌∙◌, get_or, inl, inr, length, suc}
+use Rattle.std.proofs.lemmas.Bool.{cases_lt}
 use Rattle.std.proofs.lemmas.Int.{ints}
+use Rattle.std.proofs.lemmas.List.{get_or_past}
+use mir.Syntax.{w64}
 use Rattle.dbm_close.proofs.HalvesLemmas.{halved-high, halved-low}
 use Rattle.dbm_core.proofs.ThresholdLemmas.{by_order}
 use Rattle.dbm_core.specs.Operations.{next_threshold, threshold_value}
 use Rattle.dbm_core.specs.Weights.{least}
-use Rattle.dbm_narrow.specs.Widenings.{start_at}
+use Rattle.dbm_narrow.specs.Widenings.{AreWords, IsWord}
+use Rattle.dbm_narrow.specs.Widths.{start_at}
 
 -- a threshold, or its double, is less than x exactly where the threshold is less than z
 abbrev pub IsStart : Bool → ℤ → ℤ → Type 0
@@ -55,6 +59,48 @@ valued-from (m ∷ ms) d x z s =
 pub next-valued : (ms : List ℤ) (d : Bool) (x : ℤ) → valued d (next_threshold ms false (start_at d x)) ≡ next_threshold ms d x
 next-valued ms d x = valued-from ms d x (start_at d x) (start-is d x)
 
+-- ---- thresholds of 64 bits
+
+word : (m : ℤ) → FitsSigned w64 m → IsWord m
+word m h = (omega (arith, ints), omega (arith, ints))
+
+pub words-next : (ms : List ℤ) (i : ℕ) → ((k : ℕ) → k < i → IsWord (get_or ms k (pos 0))) → FitsSigned w64 (get_or ms i (pos 0)) → (k : ℕ) → k < i + 1 → IsWord (get_or ms k (pos 0))
+words-next ms i h p k l = elim (cases_lt k i) [
+  | inl m ↦ h k m
+  | inr m ↦ let e : k ≡ i = omega arith in subst (λ k. IsWord (get_or ms k (pos 0))) (sym e) (word (get_or ms i (pos 0)) p)
+]
+
+pub words-all : (ms : List ℤ) (i : ℕ) → length ms ≤ i → ((k : ℕ) → k < i → IsWord (get_or ms k (pos 0))) → AreWords ms
+words-all ms i l h k = elim (cases_lt k i) [
+  | inl m ↦ h k m
+  | inr m ↦ subst IsWord (sym (get_or_past ms k (pos 0) (omega arith))) (omega (arith, ints), omega (arith, ints))
+]
+
+-- a start below them is none other than the least of 64 bits
+above : (m x s : ℤ) → neg_ℤ (pos (2 ^ 63)) ≤ℤ m → s ≡ int_max x (neg_ℤ (pos (2 ^ 63))) → int_lt m s ≡ int_lt m x
+above m x s l e = by_order (λ t. int_lt m s ≡ t) m x (λ h. yes m s (grind (arith, ints))) (λ h. no m s (grind (arith, ints)))
+
+from-word : (ms : List ℤ) (x s : ℤ) → AreWords ms → s ≡ int_max x (neg_ℤ (pos (2 ^ 63))) → next_threshold ms false s ≡ next_threshold ms false x
+from-word [] x s w e = refl
+from-word (m ∷ ms) x s w e =
+    let rest : next_threshold ms false s ≡ next_threshold ms false x = from-word ms x s (λ k. w (suc k)) e in
+    ap (λ t. cond t (next_threshold ms false s) (least (Some m) (next_threshold ms false s))) (above m x s (w 0).0 e)
+    ∙ ap (λ o. cond (int_lt m x) o (least (Some m) o)) rest
+
+-- where the start is above them there is none
+none-above : (ms : List ℤ) (x : ℤ) → AreWords ms → pos (2 ^ 63) ≤ℤ x → next_threshold ms false x ≡ None
+none-above [] x w h = refl
+none-above (m ∷ ms) x w h =
+    let l : m <ℤ pos (2 ^ 63) = (w 0).1 in
+    ap (λ t. cond t (next_threshold ms false x) (least (Some m) (next_threshold ms false x))) (yes m x (omega (arith, ints)))
+    ∙ none-above ms x (λ k. w (suc k)) h
+
+pub threshold-beyond : (ms : List ℤ) (d : Bool) (x : ℤ) → AreWords ms → pos (2 ^ 63) ≤ℤ start_at d x → None ≡ next_threshold ms d x
+threshold-beyond ms d x w h = sym (ap (valued d) (none-above ms (start_at d x) w h)) ∙ next-valued ms d x
+
+pub threshold-none : (ms : List ℤ) (d : Bool) (x s : ℤ) → AreWords ms → s ≡ int_max (start_at d x) (neg_ℤ (pos (2 ^ 63))) → None ≡ next_threshold ms false s → None ≡ next_threshold ms d x
+threshold-none ms d x s w e f = ap (valued d) (f ∙ from-word ms (start_at d x) s w e) ∙ next-valued ms d x
+
 -- where the least threshold is found, its value is the next one
-pub threshold-found : (ms : List ℤ) (d : Bool) (x z m y : ℤ) → z ≡ start_at d x → Some m ≡ next_threshold ms false z → y ≡ threshold_value d m → Some y ≡ next_threshold ms d x
-threshold-found ms d x z m y e f g = ap Some g ∙ ap (valued d) (f ∙ ap (next_threshold ms false) e) ∙ next-valued ms d x
+pub threshold-found : (ms : List ℤ) (d : Bool) (x s m y : ℤ) → AreWords ms → s ≡ int_max (start_at d x) (neg_ℤ (pos (2 ^ 63))) → Some m ≡ next_threshold ms false s → y ≡ threshold_value d m → Some y ≡ next_threshold ms d x
+threshold-found ms d x s m y w e f g = ap Some g ∙ ap (valued d) (f ∙ from-word ms (start_at d x) s w e) ∙ next-valued ms d x

@@ -14,7 +14,7 @@ abbrev pub ClosesStood : HalfMatrix → ℕ → ℕ → ℤ → Closed → Type 
 ClosesStood m q y c a = (n : HalfMatrix) × (HasEntries m.kinds (stood_entry (entry m) q y c) n × (a ≡ close_of n))
 
 -- that answer, or nothing where c or a bound has left the limits; a matrix that it gives is closed
-abbrev pub IsClosingStood : HalfMatrix → ℕ → ℕ → ℤ → Closing → Type 0
+abbrev pub IsClosingStood : {W : Type 0} → HalfMatrix → ℕ → ℕ → ℤ → Closing W → Type 0
 IsClosingStood m q y c Empty = ClosesStood m q y c wide.Empty
 IsClosingStood m q y c (Matrix n) = ClosesStood m q y c (wide.Matrix n) × IsClosed n
 IsClosingStood m q y c TooWide = Unit {0}

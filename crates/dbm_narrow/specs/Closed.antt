@@ -11,19 +11,19 @@ use Rattle.dbm_narrow.specs.declared.closed.Closing.{Closing}
 use Rattle.dbm_narrow.specs.declared.closed.Closing.TheVariants.{Empty, Matrix, TooWide}
 
 -- the definition's answer, or nothing where a bound has left the limits
-abbrev pub IsClosing : HalfMatrix → Closing → Type 0
+abbrev pub IsClosing : {W : Type 0} → HalfMatrix → Closing W → Type 0
 IsClosing m Empty = close_of m ≡ wide.Empty
 IsClosing m (Matrix n) = close_of m ≡ wide.Matrix n
 IsClosing m TooWide = Unit {0}
 
 -- the same of closing a matrix with bounds lowered; a matrix that it gives is closed
-abbrev pub IsClosingLowered : HalfMatrix → List Bound → Closing → Type 0
+abbrev pub IsClosingLowered : {W : Type 0} → HalfMatrix → List Bound → Closing W → Type 0
 IsClosingLowered m bs Empty = ClosesAllLowered m bs wide.Empty
 IsClosingLowered m bs (Matrix n) = ClosesAllLowered m bs (wide.Matrix n) × IsClosed n
 IsClosingLowered m bs TooWide = Unit {0}
 
 -- the same of closing a matrix with an equation
-abbrev pub IsClosingEquated : HalfMatrix → ℕ → ℕ → ℤ → Closing → Type 0
+abbrev pub IsClosingEquated : {W : Type 0} → HalfMatrix → ℕ → ℕ → ℤ → Closing W → Type 0
 IsClosingEquated m q y c Empty = ClosesEquated m q y c wide.Empty
 IsClosingEquated m q y c (Matrix n) = ClosesEquated m q y c (wide.Matrix n) × IsClosed n
 IsClosingEquated m q y c TooWide = Unit {0}

@@ -3,20 +3,20 @@ use Rattle.std.specs.Prelude.{ℕ, ◌^◌, ℤ, pos, neg_ℤ, int_lt, cond, Opt
 use Rattle.std.specs.Hash as fed
 use Rattle.std.specs.List.{flat_map}
 use Rattle.dbm_core.specs.Half.{HalfMatrix}
-use Rattle.dbm_narrow.specs.Entries.{none}
+use Rattle.dbm_narrow.specs.Widths.{fed_number}
 
 -- the bound as a number of 64 bits: 0 for one that has more, 2^29 for none
 abbrev pub bound_number : Option ℤ → ℤ
-bound_number None = none
+bound_number None = pos (2 ^ 29)
 bound_number (Some x) = cond (int_lt x (neg_ℤ (pos (2 ^ 63)))) (pos 0) (cond (int_lt x (pos (2 ^ 63))) x (pos 0))
 
 -- what bounds feed
 abbrev pub bounds_fed : List (Option ℤ) → List (List ℕ)
 bounds_fed bs = flat_map (λ b. fed.i64 (bound_number b)) bs
 
--- what entries feed: themselves
-abbrev pub entries_fed : List ℤ → List (List ℕ)
-entries_fed xs = flat_map fed.i64 xs
+-- what entries feed
+abbrev pub entries_fed : ℕ → List ℤ → List (List ℕ)
+entries_fed h xs = flat_map (λ x. fed.i64 (fed_number h x)) xs
 
 -- what a matrix feeds
 abbrev pub matrix_fed : HalfMatrix → List (List ℕ)

@@ -13,3 +13,4 @@ pub mod Rounds
 pub mod Rows
 pub mod Standing
 pub mod Widenings
+pub mod Widths

@@ -7,31 +7,32 @@ ghost use Rattle.dbm_narrow.specs.Lowerings.{HasOwnWeights};
 ghost use Rattle.dbm_narrow.specs.Rounds.{IsNarrow};
 
 use crate::closing::ClosingResult;
+use crate::convert::fits;
+use crate::entry::Entry;
 use crate::lower::lower;
 use crate::steps::finish;
 use crate::walks::Walks;
+use crate::width::Width;
 use dbm_incremental::Bound;
 
-/// The bound in 32 bits, if it lies within the limits.
+/// The bound as an entry, if it lies within the limits.
 #[inline]
-pub fn small_bound(bound: i128) -> Option<i32>
-    ensures small { IsSmallOf bound result }
+pub fn small_bound<W: Width>(bound: i128) -> Option<Entry<W>>
+    ensures small { IsSmallOf W.unit bound result }
 {
-    if bound < -33554432 {
-        return None;
+    if fits::<W>(Some(bound)) {
+        Some(Entry::of(bound))
+    } else {
+        None
     }
-    if bound > 33554432 {
-        return None;
-    }
-    Some(bound as i32)
 }
 
 /// Lowers the bounds, in place. After an answer other than `Done` the entries are of no use.
-pub fn lower_all(kinds: &[bool], entries: &mut [i32], bounds: &[Bound]) -> Walks
-    requires narrow { IsNarrow kinds.now entries.old }
-    requires weights { HasOwnWeights kinds.now entries.old }
+pub fn lower_all<W: Width>(kinds: &[bool], entries: &mut [Entry<W>], bounds: &[Bound]) -> Walks
+    requires narrow { IsNarrow W.unit kinds.now entries.old }
+    requires weights { HasOwnWeights W.unit kinds.now entries.old }
     requires bounds { AreBounds (2 * length kinds.now) bounds.now }
-    ensures lowered { AreLowered kinds.now entries.old entries.new bounds.now result }
+    ensures lowered { AreLowered W.unit kinds.now entries.old entries.new bounds.now result }
 {
     for bound in bounds {
         match small_bound(bound.bound) {
@@ -48,18 +49,18 @@ pub fn lower_all(kinds: &[bool], entries: &mut [i32], bounds: &[Bound]) -> Walks
 
 /// Closes the entries with the bounds lowered, in place. After an answer other than `Closed` they are
 /// of no use.
-pub fn close_lowered(kinds: &[bool], entries: &mut [i32], bounds: &[Bound]) -> ClosingResult
-    requires narrow { IsNarrow kinds.now entries.old }
-    requires weights { HasOwnWeights kinds.now entries.old }
+pub fn close_lowered<W: Width>(
+    kinds: &[bool],
+    entries: &mut [Entry<W>],
+    bounds: &[Bound],
+) -> ClosingResult
+    requires narrow { IsNarrow W.unit kinds.now entries.old }
+    requires weights { HasOwnWeights W.unit kinds.now entries.old }
     requires bounds { AreBounds (2 * length kinds.now) bounds.now }
-    ensures outcome { IsLoweredOutcome kinds.now entries.old entries.new bounds.now result }
+    ensures outcome { IsLoweredOutcome W.unit kinds.now entries.old entries.new bounds.now result }
 {
     match lower_all(kinds, entries, bounds) {
-        Walks::Done => if finish(kinds, entries) {
-            ClosingResult::Closed
-        } else {
-            ClosingResult::Empty
-        },
+        Walks::Done => finish(kinds, entries),
         Walks::Negative => ClosingResult::Empty,
         Walks::TooWide => ClosingResult::TooWide,
     }

@@ -1,7 +1,7 @@
 //! A slot that stands for a node plus a number, closed.
 ghost use Rattle.std.specs.Prelude.{◌<◌, IfOk, length};
 ghost use Rattle.dbm_core.specs.Half.{entry, nodes};
-ghost use Rattle.dbm_incremental.specs.ClosedMatrices.{IsClosed, IsStrong};
+ghost use Rattle.dbm_incremental.specs.ClosedMatrices.{IsClosed, IsStrong, IsWhole};
 ghost use Rattle.dbm_narrow.specs.Carried.{IsClosingStood};
 ghost use Rattle.dbm_narrow.specs.Closed.{IsClosing};
 
@@ -9,21 +9,23 @@ use crate::Narrow;
 use crate::closed::Closing;
 use crate::closing::{ClosingResult, close_strong};
 use crate::stands::stood;
+use crate::width::Width;
 use base_values::Memory;
 use std::alloc::Global;
 
-/// A closed matrix in which slot q stands for node y plus c, its own or another's, closed: it stays as
-/// it is, unless a range is empty.
-pub fn close_carried(
+/// A closed matrix that obeys the triangle law, in which slot q stands for node y plus c, its own or
+/// another's, closed: it stays as it is, unless a range is empty.
+pub fn close_carried<W: Width>(
     alloc: Global,
-    closed: &Narrow,
+    closed: &Narrow<W>,
     q: usize,
     y: usize,
     c: i128,
-) -> Result<Closing, Memory>
+) -> Result<Closing<W>, Memory>
     requires slot { q < length closed.now.kinds }
     requires node { y < nodes closed.now }
     requires closed { IsClosed closed.now }
+    requires whole { IsWhole closed.now }
     ensures closing { IfOk result (IsClosingStood closed.now q y c) }
 {
     let _kinds = closed.kinds.list();
@@ -34,7 +36,7 @@ pub fn close_carried(
 }
 
 // Closes the matrix that is made.
-fn close_set(set: Narrow) -> Closing
+fn close_set<W: Width>(set: Narrow<W>) -> Closing<W>
     requires strong { IsStrong (nodes set) (entry set) }
     ensures closing { IsClosing set result }
 {

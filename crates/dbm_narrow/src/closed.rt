@@ -10,24 +10,25 @@ use crate::Narrow;
 use crate::adding::close_lowered;
 use crate::closing::{ClosingResult, close_entries, close_own};
 use crate::standing::close_stood;
+use crate::width::Width;
 use base_values::Memory;
 use dbm_incremental::Bound;
 use std::alloc::Global;
 
 /// What closing answers.
 #[derive(Drop)]
-pub enum Closing {
+pub enum Closing<W: Width> {
     /// No values satisfy the matrix.
     Empty,
     /// The closed matrix.
-    Matrix(Narrow),
-    /// A bound has left the limits: nothing is said.
+    Matrix(Narrow<W>),
+    /// A bound has left the limits, or is 2^63 or more: nothing is said.
     TooWide,
 }
 
 /// Closes a matrix whose diagonal is 0 or less, as the definition of closing says, unless a bound
 /// leaves the limits on the way.
-pub fn close(alloc: Global, m: &Narrow) -> Result<Closing, Memory>
+pub fn close<W: Width>(alloc: Global, m: &Narrow<W>) -> Result<Closing<W>, Memory>
     requires diagonal { IsZeroAtMost (nodes m.now) (entry m.now) }
     ensures closing { IfOk result (IsClosing m.now) }
 {
@@ -42,7 +43,7 @@ pub fn close(alloc: Global, m: &Narrow) -> Result<Closing, Memory>
 
 /// Closes a matrix that obeys the triangle law: its entries are the least weights of its walks, so this
 /// is one pass of tightening and strengthening.
-pub fn close_whole(alloc: Global, m: &Narrow) -> Result<Closing, Memory>
+pub fn close_whole<W: Width>(alloc: Global, m: &Narrow<W>) -> Result<Closing<W>, Memory>
     requires diagonal { HasZeroDiagonal (nodes m.now) (entry m.now) }
     requires whole { IsWhole m.now }
     ensures closing { IfOk result (IsClosing m.now) }
@@ -56,14 +57,16 @@ pub fn close_whole(alloc: Global, m: &Narrow) -> Result<Closing, Memory>
     }
 }
 
-/// Closes a closed matrix with bounds lowered, once, unless a bound leaves the limits on the way.
-pub fn close_after_bounds(
+/// Closes a closed matrix that obeys the triangle law with bounds lowered, once, unless a bound leaves the
+/// limits on the way.
+pub fn close_after_bounds<W: Width>(
     alloc: Global,
-    closed: &Narrow,
+    closed: &Narrow<W>,
     bounds: &[Bound],
-) -> Result<Closing, Memory>
+) -> Result<Closing<W>, Memory>
     requires bounds { AreBounds (nodes closed.now) bounds.now }
     requires closed { IsClosed closed.now }
+    requires whole { IsWhole closed.now }
     ensures closing { IfOk result (IsClosingLowered closed.now bounds.now) }
 {
     let kinds = closed.kinds.share()?;
@@ -75,19 +78,20 @@ pub fn close_after_bounds(
     }
 }
 
-/// Closes a closed matrix in which slot q's bounds are dropped and q is made node y, of another slot,
-/// plus c, unless a bound leaves the limits on the way.
-pub fn close_equation(
+/// Closes a closed matrix that obeys the triangle law, in which slot q's bounds are dropped and q is made
+/// node y, of another slot, plus c, unless a bound leaves the limits on the way.
+pub fn close_equation<W: Width>(
     alloc: Global,
-    closed: &Narrow,
+    closed: &Narrow<W>,
     q: usize,
     y: usize,
     c: i128,
-) -> Result<Closing, Memory>
+) -> Result<Closing<W>, Memory>
     requires slot { q < length closed.now.kinds }
     requires node { y < nodes closed.now }
     requires apart { y / 2 ≢ q }
     requires closed { IsClosed closed.now }
+    requires whole { IsWhole closed.now }
     ensures closing { IfOk result (IsClosingEquated closed.now q y c) }
 {
     let kinds = closed.kinds.share()?;

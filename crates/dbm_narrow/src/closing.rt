@@ -8,8 +8,10 @@ ghost use Rattle.dbm_narrow.specs.Held.{HasLowDiagonal};
 ghost use Rattle.dbm_narrow.specs.Lowerings.{HasOwnWeights};
 ghost use Rattle.dbm_narrow.specs.Rounds.{IsNarrow};
 
+use crate::entry::Entry;
 use crate::steps::{finish, finish_strong};
 use crate::walks::{Walks, least_weights};
+use crate::width::Width;
 
 /// What closing answers.
 #[derive(Clone, Copy, Debug, PartialEq, Eq)]
@@ -23,44 +25,32 @@ pub enum ClosingResult {
 }
 
 /// Closes the entries, in place. After an answer other than `Closed` they are of no use.
-pub fn close_entries(kinds: &[bool], entries: &mut [i32]) -> ClosingResult
-    requires narrow { IsNarrow kinds.now entries.old }
-    requires diagonal { HasLowDiagonal kinds.now entries.old }
-    ensures outcome { IsOutcome kinds.now entries.old entries.new result }
+pub fn close_entries<W: Width>(kinds: &[bool], entries: &mut [Entry<W>]) -> ClosingResult
+    requires narrow { IsNarrow W.unit kinds.now entries.old }
+    requires diagonal { HasLowDiagonal W.unit kinds.now entries.old }
+    ensures outcome { IsOutcome W.unit kinds.now entries.old entries.new result }
 {
     match least_weights(kinds, entries) {
-        Walks::Done => if finish(kinds, entries) {
-            ClosingResult::Closed
-        } else {
-            ClosingResult::Empty
-        },
+        Walks::Done => finish(kinds, entries),
         Walks::Negative => ClosingResult::Empty,
         Walks::TooWide => ClosingResult::TooWide,
     }
 }
 
 /// Closes entries that are the least weights of their own walks, in place.
-pub fn close_own(kinds: &[bool], entries: &mut [i32]) -> ClosingResult
-    requires narrow { IsNarrow kinds.now entries.old }
-    requires weights { HasOwnWeights kinds.now entries.old }
-    ensures outcome { IsOutcome kinds.now entries.old entries.new result }
+pub fn close_own<W: Width>(kinds: &[bool], entries: &mut [Entry<W>]) -> ClosingResult
+    requires narrow { IsNarrow W.unit kinds.now entries.old }
+    requires weights { HasOwnWeights W.unit kinds.now entries.old }
+    ensures outcome { IsOutcome W.unit kinds.now entries.old entries.new result }
 {
-    if finish(kinds, entries) {
-        ClosingResult::Closed
-    } else {
-        ClosingResult::Empty
-    }
+    finish(kinds, entries)
 }
 
 /// Closes strong entries, which stay as they are.
-pub fn close_strong(kinds: &[bool], entries: &[i32]) -> ClosingResult
-    requires narrow { IsNarrow kinds.now entries.now }
-    requires strong { IsStrong (2 * length kinds.now) (entry (held kinds.now entries.now)) }
-    ensures outcome { IsOutcome kinds.now entries.now entries.now result }
+pub fn close_strong<W: Width>(kinds: &[bool], entries: &[Entry<W>]) -> ClosingResult
+    requires narrow { IsNarrow W.unit kinds.now entries.now }
+    requires strong { IsStrong (2 * length kinds.now) (entry (held W.unit kinds.now entries.now)) }
+    ensures outcome { IsOutcome W.unit kinds.now entries.now entries.now result }
 {
-    if finish_strong(kinds, entries) {
-        ClosingResult::Closed
-    } else {
-        ClosingResult::Empty
-    }
+    finish_strong(kinds, entries)
 }

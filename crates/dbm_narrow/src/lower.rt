@@ -1,29 +1,37 @@
 //! A bound lowered in entries that are the least weights of their own walks.
-ghost use Rattle.std.specs.Prelude.{◌≡◌, ◌<◌, ◌≤◌, ◌^◌, ◌*◌, ◌≤ℤ◌, neg_ℤ, pos, length};
+ghost use Rattle.std.specs.Prelude.{◌≡◌, ◌<◌, ◌≤◌, ◌*◌, ◌≤ℤ◌, neg_ℤ, pos, length};
 ghost use Rattle.dbm_core.specs.Half.{row_start};
 ghost use Rattle.dbm_narrow.specs.Entries.{AreEntries};
 ghost use Rattle.dbm_narrow.specs.Lowerings.{AreEnds, HasOwnWeights, IsLowering};
 ghost use Rattle.dbm_narrow.specs.Middles.{IsNarrowMiddle};
 ghost use Rattle.dbm_narrow.specs.Rounds.{IsNarrow};
 
+use crate::entry::Entry;
 use crate::middle::{Middle, flipped, over, stepped};
-use crate::rows::{entry_at, whole_row};
+use crate::rows::{entry_at, read, whole_row};
 use crate::walks::{Walks, go_through_rows};
+use crate::width::Width;
 use dbm_core::other_sign;
 
 /// The bounds to and from the edge from i to j, which weighs the bound, and those to and from its
 /// mirror image when walks may use the edge.
 #[inline]
-fn ends_of(entries: &[i32], slots: usize, i: usize, j: usize, bound: i32) -> Middle
+fn ends_of<W: Width>(
+    entries: &[Entry<W>],
+    slots: usize,
+    i: usize,
+    j: usize,
+    bound: Entry<W>,
+) -> Middle<W>
     requires few { slots ≤ 16 }
     requires row { i < 2 * slots }
     requires column { j < 2 * slots }
     requires size { length entries.now ≡ row_start (2 * slots) }
-    requires entries { AreEntries (2 ^ 25) entries.now }
-    requires low { neg_ℤ (pos (2 ^ 25)) ≤ℤ bound }
-    requires high { bound ≤ℤ pos (2 ^ 25) }
-    ensures ends { AreEnds (2 * slots) entries.now i j bound result }
-    ensures entries { IsNarrowMiddle result }
+    requires entries { AreEntries W.unit (2 * W.unit) entries.now }
+    requires low { neg_ℤ (pos (2 * W.unit)) ≤ℤ bound }
+    requires high { bound ≤ℤ pos (2 * W.unit) }
+    ensures ends { AreEnds W.unit (2 * slots) entries.now i j bound result }
+    ensures entries { IsNarrowMiddle W.unit result }
 {
     let ahead = other_sign(i);
     let behind = other_sign(j);
@@ -32,9 +40,10 @@ fn ends_of(entries: &[i32], slots: usize, i: usize, j: usize, bound: i32) -> Mid
     let to_first = flipped(&first, slots);
     let direct = flipped(&last, slots);
     let from_first = stepped(bound, &last);
-    let around = from_first[behind];
+    let around = read(&from_first, behind);
     let to_second = over(&direct, around, &to_first);
-    let over_first = over(&first, first[i], &from_first);
+    let back = read(&first, i);
+    let over_first = over(&first, back, &from_first);
     let from_second = stepped(bound, &over_first);
     Middle {
         to_first,
@@ -47,28 +56,34 @@ fn ends_of(entries: &[i32], slots: usize, i: usize, j: usize, bound: i32) -> Mid
 /// Lowers a bound, and so its mirror image, in place. After an answer other than `Done` the entries
 /// are of no use.
 #[inline]
-pub fn lower(kinds: &[bool], entries: &mut [i32], i: usize, j: usize, bound: i32) -> Walks
-    requires narrow { IsNarrow kinds.now entries.old }
-    requires weights { HasOwnWeights kinds.now entries.old }
+pub fn lower<W: Width>(
+    kinds: &[bool],
+    entries: &mut [Entry<W>],
+    i: usize,
+    j: usize,
+    bound: Entry<W>,
+) -> Walks
+    requires narrow { IsNarrow W.unit kinds.now entries.old }
+    requires weights { HasOwnWeights W.unit kinds.now entries.old }
     requires row { i < 2 * length kinds.now }
     requires column { j < 2 * length kinds.now }
-    requires low { neg_ℤ (pos (2 ^ 25)) ≤ℤ bound }
-    requires high { bound ≤ℤ pos (2 ^ 25) }
-    ensures lowering { IsLowering kinds.now entries.old entries.new i j bound result }
+    requires low { neg_ℤ (pos (2 * W.unit)) ≤ℤ bound }
+    requires high { bound ≤ℤ pos (2 * W.unit) }
+    ensures lowering { IsLowering W.unit kinds.now entries.old entries.new i j bound result }
 {
     let slots = kinds.len();
     let current = entry_at(entries, slots, i, j);
-    if current <= bound {
+    if !bound.is_less(current) {
         return Walks::Done;
     }
     let ends = ends_of(entries, slots, i, j, bound);
-    let first = ends.from_first[i];
-    if first < 0 {
+    let first = read(&ends.from_first, i);
+    if first.is_less(Entry::zero()) {
         return Walks::Negative;
     }
     let behind = other_sign(j);
-    let second = ends.from_second[behind];
-    if second < 0 {
+    let second = read(&ends.from_second, behind);
+    if second.is_less(Entry::zero()) {
         return Walks::Negative;
     }
     if go_through_rows(entries, slots, &ends) {

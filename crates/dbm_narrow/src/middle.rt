@@ -1,94 +1,101 @@
 //! The bounds to and from the nodes of one slot.
-ghost use Rattle.std.specs.Prelude.{◌≡◌, ◌<◌, ◌≤◌, ◌^◌, ◌*◌, ℕ, length};
-ghost use Rattle.dbm_core.specs.Nodes.{flip};
+ghost use Rattle.std.specs.Prelude.{◌≡◌, ◌<◌, ◌≤◌, ◌*◌, ℕ, length};
 ghost use Rattle.dbm_narrow.specs.Entries.{AreEntries, IsEntry, at, none};
 ghost use Rattle.dbm_narrow.specs.Held.{HoldsMiddle};
 ghost use Rattle.dbm_narrow.specs.Middles.{IsNarrowMiddle};
 ghost use Rattle.dbm_narrow.specs.Putting.{IsNarrowBetween, PutsFrom, PutsTo, PutsTwo};
 ghost use Rattle.dbm_narrow.specs.Rounds.{IsNarrow};
-ghost use Rattle.dbm_narrow.specs.Rows.{ColumnsAre, LesserFit, SumsFit, over_at, stepped_at};
+ghost use Rattle.dbm_narrow.specs.Rows.{AreFlipped, ColumnsAre, LesserFit, SumsFit, over_at, stepped_at};
 
 use crate::between::{Between, bounds_between};
-use crate::entries::{NONE, lesser, plus};
+use crate::entries::{lesser, plus};
+use crate::entry::Entry;
+use crate::rows::read;
+use crate::width::Width;
 
 /// The bounds to and from both nodes of one slot, those of the second node when walks may go
 /// through the first.
 #[derive(Drop)]
-pub struct Middle {
-    pub to_first: [i32; 32],
-    pub from_first: [i32; 32],
-    pub to_second: [i32; 32],
-    pub from_second: [i32; 32],
+pub struct Middle<W: Width> {
+    pub to_first: [Entry<W>; 32],
+    pub from_first: [Entry<W>; 32],
+    pub to_second: [Entry<W>; 32],
+    pub from_second: [Entry<W>; 32],
 }
 
 /// What stands at the node of the other sign, of the nodes of this many slots.
 #[inline]
-pub fn flipped(row: &[i32; 32], slots: usize) -> [i32; 32]
+pub fn flipped<W: Width>(row: &[Entry<W>; 32], slots: usize) -> [Entry<W>; 32]
     requires few { slots ≤ 16 }
-    requires entries { AreEntries (2 ^ 25) row.now }
-    ensures flipped { (i : ℕ) → i < 2 * slots → at result i ≡ at row.now (flip i) }
-    ensures beyond { (i : ℕ) → 2 * slots ≤ i → at result i ≡ none }
+    requires entries { AreEntries W.unit (2 * W.unit) row.now }
+    ensures flipped { AreFlipped W.unit (2 * slots) row.now result }
+    ensures beyond { (i : ℕ) → 2 * slots ≤ i → at W.unit result i ≡ none W.unit }
 {
-    let mut turned = [NONE; 32];
+    let mut turned = [Entry::none(); 32];
     for slot in 0..slots {
-        turned[2 * slot] = row[2 * slot + 1];
-        turned[2 * slot + 1] = row[2 * slot];
+        let even = read(row, 2 * slot);
+        let odd = read(row, 2 * slot + 1);
+        turned[2 * slot] = odd;
+        turned[2 * slot + 1] = even;
     }
     turned
 }
 
 /// Each entry, or where it is less, the sum of a step and the next one.
 #[inline]
-pub fn over(row: &[i32; 32], step: i32, next: &[i32; 32]) -> [i32; 32]
-    requires row { AreEntries (2 ^ 25) row.now }
-    requires step { IsEntry (2 ^ 26) step }
-    requires next { AreEntries (2 ^ 26) next.now }
-    ensures over { ColumnsAre 32 (over_at row.now step next.now) result }
-    ensures entries { LesserFit step next.now result }
+pub fn over<W: Width>(row: &[Entry<W>; 32], step: Entry<W>, next: &[Entry<W>; 32]) -> [Entry<W>; 32]
+    requires row { AreEntries W.unit (2 * W.unit) row.now }
+    requires step { IsEntry W.unit (4 * W.unit) step }
+    requires next { AreEntries W.unit (4 * W.unit) next.now }
+    ensures over { ColumnsAre W.unit 32 (over_at W.unit row.now step next.now) result }
+    ensures entries { LesserFit W.unit step next.now result }
 {
-    let mut sums = [NONE; 32];
+    let mut sums = [Entry::none(); 32];
     for j in 0..32 {
-        sums[j] = lesser(row[j], plus(step, next[j]));
+        let here = read(row, j);
+        let beyond = read(next, j);
+        sums[j] = lesser(here, plus(step, beyond));
     }
     sums
 }
 
 /// Each entry and a step.
 #[inline]
-pub fn stepped(step: i32, row: &[i32; 32]) -> [i32; 32]
-    requires step { IsEntry (2 ^ 27) step }
-    requires row { AreEntries (2 ^ 27) row.now }
-    ensures sums { ColumnsAre 32 (stepped_at step row.now) result }
-    ensures entries { SumsFit step row.now result }
+pub fn stepped<W: Width>(step: Entry<W>, row: &[Entry<W>; 32]) -> [Entry<W>; 32]
+    requires step { IsEntry W.unit (8 * W.unit) step }
+    requires row { AreEntries W.unit (8 * W.unit) row.now }
+    ensures sums { ColumnsAre W.unit 32 (stepped_at W.unit step row.now) result }
+    ensures entries { SumsFit W.unit step row.now result }
 {
-    let mut sums = [NONE; 32];
+    let mut sums = [Entry::none(); 32];
     for j in 0..32 {
-        sums[j] = plus(step, row[j]);
+        let here = read(row, j);
+        sums[j] = plus(step, here);
     }
     sums
 }
 
 /// A middle to be filled.
 #[inline]
-pub fn no_middle() -> Middle
-    ensures entries { IsNarrowMiddle result }
+pub fn no_middle<W: Width>() -> Middle<W>
+    ensures entries { IsNarrowMiddle W.unit result }
 {
     Middle {
-        to_first: [NONE; 32],
-        from_first: [NONE; 32],
-        to_second: [NONE; 32],
-        from_second: [NONE; 32],
+        to_first: [Entry::none(); 32],
+        from_first: [Entry::none(); 32],
+        to_second: [Entry::none(); 32],
+        from_second: [Entry::none(); 32],
     }
 }
 
 /// Fills it with the bounds to and from both nodes of slot q.
 #[inline]
-pub fn fill_middle(kinds: &[bool], entries: &[i32], q: usize, middle: &mut Middle)
-    requires narrow { IsNarrow kinds.now entries.now }
+pub fn fill_middle<W: Width>(kinds: &[bool], entries: &[Entry<W>], q: usize, middle: &mut Middle<W>)
+    requires narrow { IsNarrow W.unit kinds.now entries.now }
     requires middle { q < length kinds.now }
-    requires entries { IsNarrowMiddle middle.old }
-    ensures bounds { HoldsMiddle kinds.now entries.now q middle.new }
-    ensures entries { IsNarrowMiddle middle.new }
+    requires entries { IsNarrowMiddle W.unit middle.old }
+    ensures bounds { HoldsMiddle W.unit kinds.now entries.now q middle.new }
+    ensures entries { IsNarrowMiddle W.unit middle.new }
 {
     let slots = kinds.len();
     let own = bounds_between(entries, slots, q, q);
@@ -102,11 +109,11 @@ pub fn fill_middle(kinds: &[bool], entries: &[i32], q: usize, middle: &mut Middl
 // Puts the bounds from both nodes to those of another slot: `back` leads from the second node to
 // the first.
 #[inline]
-fn put_from(middle: &mut Middle, slot: usize, here: Between, back: i32)
+fn put_from<W: Width>(middle: &mut Middle<W>, slot: usize, here: Between<W>, back: Entry<W>)
     requires slot { slot < 16 }
-    requires narrow { IsNarrowBetween here }
-    requires back { IsEntry (2 ^ 25) back }
-    ensures put { PutsFrom slot here back middle.old middle.new }
+    requires narrow { IsNarrowBetween W.unit here }
+    requires back { IsEntry W.unit (2 * W.unit) back }
+    ensures put { PutsFrom W.unit slot here back middle.old middle.new }
 {
     let even = lesser(here.second_even, plus(back, here.first_even));
     let odd = lesser(here.second_odd, plus(back, here.first_odd));
@@ -122,11 +129,11 @@ fn put_from(middle: &mut Middle, slot: usize, here: Between, back: i32)
 // Puts the bounds to both nodes from those of another slot: `ahead` leads from the first node to
 // the second.
 #[inline]
-fn put_to(middle: &mut Middle, slot: usize, here: Between, ahead: i32)
+fn put_to<W: Width>(middle: &mut Middle<W>, slot: usize, here: Between<W>, ahead: Entry<W>)
     requires slot { slot < 16 }
-    requires narrow { IsNarrowBetween here }
-    requires ahead { IsEntry (2 ^ 25) ahead }
-    ensures put { PutsTo slot here ahead middle.old middle.new }
+    requires narrow { IsNarrowBetween W.unit here }
+    requires ahead { IsEntry W.unit (2 * W.unit) ahead }
+    ensures put { PutsTo W.unit slot here ahead middle.old middle.new }
 {
     let even = lesser(here.first_odd, plus(ahead, here.second_odd));
     let odd = lesser(here.first_even, plus(ahead, here.second_even));
@@ -141,9 +148,9 @@ fn put_to(middle: &mut Middle, slot: usize, here: Between, ahead: i32)
 
 // Puts the entries at both nodes of a slot.
 #[inline]
-fn put(row: &mut [i32; 32], slot: usize, even: i32, odd: i32)
+fn put<W: Width>(row: &mut [Entry<W>; 32], slot: usize, even: Entry<W>, odd: Entry<W>)
     requires slot { slot < 16 }
-    ensures put { PutsTwo slot even odd row.old row.new }
+    ensures put { PutsTwo W.unit slot even odd row.old row.new }
 {
     row[2 * slot] = even;
     row[2 * slot + 1] = odd;

@@ -7,12 +7,14 @@ ghost use Rattle.dbm_narrow.specs.Held.{HoldsValues};
 ghost use Rattle.dbm_narrow.specs.Rounds.{IsNarrow};
 
 use crate::Narrow;
-use crate::rows::place;
+use crate::entry::Entry;
+use crate::rows::{place, read};
 use crate::steps::{high_end, low_end};
+use crate::width::Width;
 
 /// The ends of a slot's range: the least and the greatest value that its own two bounds leave
 /// within the extremes of its kind. Whatever satisfies the matrix lies there.
-pub fn slot_range(narrow: &Narrow, slot: usize) -> (i64, i64)
+pub fn slot_range<W: Width>(narrow: &Narrow<W>, slot: usize) -> (i128, i128)
     requires slot { slot < length narrow.now.kinds }
     ensures low { result.0 ≡ slot_low narrow.now.kinds (entry narrow.now) slot }
     ensures high { result.1 ≡ slot_high narrow.now.kinds (entry narrow.now) slot }
@@ -24,21 +26,21 @@ pub fn slot_range(narrow: &Narrow, slot: usize) -> (i64, i64)
 }
 
 // The low end, over entries.
-fn low_of(kinds: &[bool], entries: &[i32], slot: usize) -> i64
-    requires narrow { IsNarrow kinds.now entries.now }
+fn low_of<W: Width>(kinds: &[bool], entries: &[Entry<W>], slot: usize) -> i128
+    requires narrow { IsNarrow W.unit kinds.now entries.now }
     requires slot { slot < length kinds.now }
-    ensures low { result ≡ slot_low kinds.now (entry (held kinds.now entries.now)) slot }
+    ensures low { result ≡ slot_low kinds.now (entry (held W.unit kinds.now entries.now)) slot }
 {
     let down = place(2 * slot, 2 * slot + 1);
-    low_end(kinds[slot], entries[down])
+    low_end(kinds[slot], read(entries, down))
 }
 
 // The high end, over entries.
-fn high_of(kinds: &[bool], entries: &[i32], slot: usize) -> i64
-    requires narrow { IsNarrow kinds.now entries.now }
+fn high_of<W: Width>(kinds: &[bool], entries: &[Entry<W>], slot: usize) -> i128
+    requires narrow { IsNarrow W.unit kinds.now entries.now }
     requires slot { slot < length kinds.now }
-    ensures high { result ≡ slot_high kinds.now (entry (held kinds.now entries.now)) slot }
+    ensures high { result ≡ slot_high kinds.now (entry (held W.unit kinds.now entries.now)) slot }
 {
     let up = place(2 * slot + 1, 2 * slot);
-    high_end(kinds[slot], entries[up])
+    high_end(kinds[slot], read(entries, up))
 }

@@ -1,11 +1,13 @@
 //! Rows: where they start, whole ones, and what becomes of a kept one.
-ghost use Rattle.std.specs.Prelude.{◌≡◌, ◌<◌, ◌≤◌, ◌^◌, ◌*◌, ◌+◌, ◌%◌, ℕ, true, length};
+ghost use Rattle.std.specs.Prelude.{◌≡◌, ◌<◌, ◌≤◌, ◌*◌, ◌+◌, ◌%◌, ℕ, true, length};
 ghost use Rattle.dbm_core.specs.Half.{row_start, row_width};
 ghost use Rattle.dbm_core.specs.Nodes.{flip};
 ghost use Rattle.dbm_narrow.specs.Entries.{AreEntries, IsEntry, at, none, pair_at};
-ghost use Rattle.dbm_narrow.specs.Rows.{AreEntriesFrom, AreGone, EachIs, GoneThrough, strengthened_at, through_at};
+ghost use Rattle.dbm_narrow.specs.Rows.{AreEntriesFrom, AreGone, ColumnsAre, EachIs, GoneThrough, strengthened_at, through_at};
 
-use crate::entries::{GREATEST, LEAST, NONE, bound_or_zero, greater, lesser, over_both, settled};
+use crate::entries::{bound_or_zero, greater, lesser, over_both, settled};
+use crate::entry::Entry;
+use crate::width::Width;
 use dbm_core::other_sign;
 
 /// Where row i starts.
@@ -43,69 +45,86 @@ pub fn row_len(i: usize) -> usize
     2 * (i / 2) + 2
 }
 
+/// The entry at a place.
+#[inline]
+pub fn read<W: Width>(row: &[Entry<W>], k: usize) -> Entry<W>
+    requires place { k < length row.now }
+    ensures value { result ≡ at W.unit row.now k }
+{
+    row[k]
+}
+
 /// The entry of a pair.
 #[inline]
-pub fn entry_at(entries: &[i32], slots: usize, i: usize, j: usize) -> i32
+pub fn entry_at<W: Width>(entries: &[Entry<W>], slots: usize, i: usize, j: usize) -> Entry<W>
     requires few { slots ≤ 16 }
     requires row { i < 2 * slots }
     requires column { j < 2 * slots }
     requires size { length entries.now ≡ row_start (2 * slots) }
-    requires entries { AreEntries (2 ^ 25) entries.now }
-    ensures entry { result ≡ pair_at entries.now i j }
+    requires entries { AreEntries W.unit (2 * W.unit) entries.now }
+    ensures entry { result ≡ pair_at W.unit entries.now i j }
 {
     if j < row_len(i) {
         let kept = place(i, j);
-        return entries[kept];
+        return read(entries, kept);
     }
     let mirrored = place(other_sign(j), other_sign(i));
-    entries[mirrored]
+    read(entries, mirrored)
 }
 
 /// The entries of row i, whose node of the other sign is `other`; none beyond the nodes.
 #[inline]
-pub fn whole_row(entries: &[i32], slots: usize, i: usize, other: usize) -> [i32; 32]
+pub fn whole_row<W: Width>(
+    entries: &[Entry<W>],
+    slots: usize,
+    i: usize,
+    other: usize,
+) -> [Entry<W>; 32]
     requires few { slots ≤ 16 }
     requires row { i < 2 * slots }
     requires other { other ≡ flip i }
     requires size { length entries.now ≡ row_start (2 * slots) }
-    requires entries { AreEntries (2 ^ 25) entries.now }
-    ensures entries { (j : ℕ) → j < 2 * slots → at result j ≡ pair_at entries.now i j }
-    ensures beyond { (j : ℕ) → 2 * slots ≤ j → at result j ≡ none }
+    requires entries { AreEntries W.unit (2 * W.unit) entries.now }
+    ensures entries { ColumnsAre W.unit (2 * slots) (pair_at W.unit entries.now i) result }
+    ensures beyond { (j : ℕ) → 2 * slots ≤ j → at W.unit result j ≡ none W.unit }
 {
-    let mut row = [NONE; 32];
+    let mut row = [Entry::none(); 32];
     let start = row_at(i);
     let kept = row_len(i);
     for j in 0..kept {
         let at = start + j;
-        row[j] = entries[at];
+        row[j] = read(entries, at);
     }
     for slot in i / 2 + 1..slots {
         let even = row_at(2 * slot) + other;
         let odd = row_at(2 * slot + 1) + other;
-        row[2 * slot] = entries[odd];
-        row[2 * slot + 1] = entries[even];
+        let first = read(entries, odd);
+        let second = read(entries, even);
+        row[2 * slot] = first;
+        row[2 * slot + 1] = second;
     }
     row
 }
 
 /// Walks from a node may go over both nodes of a slot, in place, four entries at a time.
 #[inline]
-pub fn go_through(
-    row: &mut [i32],
-    to_first: i32,
-    to_second: i32,
-    from_first: &[i32; 32],
-    from_second: &[i32; 32],
+pub fn go_through<W: Width>(
+    row: &mut [Entry<W>],
+    to_first: Entry<W>,
+    to_second: Entry<W>,
+    from_first: &[Entry<W>; 32],
+    from_second: &[Entry<W>; 32],
 )
     requires size { length row.old ≤ 32 }
     requires even { length row.old % 2 ≡ 0 }
-    requires row { AreEntries (2 ^ 25) row.old }
-    requires to_first { IsEntry (3 * 2 ^ 25) to_first }
-    requires to_second { IsEntry (3 * 2 ^ 25) to_second }
-    requires from_first { AreEntries (2 ^ 27) from_first.now }
-    requires from_second { AreEntries (2 ^ 27) from_second.now }
-    ensures kept { GoneThrough to_first to_second from_first.now from_second.now row.old row.new }
-    ensures within { AreEntries (7 * 2 ^ 25) row.new }
+    requires row { AreEntries W.unit (2 * W.unit) row.old }
+    requires to_first { IsEntry W.unit (6 * W.unit) to_first }
+    requires to_second { IsEntry W.unit (6 * W.unit) to_second }
+    requires from_first { AreEntries W.unit (8 * W.unit) from_first.now }
+    requires from_second { AreEntries W.unit (8 * W.unit) from_second.now }
+    ensures kept { GoneThrough W.unit to_first to_second from_first.now from_second.now
+        row.old row.new }
+    ensures within { AreEntries W.unit (14 * W.unit) row.new }
 {
     let fours = row.len() / 4;
     for four in 0..fours {
@@ -118,22 +137,22 @@ pub fn go_through(
 
 // The same of four entries. All are read before one is written, so that this is vector code.
 #[inline]
-fn go_four(
-    row: &mut [i32],
+fn go_four<W: Width>(
+    row: &mut [Entry<W>],
     j: usize,
-    to_first: i32,
-    to_second: i32,
-    from_first: &[i32; 32],
-    from_second: &[i32; 32],
+    to_first: Entry<W>,
+    to_second: Entry<W>,
+    from_first: &[Entry<W>; 32],
+    from_second: &[Entry<W>; 32],
 )
     requires size { length row.old ≤ 32 }
     requires columns { j + 4 ≤ length row.old }
-    requires row { AreEntriesFrom j (2 ^ 25) row.old }
-    requires to_first { IsEntry (3 * 2 ^ 25) to_first }
-    requires to_second { IsEntry (3 * 2 ^ 25) to_second }
-    requires from_first { AreEntries (2 ^ 27) from_first.now }
-    requires from_second { AreEntries (2 ^ 27) from_second.now }
-    ensures gone { AreGone j (j + 4) to_first to_second from_first.now from_second.now
+    requires row { AreEntriesFrom W.unit j (2 * W.unit) row.old }
+    requires to_first { IsEntry W.unit (6 * W.unit) to_first }
+    requires to_second { IsEntry W.unit (6 * W.unit) to_second }
+    requires from_first { AreEntries W.unit (8 * W.unit) from_first.now }
+    requires from_second { AreEntries W.unit (8 * W.unit) from_second.now }
+    ensures gone { AreGone W.unit j (j + 4) to_first to_second from_first.now from_second.now
         row.old row.new }
 {
     let first = gone_at(row, j, to_first, to_second, from_first, from_second);
@@ -148,22 +167,22 @@ fn go_four(
 
 // The same of two.
 #[inline]
-fn go_two(
-    row: &mut [i32],
+fn go_two<W: Width>(
+    row: &mut [Entry<W>],
     j: usize,
-    to_first: i32,
-    to_second: i32,
-    from_first: &[i32; 32],
-    from_second: &[i32; 32],
+    to_first: Entry<W>,
+    to_second: Entry<W>,
+    from_first: &[Entry<W>; 32],
+    from_second: &[Entry<W>; 32],
 )
     requires size { length row.old ≤ 32 }
     requires columns { j + 2 ≤ length row.old }
-    requires row { AreEntriesFrom j (2 ^ 25) row.old }
-    requires to_first { IsEntry (3 * 2 ^ 25) to_first }
-    requires to_second { IsEntry (3 * 2 ^ 25) to_second }
-    requires from_first { AreEntries (2 ^ 27) from_first.now }
-    requires from_second { AreEntries (2 ^ 27) from_second.now }
-    ensures gone { AreGone j (j + 2) to_first to_second from_first.now from_second.now
+    requires row { AreEntriesFrom W.unit j (2 * W.unit) row.old }
+    requires to_first { IsEntry W.unit (6 * W.unit) to_first }
+    requires to_second { IsEntry W.unit (6 * W.unit) to_second }
+    requires from_first { AreEntries W.unit (8 * W.unit) from_first.now }
+    requires from_second { AreEntries W.unit (8 * W.unit) from_second.now }
+    ensures gone { AreGone W.unit j (j + 2) to_first to_second from_first.now from_second.now
         row.old row.new }
 {
     let first = gone_at(row, j, to_first, to_second, from_first, from_second);
@@ -174,54 +193,59 @@ fn go_two(
 
 // The entry at column j when walks may go over both nodes.
 #[inline]
-fn gone_at(
-    row: &[i32],
+fn gone_at<W: Width>(
+    row: &[Entry<W>],
     j: usize,
-    to_first: i32,
-    to_second: i32,
-    from_first: &[i32; 32],
-    from_second: &[i32; 32],
-) -> i32
+    to_first: Entry<W>,
+    to_second: Entry<W>,
+    from_first: &[Entry<W>; 32],
+    from_second: &[Entry<W>; 32],
+) -> Entry<W>
     requires size { length row.now ≤ 32 }
     requires column { j < length row.now }
-    requires entry { IsEntry (2 ^ 25) (at row.now j) }
-    requires to_first { IsEntry (3 * 2 ^ 25) to_first }
-    requires to_second { IsEntry (3 * 2 ^ 25) to_second }
-    requires from_first { AreEntries (2 ^ 27) from_first.now }
-    requires from_second { AreEntries (2 ^ 27) from_second.now }
-    ensures value { result ≡ through_at to_first to_second from_first.now from_second.now j
-        (at row.now j) }
+    requires entry { IsEntry W.unit (2 * W.unit) (at W.unit row.now j) }
+    requires to_first { IsEntry W.unit (6 * W.unit) to_first }
+    requires to_second { IsEntry W.unit (6 * W.unit) to_second }
+    requires from_first { AreEntries W.unit (8 * W.unit) from_first.now }
+    requires from_second { AreEntries W.unit (8 * W.unit) from_second.now }
+    ensures value { result ≡ through_at W.unit to_first to_second from_first.now from_second.now j
+        (at W.unit row.now j) }
 {
-    over_both(row[j], to_first, from_first[j], to_second, from_second[j])
+    let here = read(row, j);
+    let first = read(from_first, j);
+    let second = read(from_second, j);
+    over_both(here, to_first, first, to_second, second)
 }
 
 /// Whether each bound lies within the limits.
 #[inline]
-pub fn are_within(entries: &[i32]) -> bool
-    requires entries { AreEntries (7 * 2 ^ 25) entries.now }
-    ensures within { result ≡ true → AreEntries (2 ^ 25) entries.now }
+pub fn are_within<W: Width>(entries: &[Entry<W>]) -> bool
+    requires entries { AreEntries W.unit (14 * W.unit) entries.now }
+    ensures within { result ≡ true → AreEntries W.unit (2 * W.unit) entries.now }
 {
-    let mut low = 0;
-    let mut high = 0;
+    let mut low = Entry::zero();
+    let mut high = Entry::zero();
     for j in 0..entries.len() {
-        let bound = entries[j];
+        let bound = read(entries, j);
         low = lesser(low, bound);
         high = greater(high, bound_or_zero(bound));
     }
-    LEAST <= low && high <= GREATEST
+    !low.is_less(Entry::least()) && !Entry::greatest().is_less(high)
 }
 
 /// A row in which each bound is at most the sum of halves.
 #[inline]
-pub fn strengthen(row: &mut [i32], to: i32, from: &[i32; 32])
+pub fn strengthen<W: Width>(row: &mut [Entry<W>], to: Entry<W>, from: &[Entry<W>; 32])
     requires size { length row.old ≤ 32 }
-    requires row { AreEntries (2 ^ 25) row.old }
-    requires to { IsEntry (2 ^ 24) to }
-    requires from { AreEntries (2 ^ 24) from.now }
-    ensures kept { EachIs (strengthened_at to from.now) row.old row.new }
-    ensures within { AreEntries (2 ^ 25) row.new }
+    requires row { AreEntries W.unit (2 * W.unit) row.old }
+    requires to { IsEntry W.unit W.unit to }
+    requires from { AreEntries W.unit W.unit from.now }
+    ensures kept { EachIs W.unit (strengthened_at W.unit to from.now) row.old row.new }
+    ensures within { AreEntries W.unit (2 * W.unit) row.new }
 {
     for j in 0..row.len() {
-        row[j] = settled(lesser(row[j], to + from[j]));
+        let here = read(row, j);
+        let half = read(from, j);
+        row[j] = settled(lesser(here, to.sum(half)));
     }
 }

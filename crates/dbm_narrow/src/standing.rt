@@ -1,7 +1,7 @@
 //! A slot that stands for a node of another slot plus a number.
-ghost use Rattle.std.specs.Prelude.{◌≡◌, ◌≢◌, ◌<◌, ◌≤◌, ◌^◌, ◌*◌, ◌+◌, ◌/◌, ◌+ℤ◌, ◌≤ℤ◌, neg_ℤ, pos, true, length};
+ghost use Rattle.std.specs.Prelude.{◌≡◌, ◌≢◌, ◌<◌, ◌≤◌, ◌*◌, ◌+◌, ◌/◌, ◌+ℤ◌, ◌≤ℤ◌, neg_ℤ, pos, true, length};
 ghost use Rattle.dbm_core.specs.Half.{row_start, row_width};
-ghost use Rattle.dbm_incremental.specs.ClosedMatrices.{IsClosed};
+ghost use Rattle.dbm_incremental.specs.ClosedMatrices.{IsClosed, IsWhole};
 ghost use Rattle.dbm_narrow.specs.Entries.{AreEntries, IsEntry, at, held};
 ghost use Rattle.dbm_narrow.specs.Rounds.{IsNarrow};
 ghost use Rattle.dbm_narrow.specs.Rows.{ColumnsAre, EachIs, RestStays, RowIs, RowsAre};
@@ -10,26 +10,29 @@ ghost use Rattle.dbm_narrow.specs.Standing.{IsEquatedOutcome, StandsTo, replaced
 use crate::adding::small_bound;
 use crate::closing::ClosingResult;
 use crate::entries::plus;
+use crate::entry::Entry;
 use crate::middle::stepped;
-use crate::rows::{are_within, row_at, row_len, whole_row};
+use crate::rows::{are_within, read, row_at, row_len, whole_row};
 use crate::steps::finish_strong;
+use crate::width::Width;
 use dbm_core::other_sign;
 
 /// Closes the entries with slot q made node y plus c, in place. After an answer other than `Closed`
 /// they are of no use.
-pub fn close_stood(
+pub fn close_stood<W: Width>(
     kinds: &[bool],
-    entries: &mut [i32],
+    entries: &mut [Entry<W>],
     q: usize,
     y: usize,
     c: i128,
 ) -> ClosingResult
-    requires narrow { IsNarrow kinds.now entries.old }
-    requires closed { IsClosed (held kinds.now entries.old) }
+    requires narrow { IsNarrow W.unit kinds.now entries.old }
+    requires closed { IsClosed (held W.unit kinds.now entries.old) }
+    requires whole { IsWhole (held W.unit kinds.now entries.old) }
     requires slot { q < length kinds.now }
     requires node { y < 2 * length kinds.now }
     requires apart { y / 2 ≢ q }
-    ensures outcome { IsEquatedOutcome kinds.now entries.old entries.new q y c result }
+    ensures outcome { IsEquatedOutcome W.unit kinds.now entries.old entries.new q y c result }
 {
     match small_bound(c) {
         None => ClosingResult::TooWide,
@@ -38,36 +41,45 @@ pub fn close_stood(
 }
 
 // The same of a number within the limits.
-fn close_small(kinds: &[bool], entries: &mut [i32], q: usize, y: usize, c: i32) -> ClosingResult
-    requires narrow { IsNarrow kinds.now entries.old }
-    requires closed { IsClosed (held kinds.now entries.old) }
+fn close_small<W: Width>(
+    kinds: &[bool],
+    entries: &mut [Entry<W>],
+    q: usize,
+    y: usize,
+    c: Entry<W>,
+) -> ClosingResult
+    requires narrow { IsNarrow W.unit kinds.now entries.old }
+    requires closed { IsClosed (held W.unit kinds.now entries.old) }
+    requires whole { IsWhole (held W.unit kinds.now entries.old) }
     requires slot { q < length kinds.now }
     requires node { y < 2 * length kinds.now }
     requires apart { y / 2 ≢ q }
-    requires low { neg_ℤ (pos (2 ^ 25)) ≤ℤ c }
-    requires high { c ≤ℤ pos (2 ^ 25) }
-    ensures outcome { IsEquatedOutcome kinds.now entries.old entries.new q y c result }
+    requires low { neg_ℤ (pos (2 * W.unit)) ≤ℤ c }
+    requires high { c ≤ℤ pos (2 * W.unit) }
+    ensures outcome { IsEquatedOutcome W.unit kinds.now entries.old entries.new q y c result }
 {
     if !stand(kinds, entries, q, y, c) {
         return ClosingResult::TooWide;
     }
-    if finish_strong(kinds, entries) {
-        ClosingResult::Closed
-    } else {
-        ClosingResult::Empty
-    }
+    finish_strong(kinds, entries)
 }
 
 // Makes slot q stand for node y plus c, in place: whether each bound stays within the limits.
 #[inline]
-fn stand(kinds: &[bool], entries: &mut [i32], q: usize, y: usize, c: i32) -> bool
-    requires narrow { IsNarrow kinds.now entries.old }
-    requires closed { IsClosed (held kinds.now entries.old) }
+fn stand<W: Width>(
+    kinds: &[bool],
+    entries: &mut [Entry<W>],
+    q: usize,
+    y: usize,
+    c: Entry<W>,
+) -> bool
+    requires narrow { IsNarrow W.unit kinds.now entries.old }
+    requires closed { IsClosed (held W.unit kinds.now entries.old) }
     requires slot { q < length kinds.now }
     requires node { y < 2 * length kinds.now }
-    requires low { neg_ℤ (pos (2 ^ 25)) ≤ℤ c }
-    requires high { c ≤ℤ pos (2 ^ 25) }
-    ensures stands { result ≡ true → StandsTo kinds.now entries.old entries.new q y c }
+    requires low { neg_ℤ (pos (2 * W.unit)) ≤ℤ c }
+    requires high { c ≤ℤ pos (2 * W.unit) }
+    ensures stands { result ≡ true → StandsTo W.unit kinds.now entries.old entries.new q y c }
 {
     let slots = kinds.len();
     let other = other_sign(y);
@@ -76,8 +88,8 @@ fn stand(kinds: &[bool], entries: &mut [i32], q: usize, y: usize, c: i32) -> boo
     let less = negative(c);
     let twice_less = twice_of(less);
     let twice = twice_of(c);
-    let first = stood_row(&node, q, y, 0, twice_less, less);
-    let second = stood_row(&behind, q, y, twice, 0, c);
+    let first = stood_row(&node, q, y, Entry::zero(), twice_less, less);
+    let second = stood_row(&behind, q, y, twice, Entry::zero(), c);
     if !are_within(&first) {
         return false;
     }
@@ -89,12 +101,18 @@ fn stand(kinds: &[bool], entries: &mut [i32], q: usize, y: usize, c: i32) -> boo
 }
 
 /// Makes slot q stand for node y plus c, in place: whether c and each bound lie within the limits.
-pub fn stand_by(kinds: &[bool], entries: &mut [i32], q: usize, y: usize, c: i128) -> bool
-    requires narrow { IsNarrow kinds.now entries.old }
-    requires closed { IsClosed (held kinds.now entries.old) }
+pub fn stand_by<W: Width>(
+    kinds: &[bool],
+    entries: &mut [Entry<W>],
+    q: usize,
+    y: usize,
+    c: i128,
+) -> bool
+    requires narrow { IsNarrow W.unit kinds.now entries.old }
+    requires closed { IsClosed (held W.unit kinds.now entries.old) }
     requires slot { q < length kinds.now }
     requires node { y < 2 * length kinds.now }
-    ensures stands { result ≡ true → StandsTo kinds.now entries.old entries.new q y c }
+    ensures stands { result ≡ true → StandsTo W.unit kinds.now entries.old entries.new q y c }
 {
     match small_bound(c) {
         None => false,
@@ -104,50 +122,59 @@ pub fn stand_by(kinds: &[bool], entries: &mut [i32], q: usize, y: usize, c: i128
 
 // The number's negative.
 #[inline]
-fn negative(c: i32) -> i32
-    requires low { neg_ℤ (pos (2 ^ 25)) ≤ℤ c }
-    requires high { c ≤ℤ pos (2 ^ 25) }
+fn negative<W: Width>(c: Entry<W>) -> Entry<W>
+    requires low { neg_ℤ (pos (2 * W.unit)) ≤ℤ c }
+    requires high { c ≤ℤ pos (2 * W.unit) }
     ensures value { result ≡ neg_ℤ c }
 {
-    -c
+    c.negative()
 }
 
 // Twice the number.
 #[inline]
-fn twice_of(c: i32) -> i32
-    requires low { neg_ℤ (pos (2 ^ 25)) ≤ℤ c }
-    requires high { c ≤ℤ pos (2 ^ 25) }
+fn twice_of<W: Width>(c: Entry<W>) -> Entry<W>
+    requires low { neg_ℤ (pos (2 * W.unit)) ≤ℤ c }
+    requires high { c ≤ℤ pos (2 * W.unit) }
     ensures value { result ≡ c +ℤ c }
 {
-    c + c
+    c.sum(c)
 }
 
 // The entry at a column.
 #[inline]
-fn column_at(row: &[i32; 32], j: usize) -> i32
+fn column_at<W: Width>(row: &[Entry<W>; 32], j: usize) -> Entry<W>
     requires column { j < 32 }
-    requires row { AreEntries (2 ^ 25) row.now }
-    ensures value { result ≡ at row.now j }
+    requires row { AreEntries W.unit (2 * W.unit) row.now }
+    ensures value { result ≡ at W.unit row.now j }
 {
-    row[j]
+    read(row, j)
 }
 
 // The row of one of slot q's nodes, from the row of the node that it stands for.
 #[inline]
-fn stood_row(row: &[i32; 32], q: usize, y: usize, first: i32, second: i32, others: i32) -> [i32; 32]
+fn stood_row<W: Width>(
+    row: &[Entry<W>; 32],
+    q: usize,
+    y: usize,
+    first: Entry<W>,
+    second: Entry<W>,
+    others: Entry<W>,
+) -> [Entry<W>; 32]
     requires slot { q < 16 }
     requires node { y < 32 }
-    requires row { AreEntries (2 ^ 25) row.now }
-    requires first { IsEntry (2 ^ 26) first }
-    requires second { IsEntry (2 ^ 26) second }
-    requires others { IsEntry (2 ^ 26) others }
-    ensures stood { ColumnsAre 32 (stood_at row.now q y first second others) result }
-    ensures entries { AreEntries (3 * 2 ^ 25) result }
+    requires row { AreEntries W.unit (2 * W.unit) row.now }
+    requires first { IsEntry W.unit (4 * W.unit) first }
+    requires second { IsEntry W.unit (4 * W.unit) second }
+    requires others { IsEntry W.unit (4 * W.unit) others }
+    ensures stood { ColumnsAre W.unit 32 (stood_at W.unit row.now q y first second others) result }
+    ensures entries { AreEntries W.unit (6 * W.unit) result }
 {
     let mut stood = stepped(others, row);
-    let here = plus(first, row[y]);
+    let node = read(row, y);
+    let here = plus(first, node);
     let other = other_sign(y);
-    let there = plus(second, row[other]);
+    let behind = read(row, other);
+    let there = plus(second, behind);
     stood[2 * q] = here;
     stood[2 * q + 1] = there;
     stood
@@ -155,15 +182,22 @@ fn stood_row(row: &[i32; 32], q: usize, y: usize, first: i32, second: i32, other
 
 // Puts the rows of slot q's nodes, in place.
 #[inline]
-fn replace_rows(entries: &mut [i32], slots: usize, q: usize, first: &[i32; 32], second: &[i32; 32])
+fn replace_rows<W: Width>(
+    entries: &mut [Entry<W>],
+    slots: usize,
+    q: usize,
+    first: &[Entry<W>; 32],
+    second: &[Entry<W>; 32],
+)
     requires few { slots ≤ 16 }
     requires size { length entries.old ≡ row_start (2 * slots) }
-    requires entries { AreEntries (2 ^ 25) entries.old }
-    requires first { AreEntries (2 ^ 25) first.now }
-    requires second { AreEntries (2 ^ 25) second.now }
+    requires entries { AreEntries W.unit (2 * W.unit) entries.old }
+    requires first { AreEntries W.unit (2 * W.unit) first.now }
+    requires second { AreEntries W.unit (2 * W.unit) second.now }
     requires slot { q < 16 }
-    ensures kept { RowsAre (replaced q first.now second.now) (2 * slots) entries.old entries.new }
-    ensures entries { AreEntries (2 ^ 25) entries.new }
+    ensures kept { RowsAre W.unit (replaced W.unit q first.now second.now) (2 * slots)
+        entries.old entries.new }
+    ensures entries { AreEntries W.unit (2 * W.unit) entries.new }
 {
     for i in 0..2 * slots {
         replace_row(entries, i, q, first, second);
@@ -172,16 +206,23 @@ fn replace_rows(entries: &mut [i32], slots: usize, q: usize, first: &[i32; 32], 
 
 // The same in row i.
 #[inline]
-fn replace_row(entries: &mut [i32], i: usize, q: usize, first: &[i32; 32], second: &[i32; 32])
+fn replace_row<W: Width>(
+    entries: &mut [Entry<W>],
+    i: usize,
+    q: usize,
+    first: &[Entry<W>; 32],
+    second: &[Entry<W>; 32],
+)
     requires row { i < 32 }
     requires slot { q < 16 }
     requires size { row_start i + row_width i ≤ length entries.old }
-    requires entries { AreEntries (2 ^ 25) entries.old }
-    requires first { AreEntries (2 ^ 25) first.now }
-    requires second { AreEntries (2 ^ 25) second.now }
-    ensures kept { RowIs (replaced q first.now second.now i) i entries.old entries.new }
-    ensures rest { RestStays i entries.old entries.new }
-    ensures entries { AreEntries (2 ^ 25) entries.new }
+    requires entries { AreEntries W.unit (2 * W.unit) entries.old }
+    requires first { AreEntries W.unit (2 * W.unit) first.now }
+    requires second { AreEntries W.unit (2 * W.unit) second.now }
+    ensures kept { RowIs W.unit (replaced W.unit q first.now second.now i) i
+        entries.old entries.new }
+    ensures rest { RestStays W.unit i entries.old entries.new }
+    ensures entries { AreEntries W.unit (2 * W.unit) entries.new }
 {
     let start = row_at(i);
     let end = start + row_len(i);
@@ -191,15 +232,21 @@ fn replace_row(entries: &mut [i32], i: usize, q: usize, first: &[i32; 32], secon
 
 // The same of the row itself.
 #[inline]
-fn replace_each(row: &mut [i32], i: usize, q: usize, first: &[i32; 32], second: &[i32; 32])
+fn replace_each<W: Width>(
+    row: &mut [Entry<W>],
+    i: usize,
+    q: usize,
+    first: &[Entry<W>; 32],
+    second: &[Entry<W>; 32],
+)
     requires size { length row.old ≡ row_width i }
-    requires row { AreEntries (2 ^ 25) row.old }
+    requires row { AreEntries W.unit (2 * W.unit) row.old }
     requires node { i < 32 }
     requires slot { q < 16 }
-    requires first { AreEntries (2 ^ 25) first.now }
-    requires second { AreEntries (2 ^ 25) second.now }
-    ensures kept { EachIs (replaced q first.now second.now i) row.old row.new }
-    ensures within { AreEntries (2 ^ 25) row.new }
+    requires first { AreEntries W.unit (2 * W.unit) first.now }
+    requires second { AreEntries W.unit (2 * W.unit) second.now }
+    ensures kept { EachIs W.unit (replaced W.unit q first.now second.now i) row.old row.new }
+    ensures within { AreEntries W.unit (2 * W.unit) row.new }
 {
     if i == 2 * q {
         return copy_row(row, first);
@@ -218,14 +265,15 @@ fn replace_each(row: &mut [i32], i: usize, q: usize, first: &[i32; 32], second: 
 
 // Makes a row the first entries of another.
 #[inline]
-fn copy_row(row: &mut [i32], from: &[i32; 32])
+fn copy_row<W: Width>(row: &mut [Entry<W>], from: &[Entry<W>; 32])
     requires size { length row.old ≤ 32 }
-    requires row { AreEntries (2 ^ 25) row.old }
-    requires from { AreEntries (2 ^ 25) from.now }
-    ensures kept { EachIs (λ j x. at from.now j) row.old row.new }
-    ensures within { AreEntries (2 ^ 25) row.new }
+    requires row { AreEntries W.unit (2 * W.unit) row.old }
+    requires from { AreEntries W.unit (2 * W.unit) from.now }
+    ensures kept { EachIs W.unit (λ j x. at W.unit from.now j) row.old row.new }
+    ensures within { AreEntries W.unit (2 * W.unit) row.new }
 {
     for j in 0..row.len() {
-        row[j] = from[j];
+        let copied = read(from, j);
+        row[j] = copied;
     }
 }

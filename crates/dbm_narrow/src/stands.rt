@@ -6,18 +6,19 @@ ghost use Rattle.dbm_narrow.specs.Standing.{StandsIf};
 
 use crate::Narrow;
 use crate::standing::stand_by;
+use crate::width::Width;
 use base_values::Memory;
 use std::alloc::Global;
 
 /// A closed matrix in which slot q stands for node y plus c, its own or another's: None where c or a
 /// bound leaves the limits.
-pub fn stood(
+pub fn stood<W: Width>(
     alloc: Global,
-    closed: &Narrow,
+    closed: &Narrow<W>,
     q: usize,
     y: usize,
     c: i128,
-) -> Result<Option<Narrow>, Memory>
+) -> Result<Option<Narrow<W>>, Memory>
     requires slot { q < length closed.now.kinds }
     requires node { y < nodes closed.now }
     requires closed { IsClosed closed.now }

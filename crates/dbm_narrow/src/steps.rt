@@ -1,63 +1,99 @@
-//! Steps 2 to 6, over the least weights. No entry is cut, and none is too low: the limits are narrower.
-ghost use Rattle.std.specs.Prelude.{◌≡◌, ◌<◌, ◌≤◌, ◌^◌, ◌*◌, ◌+◌, ℕ, length};
+//! Steps 2 to 6, over the least weights. They end where step 5 would cut an entry, or one is too low
+//! for it: that bound has left the limits.
+ghost use Rattle.std.specs.Prelude.{◌≡◌, ◌<◌, ◌≤◌, ◌*◌, ◌+◌, true, length};
 ghost use Rattle.dbm_close.specs.Steps.{range_high, range_low};
 ghost use Rattle.dbm_core.specs.Half.{entry, row_start, row_width};
-ghost use Rattle.dbm_core.specs.Nodes.{flip};
 ghost use Rattle.dbm_incremental.specs.ClosedMatrices.{IsStrong};
-ghost use Rattle.dbm_narrow.specs.Entries.{AreEntries, IsEntry, at, held, wide};
-ghost use Rattle.dbm_narrow.specs.Held.{HoldsHalves, TellsFinish, TellsHalves, TellsRanges};
-ghost use Rattle.dbm_narrow.specs.Rounds.{IsNarrow};
-ghost use Rattle.dbm_narrow.specs.Rows.{RestStays, RowIs, Strengthened, strengthened_at};
+ghost use Rattle.dbm_narrow.specs.Entries.{AreEntries, IsEntry, held, wide};
+ghost use Rattle.dbm_narrow.specs.Held.{HoldsHalves, TellsFinish, TellsHalves, TellsLast, TellsRanges};
+ghost use Rattle.dbm_narrow.specs.Rounds.{AreUncut, IsNarrow, IsUncutEntry};
+ghost use Rattle.dbm_narrow.specs.Rows.{AreFlipped, RestStays, RowIs, Strengthened, strengthened_at};
 
-use crate::entries::{FREE, NONE, half, plus};
+use crate::closing::ClosingResult;
+use crate::entries::{half, plus};
+use crate::entry::Entry;
 use crate::middle::flipped;
-use crate::rows::{place, row_at, row_len, strengthen};
+use crate::rows::{place, read, row_at, row_len, strengthen};
+use crate::width::Width;
 
-/// Steps 2 to 6, in place: false where no values are left.
+/// Steps 2 to 6, in place. After an answer other than `Closed` the entries are of no use.
 #[inline]
-pub fn finish(kinds: &[bool], entries: &mut [i32]) -> bool
-    requires narrow { IsNarrow kinds.now entries.old }
-    ensures finish { TellsFinish kinds.now entries.old entries.new result }
+pub fn finish<W: Width>(kinds: &[bool], entries: &mut [Entry<W>]) -> ClosingResult
+    requires narrow { IsNarrow W.unit kinds.now entries.old }
+    ensures finish { TellsFinish W.unit kinds.now entries.old entries.new result }
 {
     let slots = kinds.len();
     let halves = halves_of(kinds, entries);
     let behind = flipped(&halves, slots);
     if has_negative_halves(&halves, &behind, slots) {
-        return false;
+        return ClosingResult::Empty;
     }
     strengthen_rows(entries, slots, &halves, &behind);
-    if has_empty_range(kinds, entries) {
-        return false;
-    }
-    true
+    last_steps(kinds, entries)
 }
 
 /// The same of strong entries, which these steps leave as they are.
 #[inline]
-pub fn finish_strong(kinds: &[bool], entries: &[i32]) -> bool
-    requires narrow { IsNarrow kinds.now entries.now }
-    requires strong { IsStrong (2 * length kinds.now) (entry (held kinds.now entries.now)) }
-    ensures finish { TellsFinish kinds.now entries.now entries.now result }
+pub fn finish_strong<W: Width>(kinds: &[bool], entries: &[Entry<W>]) -> ClosingResult
+    requires narrow { IsNarrow W.unit kinds.now entries.now }
+    requires strong { IsStrong (2 * length kinds.now) (entry (held W.unit kinds.now entries.now)) }
+    ensures finish { TellsFinish W.unit kinds.now entries.now entries.now result }
 {
+    last_steps(kinds, entries)
+}
+
+// Steps 5 and 6.
+#[inline]
+fn last_steps<W: Width>(kinds: &[bool], entries: &[Entry<W>]) -> ClosingResult
+    requires narrow { IsNarrow W.unit kinds.now entries.now }
+    ensures last { TellsLast W.unit kinds.now entries.now result }
+{
+    if !are_uncut(entries) {
+        return ClosingResult::TooWide;
+    }
     if has_empty_range(kinds, entries) {
-        return false;
+        return ClosingResult::Empty;
+    }
+    ClosingResult::Closed
+}
+
+// Whether step 5 cuts no entry, and none is too low for it.
+#[inline]
+fn are_uncut<W: Width>(entries: &[Entry<W>]) -> bool
+    requires entries { AreEntries W.unit (2 * W.unit) entries.now }
+    ensures uncut { result ≡ true → AreUncut W.unit entries.now }
+{
+    for k in 0..entries.len() {
+        let entry = read(entries, k);
+        if !is_uncut(entry) {
+            return false;
+        }
     }
     true
 }
 
+// The same of one entry.
+#[inline]
+fn is_uncut<W: Width>(entry: Entry<W>) -> bool
+    requires entry { IsEntry W.unit (2 * W.unit) entry }
+    ensures uncut { result ≡ true → IsUncutEntry W.unit entry }
+{
+    !entry.is_less(Entry::free()) || entry.is_uncut()
+}
+
 // Half of the bound from each node to that of the other sign, rounded down.
 #[inline]
-fn halves_of(kinds: &[bool], entries: &[i32]) -> [i32; 32]
-    requires narrow { IsNarrow kinds.now entries.now }
-    ensures halves { HoldsHalves kinds.now entries.now result }
-    ensures entries { AreEntries (2 ^ 24) result }
+fn halves_of<W: Width>(kinds: &[bool], entries: &[Entry<W>]) -> [Entry<W>; 32]
+    requires narrow { IsNarrow W.unit kinds.now entries.now }
+    ensures halves { HoldsHalves W.unit kinds.now entries.now result }
+    ensures entries { AreEntries W.unit W.unit result }
 {
-    let mut halves = [NONE; 32];
+    let mut halves = [Entry::none(); 32];
     for slot in 0..kinds.len() {
         let even = place(2 * slot, 2 * slot + 1);
         let odd = place(2 * slot + 1, 2 * slot);
-        let down = half(entries[even]);
-        let up = half(entries[odd]);
+        let down = half(read(entries, even));
+        let up = half(read(entries, odd));
         halves[2 * slot] = down;
         halves[2 * slot + 1] = up;
     }
@@ -66,16 +102,22 @@ fn halves_of(kinds: &[bool], entries: &[i32]) -> [i32; 32]
 
 // Step 3: whether both halves of a slot leave no number.
 #[inline]
-fn has_negative_halves(halves: &[i32; 32], behind: &[i32; 32], slots: usize) -> bool
+fn has_negative_halves<W: Width>(
+    halves: &[Entry<W>; 32],
+    behind: &[Entry<W>; 32],
+    slots: usize,
+) -> bool
     requires few { slots ≤ 16 }
-    requires halves { AreEntries (2 ^ 24) halves.now }
-    requires behind { AreEntries (2 ^ 24) behind.now }
-    requires flipped { (i : ℕ) → i < 2 * slots → at behind.now i ≡ at halves.now (flip i) }
-    ensures negative { TellsHalves (2 * slots) halves.now result }
+    requires halves { AreEntries W.unit W.unit halves.now }
+    requires behind { AreEntries W.unit W.unit behind.now }
+    requires flipped { AreFlipped W.unit (2 * slots) halves.now behind.now }
+    ensures negative { TellsHalves W.unit (2 * slots) halves.now result }
 {
     for i in 0..2 * slots {
-        let sum = plus(halves[i], behind[i]);
-        if sum < 0 {
+        let here = read(halves, i);
+        let there = read(behind, i);
+        let sum = plus(here, there);
+        if sum.is_less(Entry::zero()) {
             return true;
         }
     }
@@ -84,33 +126,44 @@ fn has_negative_halves(halves: &[i32; 32], behind: &[i32; 32], slots: usize) -> 
 
 // Steps 2 and 4, in place.
 #[inline]
-fn strengthen_rows(entries: &mut [i32], slots: usize, halves: &[i32; 32], behind: &[i32; 32])
+fn strengthen_rows<W: Width>(
+    entries: &mut [Entry<W>],
+    slots: usize,
+    halves: &[Entry<W>; 32],
+    behind: &[Entry<W>; 32],
+)
     requires few { slots ≤ 16 }
     requires size { length entries.old ≡ row_start (2 * slots) }
-    requires entries { AreEntries (2 ^ 25) entries.old }
-    requires halves { AreEntries (2 ^ 24) halves.now }
-    requires behind { AreEntries (2 ^ 24) behind.now }
-    ensures kept { Strengthened halves.now behind.now (2 * slots) entries.old entries.new }
-    ensures entries { AreEntries (2 ^ 25) entries.new }
+    requires entries { AreEntries W.unit (2 * W.unit) entries.old }
+    requires halves { AreEntries W.unit W.unit halves.now }
+    requires behind { AreEntries W.unit W.unit behind.now }
+    ensures kept { Strengthened W.unit halves.now behind.now (2 * slots) entries.old entries.new }
+    ensures entries { AreEntries W.unit (2 * W.unit) entries.new }
 {
     for i in 0..2 * slots {
-        strengthen_row(entries, i, halves[i], behind);
+        let to = read(halves, i);
+        strengthen_row(entries, i, to, behind);
     }
 }
 
 // The same in row i.
 #[inline]
-fn strengthen_row(entries: &mut [i32], i: usize, to: i32, behind: &[i32; 32])
+fn strengthen_row<W: Width>(
+    entries: &mut [Entry<W>],
+    i: usize,
+    to: Entry<W>,
+    behind: &[Entry<W>; 32],
+)
     requires row { i < 32 }
     requires size { row_start i + row_width i ≤ length entries.old }
-    requires entries { AreEntries (2 ^ 25) entries.old }
-    requires to { IsEntry (2 ^ 24) to }
-    requires behind { AreEntries (2 ^ 24) behind.now }
-    ensures kept { RowIs (strengthened_at to behind.now) i entries.old entries.new }
-    ensures rest { RestStays i entries.old entries.new }
-    ensures entries { AreEntries (2 ^ 25) entries.new }
+    requires entries { AreEntries W.unit (2 * W.unit) entries.old }
+    requires to { IsEntry W.unit W.unit to }
+    requires behind { AreEntries W.unit W.unit behind.now }
+    ensures kept { RowIs W.unit (strengthened_at W.unit to behind.now) i entries.old entries.new }
+    ensures rest { RestStays W.unit i entries.old entries.new }
+    ensures entries { AreEntries W.unit (2 * W.unit) entries.new }
 {
-    if to >= FREE {
+    if !to.is_less(Entry::free()) {
         return;
     }
     let start = row_at(i);
@@ -122,43 +175,43 @@ fn strengthen_row(entries: &mut [i32], i: usize, to: i32, behind: &[i32; 32])
 /// The least value of a slot, by the bound on twice its negative.
 #[inline]
 #[tactic(auto, unfolding(crate::specs::Entries::wide))]
-pub fn low_end(array: bool, bound: i32) -> i64
-    requires bound { IsEntry (2 ^ 25) bound }
-    ensures low { result ≡ range_low array (wide bound) }
+pub fn low_end<W: Width>(array: bool, bound: Entry<W>) -> i128
+    requires bound { IsEntry W.unit (2 * W.unit) bound }
+    ensures low { result ≡ range_low array (wide W.unit bound) }
 {
     let extreme = if array { 0 } else { -9223372036854775808 };
-    if bound >= FREE {
+    if !bound.is_less(Entry::free()) {
         return extreme;
     }
-    let end = -i64::from(bound).div_euclid(2);
+    let end = -bound.half_number();
     if end < extreme { extreme } else { end }
 }
 
 /// The greatest value of a slot, by the bound on twice it.
 #[inline]
 #[tactic(auto, unfolding(crate::specs::Entries::wide))]
-pub fn high_end(array: bool, bound: i32) -> i64
-    ensures high { result ≡ range_high array (wide bound) }
+pub fn high_end<W: Width>(array: bool, bound: Entry<W>) -> i128
+    ensures high { result ≡ range_high array (wide W.unit bound) }
 {
     let extreme = if array { 1000000 } else { 9223372036854775807 };
-    if bound >= FREE {
+    if !bound.is_less(Entry::free()) {
         return extreme;
     }
-    let end = i64::from(bound).div_euclid(2);
+    let end = bound.half_number();
     if end < extreme { end } else { extreme }
 }
 
 // Step 6: whether a slot's range is empty.
 #[inline]
-fn has_empty_range(kinds: &[bool], entries: &[i32]) -> bool
-    requires narrow { IsNarrow kinds.now entries.now }
-    ensures empty { TellsRanges kinds.now entries.now result }
+fn has_empty_range<W: Width>(kinds: &[bool], entries: &[Entry<W>]) -> bool
+    requires narrow { IsNarrow W.unit kinds.now entries.now }
+    ensures empty { TellsRanges W.unit kinds.now entries.now result }
 {
     for (slot, array) in kinds.iter().enumerate() {
         let even = place(2 * slot, 2 * slot + 1);
         let odd = place(2 * slot + 1, 2 * slot);
-        let low = low_end(*array, entries[even]);
-        let high = high_end(*array, entries[odd]);
+        let low = low_end(*array, read(entries, even));
+        let high = high_end(*array, read(entries, odd));
         if high < low {
             return true;
         }

@@ -1,5 +1,5 @@
 //! Step 1: the least weights of walks.
-ghost use Rattle.std.specs.Prelude.{◌≡◌, ◌<◌, ◌≤◌, ◌^◌, ◌*◌, ◌+◌, true, length};
+ghost use Rattle.std.specs.Prelude.{◌≡◌, ◌<◌, ◌≤◌, ◌*◌, ◌+◌, true, length};
 ghost use Rattle.dbm_core.specs.Half.{row_start, row_width};
 ghost use Rattle.dbm_narrow.specs.Entries.{AreEntries};
 ghost use Rattle.dbm_narrow.specs.Held.{HasLowDiagonal, TellsDiagonal};
@@ -7,9 +7,10 @@ ghost use Rattle.dbm_narrow.specs.Middles.{AllThrough, IsNarrowMiddle, through_m
 ghost use Rattle.dbm_narrow.specs.Rounds.{AreRounds, IsNarrow, IsRound};
 ghost use Rattle.dbm_narrow.specs.Rows.{IsRowWithin, RestStays, RowIs};
 
-use crate::entries::FREE;
+use crate::entry::Entry;
 use crate::middle::{Middle, fill_middle, no_middle};
-use crate::rows::{are_within, go_through, row_at, row_len};
+use crate::rows::{are_within, go_through, read, row_at, row_len};
+use crate::width::Width;
 
 /// How rounds end.
 #[derive(Clone, Copy, Debug, PartialEq, Eq)]
@@ -25,10 +26,10 @@ pub enum Walks {
 /// Step 1: the least weights of all walks, in place. After an answer other than `Done` the entries
 /// are of no use.
 #[inline]
-pub fn least_weights(kinds: &[bool], entries: &mut [i32]) -> Walks
-    requires narrow { IsNarrow kinds.now entries.old }
-    requires diagonal { HasLowDiagonal kinds.now entries.old }
-    ensures weights { AreRounds kinds.now entries.old entries.new result }
+pub fn least_weights<W: Width>(kinds: &[bool], entries: &mut [Entry<W>]) -> Walks
+    requires narrow { IsNarrow W.unit kinds.now entries.old }
+    requires diagonal { HasLowDiagonal W.unit kinds.now entries.old }
+    ensures weights { AreRounds W.unit kinds.now entries.old entries.new result }
 {
     let mut middle = no_middle();
     for q in 0..kinds.len() {
@@ -46,18 +47,25 @@ pub fn least_weights(kinds: &[bool], entries: &mut [i32]) -> Walks
 
 // One round: walks may go through both nodes of slot q, whose bounds are put into `middle`.
 #[inline]
-fn make_round(kinds: &[bool], entries: &mut [i32], q: usize, middle: &mut Middle) -> Walks
-    requires narrow { IsNarrow kinds.now entries.old }
+fn make_round<W: Width>(
+    kinds: &[bool],
+    entries: &mut [Entry<W>],
+    q: usize,
+    middle: &mut Middle<W>,
+) -> Walks
+    requires narrow { IsNarrow W.unit kinds.now entries.old }
     requires middle { q < length kinds.now }
-    requires bounds { IsNarrowMiddle middle.old }
-    ensures round { IsRound kinds.now q entries.old entries.new result }
-    ensures bounds { IsNarrowMiddle middle.new }
+    requires bounds { IsNarrowMiddle W.unit middle.old }
+    ensures round { IsRound W.unit kinds.now q entries.old entries.new result }
+    ensures bounds { IsNarrowMiddle W.unit middle.new }
 {
     fill_middle(kinds, entries, q, middle);
-    if middle.from_first[2 * q] < 0 {
+    let first = read(&middle.from_first, 2 * q);
+    if first.is_less(Entry::zero()) {
         return Walks::Negative;
     }
-    if middle.from_second[2 * q + 1] < 0 {
+    let second = read(&middle.from_second, 2 * q + 1);
+    if second.is_less(Entry::zero()) {
         return Walks::Negative;
     }
     if go_through_rows(entries, kinds.len(), middle) {
@@ -69,13 +77,14 @@ fn make_round(kinds: &[bool], entries: &mut [i32], q: usize, middle: &mut Middle
 
 /// Walks may go through both nodes of the slot, in place: whether each bound stays within the limits.
 #[inline]
-pub fn go_through_rows(entries: &mut [i32], slots: usize, middle: &Middle) -> bool
+pub fn go_through_rows<W: Width>(entries: &mut [Entry<W>], slots: usize, middle: &Middle<W>) -> bool
     requires few { slots ≤ 16 }
     requires size { length entries.old ≡ row_start (2 * slots) }
-    requires entries { AreEntries (2 ^ 25) entries.old }
-    requires middle { IsNarrowMiddle middle.now }
-    ensures kept { result ≡ true → AllThrough middle.now (2 * slots) entries.old entries.new }
-    ensures entries { result ≡ true → AreEntries (2 ^ 25) entries.new }
+    requires entries { AreEntries W.unit (2 * W.unit) entries.old }
+    requires middle { IsNarrowMiddle W.unit middle.now }
+    ensures kept { result ≡ true →
+        AllThrough W.unit middle.now (2 * slots) entries.old entries.new }
+    ensures entries { result ≡ true → AreEntries W.unit (2 * W.unit) entries.new }
 {
     // of many slots most rows are skipped, so that one check of all would cost more
     let each = slots > 8;
@@ -92,21 +101,26 @@ pub fn go_through_rows(entries: &mut [i32], slots: usize, middle: &Middle) -> bo
 
 // The same in row i: whether each of its bounds stays within the limits, where that is to be checked.
 #[inline]
-fn go_through_row(entries: &mut [i32], i: usize, middle: &Middle, checks: bool) -> bool
+fn go_through_row<W: Width>(
+    entries: &mut [Entry<W>],
+    i: usize,
+    middle: &Middle<W>,
+    checks: bool,
+) -> bool
     requires row { i < 32 }
     requires size { row_start i + row_width i ≤ length entries.old }
-    requires entries { AreEntries (7 * 2 ^ 25) entries.old }
-    requires small { IsRowWithin (2 ^ 25) i entries.old }
-    requires middle { IsNarrowMiddle middle.now }
-    ensures kept { RowIs (through_middle middle.now i) i entries.old entries.new }
-    ensures rest { RestStays i entries.old entries.new }
-    ensures entries { AreEntries (7 * 2 ^ 25) entries.new }
-    ensures within { checks ≡ true → result ≡ true → AreEntries (2 ^ 25) entries.old →
-        AreEntries (2 ^ 25) entries.new }
+    requires entries { AreEntries W.unit (14 * W.unit) entries.old }
+    requires small { IsRowWithin W.unit (2 * W.unit) i entries.old }
+    requires middle { IsNarrowMiddle W.unit middle.now }
+    ensures kept { RowIs W.unit (through_middle W.unit middle.now i) i entries.old entries.new }
+    ensures rest { RestStays W.unit i entries.old entries.new }
+    ensures entries { AreEntries W.unit (14 * W.unit) entries.new }
+    ensures within { checks ≡ true → result ≡ true → AreEntries W.unit (2 * W.unit) entries.old →
+        AreEntries W.unit (2 * W.unit) entries.new }
 {
-    let to_first = middle.to_first[i];
-    let to_second = middle.to_second[i];
-    if to_first >= FREE && to_second >= FREE {
+    let to_first = read(&middle.to_first, i);
+    let to_second = read(&middle.to_second, i);
+    if !to_first.is_less(Entry::free()) && !to_second.is_less(Entry::free()) {
         return true;
     }
     let start = row_at(i);
@@ -124,22 +138,23 @@ fn go_through_row(entries: &mut [i32], i: usize, middle: &Middle, checks: bool) 
 
 // Whether each bound lies within the limits, where that is to be checked.
 #[inline]
-fn are_within_if(checks: bool, entries: &[i32]) -> bool
-    requires entries { AreEntries (7 * 2 ^ 25) entries.now }
-    ensures within { checks ≡ true → result ≡ true → AreEntries (2 ^ 25) entries.now }
+fn are_within_if<W: Width>(checks: bool, entries: &[Entry<W>]) -> bool
+    requires entries { AreEntries W.unit (14 * W.unit) entries.now }
+    ensures within { checks ≡ true → result ≡ true → AreEntries W.unit (2 * W.unit) entries.now }
 {
     !checks || are_within(entries)
 }
 
 // Whether an entry of the diagonal is below 0.
 #[inline]
-fn is_diagonal_negative(kinds: &[bool], entries: &[i32]) -> bool
-    requires narrow { IsNarrow kinds.now entries.now }
-    ensures negative { TellsDiagonal kinds.now entries.now result }
+fn is_diagonal_negative<W: Width>(kinds: &[bool], entries: &[Entry<W>]) -> bool
+    requires narrow { IsNarrow W.unit kinds.now entries.now }
+    ensures negative { TellsDiagonal W.unit kinds.now entries.now result }
 {
     for slot in 0..kinds.len() {
         let at = row_at(2 * slot) + 2 * slot;
-        if entries[at] < 0 {
+        let own = read(entries, at);
+        if own.is_less(Entry::zero()) {
             return true;
         }
     }

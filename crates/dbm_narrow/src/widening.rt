@@ -1,29 +1,30 @@
 //! Widenings of narrow matrices.
-ghost use Rattle.std.specs.Prelude.{◌≡◌, ◌<◌, ◌≤◌, ◌*◌, ◌+◌, ◌^◌, IfOk, Some, true, false, cond, int_lt, length};
+ghost use Rattle.std.specs.Prelude.{◌≡◌, ◌<◌, ◌≤◌, ◌*◌, ◌+◌, IfOk, Some, true, false, cond, int_lt, length};
 ghost use Rattle.std.specs.Int.{int_min};
 ghost use Rattle.dbm_core.specs.Half.{row_start, row_width};
 ghost use Rattle.dbm_core.specs.Operations.{threshold_value as value_of, next_threshold};
 ghost use Rattle.dbm_core.specs.Weights.{least};
-ghost use Rattle.dbm_narrow.specs.Entries.{AreEntries, IsEntry, wide};
+ghost use Rattle.dbm_narrow.specs.Entries.{AreEntries, IsEntry};
 ghost use Rattle.dbm_narrow.specs.Rows.{RestStays};
-ghost use Rattle.dbm_narrow.specs.Widenings.{EachWidens, IsThresholdEntry, IsWidenedIf, RowWidens, WidensIf, WidensOn, start_at};
+ghost use Rattle.dbm_narrow.specs.Widenings.{AreWords, EachWidens, IsThresholdEntry, IsWidenedIf, RowWidensOn, WidensIf, WidensOn};
 
 use crate::Narrow;
 use crate::convert::narrow_entry;
-use crate::entries::{FREE, NONE};
-use crate::rows::{row_at, row_len};
+use crate::entry::Entry;
+use crate::rows::{read, row_at, row_len};
+use crate::width::Width;
 use base_values::Memory;
 use dbm_core::other_sign;
 use std::alloc::Global;
 
 /// The widening of a matrix by another, as that of `dbm_core`: None where a bound goes to a threshold
 /// outside the limits.
-pub fn widen(
+pub fn widen<W: Width>(
     alloc: Global,
     thresholds: &[i64],
-    left: &Narrow,
-    right: &Narrow,
-) -> Result<Option<Narrow>, Memory>
+    left: &Narrow<W>,
+    right: &Narrow<W>,
+) -> Result<Option<Narrow<W>>, Memory>
     requires same_kinds { right.now.kinds ≡ left.now.kinds }
     ensures widens { IfOk result (WidensIf thresholds.now left.now right.now) }
 {
@@ -43,14 +44,19 @@ pub fn widen(
 
 // Widens the entries by the others, in place: whether each bound stays within the limits.
 #[inline]
-fn raise_rows(entries: &mut [i32], others: &[i32], slots: usize, thresholds: &[i64]) -> bool
+fn raise_rows<W: Width>(
+    entries: &mut [Entry<W>],
+    others: &[Entry<W>],
+    slots: usize,
+    thresholds: &[i64],
+) -> bool
     requires few { slots ≤ 16 }
     requires size { length entries.old ≡ row_start (2 * slots) }
     requires as_many { length others.now ≡ length entries.old }
-    requires entries { AreEntries (2 ^ 25) entries.old }
-    requires others { AreEntries (2 ^ 25) others.now }
-    ensures kept { WidensOn result thresholds.now (2 * slots) entries.old others.now entries.new }
-    ensures entries { result ≡ true → AreEntries (2 ^ 25) entries.new }
+    requires entries { AreEntries W.unit (2 * W.unit) entries.old }
+    requires others { AreEntries W.unit (2 * W.unit) others.now }
+    ensures kept { WidensOn W.unit result thresholds.now slots entries.old others.now entries.new }
+    ensures entries { result ≡ true → AreEntries W.unit (2 * W.unit) entries.new }
 {
     for i in 0..2 * slots {
         if !raise_row(entries, others, i, thresholds) {
@@ -62,15 +68,20 @@ fn raise_rows(entries: &mut [i32], others: &[i32], slots: usize, thresholds: &[i
 
 // The same in row i.
 #[inline]
-fn raise_row(entries: &mut [i32], others: &[i32], i: usize, thresholds: &[i64]) -> bool
+fn raise_row<W: Width>(
+    entries: &mut [Entry<W>],
+    others: &[Entry<W>],
+    i: usize,
+    thresholds: &[i64],
+) -> bool
     requires row { i < 32 }
     requires size { row_start i + row_width i ≤ length entries.old }
     requires as_many { length others.now ≡ length entries.old }
-    requires entries { AreEntries (2 ^ 25) entries.old }
-    requires others { AreEntries (2 ^ 25) others.now }
-    ensures kept { result ≡ true → RowWidens thresholds.now i entries.old others.now entries.new }
-    ensures rest { RestStays i entries.old entries.new }
-    ensures entries { result ≡ true → AreEntries (2 ^ 25) entries.new }
+    requires entries { AreEntries W.unit (2 * W.unit) entries.old }
+    requires others { AreEntries W.unit (2 * W.unit) others.now }
+    ensures kept { RowWidensOn W.unit result thresholds.now i entries.old others.now entries.new }
+    ensures rest { RestStays W.unit i entries.old entries.new }
+    ensures entries { result ≡ true → AreEntries W.unit (2 * W.unit) entries.new }
 {
     let start = row_at(i);
     let end = start + row_len(i);
@@ -81,18 +92,25 @@ fn raise_row(entries: &mut [i32], others: &[i32], i: usize, thresholds: &[i64]) 
 
 // The same of the row itself.
 #[inline]
-fn raise_each(row: &mut [i32], others: &[i32], i: usize, thresholds: &[i64]) -> bool
+fn raise_each<W: Width>(
+    row: &mut [Entry<W>],
+    others: &[Entry<W>],
+    i: usize,
+    thresholds: &[i64],
+) -> bool
     requires node { i < 32 }
     requires size { length row.old ≤ 32 }
     requires as_many { length others.now ≡ length row.old }
-    requires row { AreEntries (2 ^ 25) row.old }
-    requires others { AreEntries (2 ^ 25) others.now }
-    ensures kept { result ≡ true → EachWidens thresholds.now i row.old others.now row.new }
-    ensures within { result ≡ true → AreEntries (2 ^ 25) row.new }
+    requires row { AreEntries W.unit (2 * W.unit) row.old }
+    requires others { AreEntries W.unit (2 * W.unit) others.now }
+    ensures kept { result ≡ true → EachWidens W.unit thresholds.now i row.old others.now row.new }
+    ensures within { result ≡ true → AreEntries W.unit (2 * W.unit) row.new }
 {
     let other = other_sign(i);
     for j in 0..row.len() {
-        match widened_entry(thresholds, j == other, row[j], others[j]) {
+        let old = read(row, j);
+        let new = read(others, j);
+        match widened_entry(thresholds, j == other, old, new) {
             None => return false,
             Some(entry) => row[j] = entry,
         }
@@ -102,47 +120,49 @@ fn raise_each(row: &mut [i32], others: &[i32], i: usize, thresholds: &[i64]) -> 
 
 // An entry stays where the new one is not greater, else it goes to the next threshold, if that fits.
 #[inline]
-fn widened_entry(thresholds: &[i64], doubled: bool, old: i32, new: i32) -> Option<i32>
-    requires old { IsEntry (2 ^ 25) old }
-    requires new { IsEntry (2 ^ 25) new }
-    ensures widened { IsWidenedIf thresholds.now doubled old new result }
+fn widened_entry<W: Width>(
+    thresholds: &[i64],
+    doubled: bool,
+    old: Entry<W>,
+    new: Entry<W>,
+) -> Option<Entry<W>>
+    requires old { IsEntry W.unit (2 * W.unit) old }
+    requires new { IsEntry W.unit (2 * W.unit) new }
+    ensures widened { IsWidenedIf W.unit thresholds.now doubled old new result }
 {
-    if new <= old {
+    if !old.is_less(new) {
         return Some(old);
     }
-    if new >= FREE {
-        return Some(NONE);
+    if !new.is_less(Entry::free()) {
+        return Some(Entry::none());
     }
     threshold_entry(thresholds, doubled, new)
 }
 
 // The entry of the next threshold, if it fits.
-fn threshold_entry(thresholds: &[i64], doubled: bool, bound: i32) -> Option<i32>
-    ensures threshold { IsThresholdEntry (next_threshold thresholds.now doubled bound) result }
+fn threshold_entry<W: Width>(thresholds: &[i64], doubled: bool, bound: Entry<W>) -> Option<Entry<W>>
+    ensures entry { IsThresholdEntry W.unit (next_threshold thresholds.now doubled bound) result }
 {
     narrow_entry(threshold_from(thresholds, doubled, bound))
 }
 
 // The least of the thresholds, or of the thresholds doubled, that is not less than the bound.
-fn threshold_from(thresholds: &[i64], doubled: bool, bound: i32) -> Option<i128>
+fn threshold_from<W: Width>(thresholds: &[i64], doubled: bool, bound: Entry<W>) -> Option<i128>
     ensures threshold { result ≡ next_threshold thresholds.now doubled bound }
 {
-    match least_from(thresholds, start_of(doubled, bound)) {
-        None => None,
-        Some(threshold) => Some(threshold_value(threshold, doubled)),
-    }
+    see_words(thresholds);
+    let start = bound.start(doubled)?;
+    let threshold = least_from(thresholds, start)?;
+    Some(threshold_value(threshold, doubled))
 }
 
-// What a threshold is not less than where it, or its double, is not less than the bound.
+// Each threshold has 64 bits, as the loop sees, so that all are less than a start beyond those.
 #[inline]
-fn start_of(doubled: bool, bound: i32) -> i64
-    ensures start { result ≡ start_at doubled bound }
+fn see_words(thresholds: &[i64])
+    ensures words { AreWords thresholds.now }
 {
-    let number = i64::from(bound);
-    if doubled {
-        (number + 1).div_euclid(2)
-    } else {
-        number
+    for threshold in thresholds {
+        let _threshold = *threshold;
     }
 }
 

@@ -2,3 +2,4 @@ pub mod Forms
 pub mod SameKinds
 pub mod Tight
 pub mod TransitiveLemmas
+pub mod WideningLemmas

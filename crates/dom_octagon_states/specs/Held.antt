@@ -21,13 +21,13 @@ IsHeld (Small n) = Unit {0}
 IsHeld (Large m) = AreWithin (nodes m.value) (2 ^ 25) (entry m.value) → ⊥
 
 -- what closing a narrow matrix answers, where it fits
-abbrev pub closed_if : Closing → Option Closed
+abbrev pub closed_if : {W : Type 0} → Closing W → Option Closed
 closed_if Empty = Some closed.Empty
 closed_if (Matrix n) = Some (closed.Matrix n)
 closed_if TooWide = None
 
 -- the matrix that it answers is closed
-abbrev pub IsClosedIf : Closing → Type 0
+abbrev pub IsClosedIf : {W : Type 0} → Closing W → Type 0
 IsClosedIf Empty = Unit {0}
 IsClosedIf (Matrix n) = IsClosed n
 IsClosedIf TooWide = Unit {0}

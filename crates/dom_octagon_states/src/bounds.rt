@@ -1,20 +1,21 @@
 //! The matrices of states, narrow wherever they fit.
-ghost use Rattle.std.specs.Prelude.{◌≡◌, ◌<◌, IfOk};
+ghost use Rattle.std.specs.Prelude.{◌≡◌, ◌<◌, ◌^◌, IfOk};
 ghost use Rattle.dbm_core.specs.Half.{IsMatrix, entry, nodes};
+ghost use Rattle.dbm_core.specs.Limits.{AreWithin};
 ghost use Rattle.dbm_core.specs.Same.{same_matrix, same_matrix-equiv, same_matrix-hash};
 ghost use Rattle.dbm_narrow.specs.Feeding.{matrix_fed};
 ghost use Rattle.std.specs.Cmp.{partial_equiv_from_equiv};
 
 use base_values::Memory;
 use dbm_core::Matrix;
-use dbm_narrow::{Narrow, feed_matrix, narrowed, widened};
+use dbm_narrow::{Narrow, narrowed, refitted, widened};
 use std::alloc::Global;
 use std::hash::{Hash, Hasher};
 use std::marker::Model;
 use std::rc::Rc;
 
-/// Bounds on the values of at most 16 slots: a matrix of `dbm_core`, in four bytes an entry where all
-/// bounds fit these. Copies share the entries.
+/// Bounds on the values of at most 16 slots: a matrix of `dbm_core` whose bounds lie from -2^70 to 2^70,
+/// in four bytes an entry where all bounds fit these, else in sixteen. Copies share the entries.
 #[derive(Drop)]
 pub struct Bounds {
     pub(crate) held: Held,
@@ -24,9 +25,9 @@ pub struct Bounds {
 #[derive(Drop)]
 pub enum Held {
     /// Each bound lies from -2^25 to 2^25.
-    Small(Rc<Narrow>),
-    /// Some bound does not.
-    Large(Rc<Matrix>),
+    Small(Rc<Narrow<i32>>),
+    /// Some bound does not; each lies from -2^70 to 2^70.
+    Large(Rc<Narrow<i128>>),
 }
 
 impl Model for Bounds {
@@ -74,7 +75,7 @@ impl Hash for Bounds {
     fn hash<H: Hasher>(&self, state: &mut H) {
         match &self.held {
             Held::Small(narrow) => narrow.as_ref().hash(state),
-            Held::Large(matrix) => feed_matrix(matrix.as_ref(), state),
+            Held::Large(matrix) => matrix.as_ref().hash(state),
         }
     }
 }
@@ -125,7 +126,7 @@ impl Bounds {
 }
 
 /// The narrow matrix.
-pub fn small(alloc: Global, narrow: Narrow) -> Result<Bounds, Memory>
+pub fn small(alloc: Global, narrow: Narrow<i32>) -> Result<Bounds, Memory>
     ensures same { IfOk result (λ m. m ≡ narrow) }
 {
     let narrow = Rc::new(alloc, narrow)?;
@@ -134,18 +135,48 @@ pub fn small(alloc: Global, narrow: Narrow) -> Result<Bounds, Memory>
     })
 }
 
-/// The matrix, in the narrow form where it fits.
-pub fn bounds_of(alloc: Global, matrix: Matrix) -> Result<Bounds, Memory>
-    ensures same { IfOk result (λ m. m ≡ matrix) }
+/// The wide matrix, in the narrow form where it fits.
+pub fn hold(alloc: Global, wide: Narrow<i128>) -> Result<Bounds, Memory>
+    ensures same { IfOk result (λ m. m ≡ wide) }
 {
-    match narrowed(alloc, &matrix)? {
+    match refitted::<i128, i32>(alloc, &wide)? {
         Some(narrow) => small(alloc, narrow),
         None => {
-            let matrix = Rc::new(alloc, matrix)?;
+            let wide = Rc::new(alloc, wide)?;
             Ok(Bounds {
-                held: Held::Large(matrix),
+                held: Held::Large(wide),
             })
         }
+    }
+}
+
+/// A narrow matrix in wide entries, which each narrow one fits.
+pub fn large(alloc: Global, narrow: &Narrow<i32>) -> Result<Narrow<i128>, Memory>
+    ensures same { IfOk result (λ n. n ≡ narrow.now) }
+{
+    let _kinds = narrow.kinds();
+    match refitted::<i32, i128>(alloc, narrow)? {
+        Some(wide) => Ok(wide),
+        None => unreachable!(),
+    }
+}
+
+/// The matrix, in the narrow form where it fits.
+pub fn bounds_of(alloc: Global, matrix: Matrix) -> Result<Bounds, Memory>
+    requires within { AreWithin (nodes matrix) (2 ^ 70) (entry matrix) }
+    ensures same { IfOk result (λ m. m ≡ matrix) }
+{
+    match narrowed::<i32>(alloc, &matrix)? {
+        Some(narrow) => small(alloc, narrow),
+        None => match narrowed::<i128>(alloc, &matrix)? {
+            Some(wide) => {
+                let wide = Rc::new(alloc, wide)?;
+                Ok(Bounds {
+                    held: Held::Large(wide),
+                })
+            }
+            None => unreachable!(),
+        },
     }
 }
 
@@ -155,6 +186,6 @@ pub fn matrix_of_bounds(alloc: Global, m: &Bounds) -> Result<Matrix, Memory>
 {
     match &m.held {
         Held::Small(narrow) => widened(alloc, narrow.as_ref()),
-        Held::Large(matrix) => matrix.as_ref().copy(alloc),
+        Held::Large(wide) => widened(alloc, wide.as_ref()),
     }
 }

@@ -7,7 +7,7 @@
 //! Only what widening gives is closed whole, and what an operation makes of a matrix from which closing has cut a bound that a walk
 //! still needs ([`is_whole`]). Widening keeps its left matrix as it is: else loops need not come to an end.
 //!
-//! A matrix takes four bytes an entry where its bounds fit these (`dbm_narrow`), and copies share their entries.
+//! A matrix takes four bytes an entry where its bounds fit these, else sixteen (`dbm_narrow`), and copies share their entries.
 #![tactic(auto)]
 
 mod bounds;

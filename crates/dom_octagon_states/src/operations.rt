@@ -1,4 +1,4 @@
-//! Operations on the matrices of states: on narrow ones where these fit, else on those of `dbm_core`.
+//! Operations on the matrices of states: on narrow ones where these fit, else on wide ones.
 ghost use Rattle.std.specs.Prelude.{◌≡◌, ◌<◌, ◌^◌, true, IfOk, length};
 ghost use Rattle.dbm_close.specs.Close.{slot_high, slot_low};
 ghost use Rattle.dbm_core.specs.Half.{HasEntries, entry, nodes};
@@ -7,12 +7,11 @@ ghost use Rattle.dbm_core.specs.Operations.{forgotten, joined, widened};
 ghost use Rattle.dbm_incremental.specs.ClosedMatrices.{IsClosed, IsWhole};
 ghost use Rattle.dbm_narrow.specs.Widenings.{WidensIf};
 ghost use Rattle.dom_octagon_states.specs.Held.{IsSmallIf};
-ghost use Rattle.dom_octagon_states.specs.Limits.{IsInLimits};
+ghost use Rattle.dom_octagon_states.specs.Limits.{AreWords, IsInLimits};
 
-use crate::bounds::{Bounds, Held, bounds_of, matrix_of_bounds, small};
+use crate::bounds::{Bounds, Held, bounds_of, hold, large, small};
 use crate::transitive::is_transitive;
 use base_values::Memory;
-use dbm_core::Matrix;
 use dbm_narrow::Narrow;
 use std::alloc::Global;
 
@@ -25,11 +24,8 @@ pub fn slot_range(m: &Bounds, slot: usize) -> (i128, i128)
     ensures high { result.1 ≡ slot_high m.now.kinds (entry m.now) slot }
 {
     match &m.held {
-        Held::Small(narrow) => {
-            let (low, high) = dbm_narrow::slot_range(narrow.as_ref(), slot);
-            (i128::from(low), i128::from(high))
-        }
-        Held::Large(matrix) => dbm_close::slot_range(matrix.as_ref(), slot),
+        Held::Small(narrow) => dbm_narrow::slot_range(narrow.as_ref(), slot),
+        Held::Large(wide) => dbm_narrow::slot_range(wide.as_ref(), slot),
     }
 }
 
@@ -39,7 +35,7 @@ pub fn forget(alloc: Global, m: &Bounds, slot: usize) -> Result<Bounds, Memory>
 {
     match &m.held {
         Held::Small(narrow) => small(alloc, dbm_narrow::forget(alloc, narrow.as_ref(), slot)?),
-        Held::Large(matrix) => bounds_of(alloc, matrix.as_ref().forget(alloc, slot)?),
+        Held::Large(wide) => hold(alloc, dbm_narrow::forget(alloc, wide.as_ref(), slot)?),
     }
 }
 
@@ -52,18 +48,22 @@ pub fn join(alloc: Global, a: &Bounds, b: &Bounds) -> Result<Bounds, Memory>
         (Held::Small(m), Held::Small(n)) => {
             small(alloc, dbm_narrow::join(alloc, m.as_ref(), n.as_ref())?)
         }
-        _ => join_large(alloc, a, b),
+        (Held::Small(m), Held::Large(n)) => {
+            join_large(alloc, &large(alloc, m.as_ref())?, n.as_ref())
+        }
+        (Held::Large(m), Held::Small(n)) => {
+            join_large(alloc, m.as_ref(), &large(alloc, n.as_ref())?)
+        }
+        (Held::Large(m), Held::Large(n)) => join_large(alloc, m.as_ref(), n.as_ref()),
     }
 }
 
-// The same where one of them is large.
-fn join_large(alloc: Global, a: &Bounds, b: &Bounds) -> Result<Bounds, Memory>
+// The same of wide matrices.
+fn join_large(alloc: Global, a: &Narrow<i128>, b: &Narrow<i128>) -> Result<Bounds, Memory>
     requires same_kinds { b.now.kinds ≡ a.now.kinds }
     ensures entries { IfOk result (HasEntries a.now.kinds (joined a.now b.now)) }
 {
-    let left = matrix_of_bounds(alloc, a)?;
-    let right = matrix_of_bounds(alloc, b)?;
-    bounds_of(alloc, left.join(alloc, &right)?)
+    hold(alloc, dbm_narrow::join(alloc, a, b)?)
 }
 
 /// The left matrix widened by the right one.
@@ -76,10 +76,22 @@ pub fn widen(alloc: Global, thresholds: &[i64], a: &Bounds, b: &Bounds) -> Resul
         (Held::Small(m), Held::Small(n)) => {
             match widen_small(alloc, thresholds, m.as_ref(), n.as_ref())? {
                 Some(widening) => Ok(widening),
-                None => widen_large(alloc, thresholds, a, b),
+                None => {
+                    let left = large(alloc, m.as_ref())?;
+                    let right = large(alloc, n.as_ref())?;
+                    widen_large(alloc, thresholds, &left, &right)
+                }
             }
         }
-        _ => widen_large(alloc, thresholds, a, b),
+        (Held::Small(m), Held::Large(n)) => {
+            widen_large(alloc, thresholds, &large(alloc, m.as_ref())?, n.as_ref())
+        }
+        (Held::Large(m), Held::Small(n)) => {
+            widen_large(alloc, thresholds, m.as_ref(), &large(alloc, n.as_ref())?)
+        }
+        (Held::Large(m), Held::Large(n)) => {
+            widen_large(alloc, thresholds, m.as_ref(), n.as_ref())
+        }
     }
 }
 
@@ -87,8 +99,8 @@ pub fn widen(alloc: Global, thresholds: &[i64], a: &Bounds, b: &Bounds) -> Resul
 fn widen_small(
     alloc: Global,
     thresholds: &[i64],
-    a: &Narrow,
-    b: &Narrow,
+    a: &Narrow<i32>,
+    b: &Narrow<i32>,
 ) -> Result<Option<Bounds>, Memory>
     requires same_kinds { b.now.kinds ≡ a.now.kinds }
     ensures widens { IfOk result (WidensIf thresholds.now a.now b.now) }
@@ -103,15 +115,49 @@ fn widen_small(
     }
 }
 
-// The same where one of them is large, or what it gives.
-fn widen_large(alloc: Global, thresholds: &[i64], a: &Bounds, b: &Bounds) -> Result<Bounds, Memory>
+// The same of wide matrices.
+fn widen_large(
+    alloc: Global,
+    thresholds: &[i64],
+    a: &Narrow<i128>,
+    b: &Narrow<i128>,
+) -> Result<Bounds, Memory>
     requires same_kinds { b.now.kinds ≡ a.now.kinds }
     ensures entries { IfOk result (HasEntries a.now.kinds (widened thresholds.now a.now b.now)) }
     ensures limited { IsInLimits a.now → IsInLimits b.now → IfOk result IsInLimits }
 {
-    let left = matrix_of_bounds(alloc, a)?;
-    let right = matrix_of_bounds(alloc, b)?;
+    words(thresholds);
+    match dbm_narrow::widen(alloc, thresholds, a, b)? {
+        Some(widening) => hold(alloc, widening),
+        None => widen_wide(alloc, thresholds, a, b),
+    }
+}
+
+// The same by the entries of `dbm_core`.
+fn widen_wide(
+    alloc: Global,
+    thresholds: &[i64],
+    a: &Narrow<i128>,
+    b: &Narrow<i128>,
+) -> Result<Bounds, Memory>
+    requires words { AreWords thresholds.now }
+    requires same_kinds { b.now.kinds ≡ a.now.kinds }
+    ensures entries { IfOk result (HasEntries a.now.kinds (widened thresholds.now a.now b.now)) }
+    ensures limited { IsInLimits a.now → IsInLimits b.now → IfOk result IsInLimits }
+{
+    let _kinds = a.kinds();
+    let left = dbm_narrow::widened(alloc, a)?;
+    let right = dbm_narrow::widened(alloc, b)?;
     bounds_of(alloc, left.widen(alloc, thresholds, &right)?)
+}
+
+// Thresholds are numbers of 64 bits: there is nothing to do.
+fn words(thresholds: &[i64])
+    ensures words { AreWords thresholds.now }
+{
+    for threshold in thresholds {
+        let _word = *threshold;
+    }
 }
 
 /// Whether a matrix obeys the triangle law, if it is closed: no bound is 2^63 or more, or its bounds are
@@ -121,12 +167,12 @@ pub fn is_whole(m: &Bounds) -> bool
 {
     match &m.held {
         Held::Small(narrow) => is_small(narrow.as_ref()),
-        Held::Large(matrix) => is_large_whole(matrix.as_ref()),
+        Held::Large(wide) => is_large_whole(wide.as_ref()),
     }
 }
 
 // No bound of a narrow matrix is 2^63 or more.
-fn is_small(narrow: &Narrow) -> bool
+fn is_small(narrow: &Narrow<i32>) -> bool
     ensures whole { result ≡ true → IsClosed narrow.now → IsWhole narrow.now }
 {
     let _kinds = narrow.kinds();
@@ -134,8 +180,8 @@ fn is_small(narrow: &Narrow) -> bool
 }
 
 // The same of one that does not fit the narrow form.
-fn is_large_whole(m: &Matrix) -> bool
+fn is_large_whole(m: &Narrow<i128>) -> bool
     ensures whole { result ≡ true → IsClosed m.now → IsWhole m.now }
 {
-    dbm_incremental::is_whole(m) || is_transitive(m)
+    dbm_narrow::is_near(m) || is_transitive(m)
 }

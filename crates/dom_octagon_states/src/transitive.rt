@@ -4,11 +4,11 @@ ghost use Rattle.dbm_core.specs.Half.{entry, nodes};
 ghost use Rattle.dbm_incremental.specs.ClosedMatrices.{IsClosed, IsWhole};
 ghost use Rattle.dom_octagon_states.specs.Transitive.{AreReached, IsTransitive, StayWithin, StaysWithin, is_bound as has_bound};
 
-use dbm_core::Matrix;
+use dbm_narrow::Narrow;
 
 /// Whether a bound stands wherever two in a row do. A closed matrix then obeys the triangle law: closing
 /// has cut no bound that a walk still needs.
-pub fn is_transitive(m: &Matrix) -> bool
+pub fn is_transitive(m: &Narrow<i128>) -> bool
     ensures transitive { result ≡ true → IsTransitive (nodes m.now) (entry m.now) }
     ensures whole { result ≡ true → IsClosed m.now → IsWhole m.now }
 {
@@ -23,7 +23,7 @@ pub fn is_transitive(m: &Matrix) -> bool
 }
 
 // The nodes to which a bound leads from node i.
-fn reached_from(m: &Matrix, i: usize) -> [bool; 32]
+fn reached_from(m: &Narrow<i128>, i: usize) -> [bool; 32]
     requires row { i < nodes m.now }
     ensures reached { AreReached m.now i result }
 {
@@ -36,7 +36,7 @@ fn reached_from(m: &Matrix, i: usize) -> [bool; 32]
 }
 
 // Whether a bound leads from one of these nodes to another one.
-fn leave(m: &Matrix, reached: &[bool; 32]) -> bool
+fn leave(m: &Narrow<i128>, reached: &[bool; 32]) -> bool
     ensures within { result ≡ false → StayWithin m.now reached.now }
 {
     let nodes = 2 * m.kinds().len();
@@ -49,7 +49,7 @@ fn leave(m: &Matrix, reached: &[bool; 32]) -> bool
 }
 
 // Whether a bound leads from node k to one that is none of these.
-fn leaves(m: &Matrix, k: usize, reached: &[bool; 32]) -> bool
+fn leaves(m: &Narrow<i128>, k: usize, reached: &[bool; 32]) -> bool
     requires row { k < nodes m.now }
     ensures within { result ≡ false → StaysWithin m.now reached.now k }
 {

@@ -1,5 +1,5 @@
-use Rattle.std.specs.Prelude.{◌≡◌, ◌*◌, ℕ, ℤ, Option, length, FitsSigned, refl}
-use Rattle.std.proofs.Common.{arith, rules, ◌∙◌, ap, sym, subst, drop, get_or}
+use Rattle.std.specs.Prelude.{◌≡◌, ◌*◌, ℕ, ℤ, Option, length, refl}
+use Rattle.std.proofs.Common.{FitsSigned, arith, rules, ◌∙◌, ap, sym, subst, drop, get_or}
 use Rattle.std.proofs.lemmas.List.{drop_all}
 use Rattle.dbm_core.proofs.HalfLemmas.{entry-coherent}
 use Rattle.dbm_core.specs.Half.{entry}
@@ -10,67 +10,63 @@ use Rattle.dbm_incremental.proofs.TriangleLemmas.{own-weights}
 use Rattle.dbm_incremental.specs.Steps.{lowered_all}
 use Rattle.dbm_incremental.specs.Triangles.{AreSoundWeights}
 use Rattle.std.proofs.lemmas.Int.{to_z-of_z}
-use mir.Syntax.{w128, w32}
-use mir.Val.{of_z, to_z}
-use Rattle.dbm_narrow.proofs.EntryLemmas.{same}
+use mir.Syntax.{w128}
 use Rattle.dbm_narrow.specs.Entries.{held}
 use Rattle.dbm_narrow.specs.Lowerings.{LowersNegative, LowersTo}
 use Rattle.dbm_narrow.proofs.adding.lower_all.Goals as goal
 
 pub loop-bound-init : goal.loop-bound-init
-loop-bound-init c = record {
+loop-bound-init gen c = record {
   narrow = c.requires.narrow;
   own = c.requires.weights;
   rest = c.requires.bounds;
   so_far = (
-    entry (held c.args.kinds.now c.args.entries.now),
+    entry (held gen.W.Width.unit c.args.kinds.now c.args.entries.now),
     record {
-      coherent = entry-coherent (held c.args.kinds.now c.args.entries.now) c.requires.narrow.matrix;
-      weights = own-weights (entry (held c.args.kinds.now c.args.entries.now)) (2 * length c.args.kinds.now) c.requires.weights.diagonal c.requires.weights.triangles;
+      coherent = entry-coherent (held gen.W.Width.unit c.args.kinds.now c.args.entries.now) c.requires.narrow.matrix;
+      weights = own-weights (entry (held gen.W.Width.unit c.args.kinds.now c.args.entries.now)) (2 * length c.args.kinds.now) c.requires.weights.diagonal c.requires.weights.triangles;
       left = refl;
     },
   );
 }
 
 pub lower-requires-clause-row : goal.lower-requires-clause-row
-lower-requires-clause-row c = (rest-first (2 * length c.args.kinds.now) c.args.bounds.now c.loop-bound.bound-index c.loop-bound-test.true c.loop-bound.invariant.rest).0
+lower-requires-clause-row gen c = (rest-first (2 * length c.args.kinds.now) c.args.bounds.now c.loop-bound.bound-index c.loop-bound-test.true c.loop-bound.invariant.rest).0
 
 pub lower-requires-clause-column : goal.lower-requires-clause-column
-lower-requires-clause-column c = (rest-first (2 * length c.args.kinds.now) c.args.bounds.now c.loop-bound.bound-index c.loop-bound-test.true c.loop-bound.invariant.rest).1.0
+lower-requires-clause-column gen c = (rest-first (2 * length c.args.kinds.now) c.args.bounds.now c.loop-bound.bound-index c.loop-bound-test.true c.loop-bound.invariant.rest).1.0
 
 pub loop-bound-preserved : goal.loop-bound-preserved
-loop-bound-preserved c =
+loop-bound-preserved gen c =
     let b : Bound = get_or c.args.bounds.now c.loop-bound.bound-index no_bound in
     let g : FitsSigned w128 b.bound = search rules in
-    let f : FitsSigned w32 c.in-Some.small = search rules in
-    let s : to_z w32 (of_z w32 c.in-Some.small) ≡ b.bound = same c.in-Some.small f ∙ c.in-Some.ensures.small.0 ∙ to_z-of_z w128 b.bound g in
-    let p : (w : ℕ → ℕ → Option ℤ) × IsLoweredSoFar (entry (held c.args.kinds.now c.args.entries.now)) (2 * length c.args.kinds.now) c.args.bounds.now (drop c.loop-bound.bound-index c.args.bounds.now) (entry (held c.args.kinds.now c.loop-bound.entries)) w = c.loop-bound.invariant.so_far in
-    let q : LowersTo c.args.kinds.now c.loop-bound.entries c.lower.new.entries b.row b.column b.bound = subst (λ x. LowersTo c.args.kinds.now c.loop-bound.entries c.lower.new.entries b.row b.column x) s c.in-Done.ensures.lowering in
+    let s : c.in-Some.small ≡ b.bound = c.in-Some.ensures.small.0 ∙ to_z-of_z w128 b.bound g in
+    let p : (w : ℕ → ℕ → Option ℤ) × IsLoweredSoFar (entry (held gen.W.Width.unit c.args.kinds.now c.args.entries.now)) (2 * length c.args.kinds.now) c.args.bounds.now (drop c.loop-bound.bound-index c.args.bounds.now) (entry (held gen.W.Width.unit c.args.kinds.now c.loop-bound.entries)) w = c.loop-bound.invariant.so_far in
+    let q : LowersTo gen.W.Width.unit c.args.kinds.now c.loop-bound.entries c.lower.new.entries b.row b.column b.bound = subst (λ x. LowersTo gen.W.Width.unit c.args.kinds.now c.loop-bound.entries c.lower.new.entries b.row b.column x) s c.in-Done.ensures.lowering in
     record {
       narrow = q.narrow;
       own = q.own;
       rest = rest-next (2 * length c.args.kinds.now) c.args.bounds.now c.loop-bound.bound-index c.loop-bound-test.true c.loop-bound.invariant.rest;
       so_far = (
         lowered p.0 b.row b.column b.bound,
-        IsLoweredSoFar-next (entry (held c.args.kinds.now c.args.entries.now)) (length c.args.kinds.now) c.args.bounds.now c.loop-bound.bound-index (entry (held c.args.kinds.now c.loop-bound.entries)) (entry (held c.args.kinds.now c.lower.new.entries)) p.0 c.loop-bound-test.true p.1 (q.weights p.0 p.1.coherent p.1.weights),
+        IsLoweredSoFar-next (entry (held gen.W.Width.unit c.args.kinds.now c.args.entries.now)) (length c.args.kinds.now) c.args.bounds.now c.loop-bound.bound-index (entry (held gen.W.Width.unit c.args.kinds.now c.loop-bound.entries)) (entry (held gen.W.Width.unit c.args.kinds.now c.lower.new.entries)) p.0 c.loop-bound-test.true p.1 (q.weights p.0 p.1.coherent p.1.weights),
       );
     }
 
 pub returns-in-Negative : goal.returns-in-Negative
-returns-in-Negative c =
+returns-in-Negative gen c =
     let b : Bound = get_or c.args.bounds.now c.loop-bound.bound-index no_bound in
     let g : FitsSigned w128 b.bound = search rules in
-    let f : FitsSigned w32 c.in-Some.small = search rules in
-    let s : to_z w32 (of_z w32 c.in-Some.small) ≡ b.bound = same c.in-Some.small f ∙ c.in-Some.ensures.small.0 ∙ to_z-of_z w128 b.bound g in
-    let p : (w : ℕ → ℕ → Option ℤ) × IsLoweredSoFar (entry (held c.args.kinds.now c.args.entries.now)) (2 * length c.args.kinds.now) c.args.bounds.now (drop c.loop-bound.bound-index c.args.bounds.now) (entry (held c.args.kinds.now c.loop-bound.entries)) w = c.loop-bound.invariant.so_far in
-    let q : LowersNegative c.args.kinds.now c.loop-bound.entries b.row b.column b.bound = subst (λ x. LowersNegative c.args.kinds.now c.loop-bound.entries b.row b.column x) s c.in-Negative.ensures.lowering in
-    record { lowered = negative-so_far (entry (held c.args.kinds.now c.args.entries.now)) (2 * length c.args.kinds.now) c.args.bounds.now c.loop-bound.bound-index (entry (held c.args.kinds.now c.loop-bound.entries)) p.0 c.loop-bound-test.true p.1 (q p.0 p.1.coherent p.1.weights) }
+    let s : c.in-Some.small ≡ b.bound = c.in-Some.ensures.small.0 ∙ to_z-of_z w128 b.bound g in
+    let p : (w : ℕ → ℕ → Option ℤ) × IsLoweredSoFar (entry (held gen.W.Width.unit c.args.kinds.now c.args.entries.now)) (2 * length c.args.kinds.now) c.args.bounds.now (drop c.loop-bound.bound-index c.args.bounds.now) (entry (held gen.W.Width.unit c.args.kinds.now c.loop-bound.entries)) w = c.loop-bound.invariant.so_far in
+    let q : LowersNegative gen.W.Width.unit c.args.kinds.now c.loop-bound.entries b.row b.column b.bound = subst (λ x. LowersNegative gen.W.Width.unit c.args.kinds.now c.loop-bound.entries b.row b.column x) s c.in-Negative.ensures.lowering in
+    record { lowered = negative-so_far (entry (held gen.W.Width.unit c.args.kinds.now c.args.entries.now)) (2 * length c.args.kinds.now) c.args.bounds.now c.loop-bound.bound-index (entry (held gen.W.Width.unit c.args.kinds.now c.loop-bound.entries)) p.0 c.loop-bound-test.true p.1 (q p.0 p.1.coherent p.1.weights) }
 
 pub returns : goal.returns
-returns c =
-    let p : (w : ℕ → ℕ → Option ℤ) × IsLoweredSoFar (entry (held c.args.kinds.now c.args.entries.now)) (2 * length c.args.kinds.now) c.args.bounds.now (drop c.loop-bound.bound-index c.args.bounds.now) (entry (held c.args.kinds.now c.loop-bound.entries)) w = c.loop-bound.invariant.so_far in
-    let e : p.0 ≡ lowered_all (entry (held c.args.kinds.now c.args.entries.now)) c.args.bounds.now =
+returns gen c =
+    let p : (w : ℕ → ℕ → Option ℤ) × IsLoweredSoFar (entry (held gen.W.Width.unit c.args.kinds.now c.args.entries.now)) (2 * length c.args.kinds.now) c.args.bounds.now (drop c.loop-bound.bound-index c.args.bounds.now) (entry (held gen.W.Width.unit c.args.kinds.now c.loop-bound.entries)) w = c.loop-bound.invariant.so_far in
+    let e : p.0 ≡ lowered_all (entry (held gen.W.Width.unit c.args.kinds.now c.args.entries.now)) c.args.bounds.now =
     ap (lowered_all p.0) (sym (drop_all c.loop-bound.bound-index c.args.bounds.now (omega arith))) ∙ p.1.left in
     record {
-      lowered = record { narrow = c.loop-bound.invariant.narrow; weights = subst (λ w. AreSoundWeights w (2 * length c.args.kinds.now) (entry (held c.args.kinds.now c.loop-bound.entries))) e p.1.weights };
+      lowered = record { narrow = c.loop-bound.invariant.narrow; weights = subst (λ w. AreSoundWeights w (2 * length c.args.kinds.now) (entry (held gen.W.Width.unit c.args.kinds.now c.loop-bound.entries))) e p.1.weights };
     }

@@ -9,9 +9,9 @@ use Rattle.dbm_narrow.specs.Rounds.{IsNarrow}
 use Rattle.dbm_narrow.proofs.adding.lower_all.Given as goal
 
 abbrev pub invariant-loop-bound : goal.invariant-loop-bound
-invariant-loop-bound l = record {
-  narrow : IsNarrow l.kinds l.entries;
-  own : HasOwnWeights l.kinds l.entries;
+invariant-loop-bound gen l = record {
+  narrow : IsNarrow gen.W.Width.unit l.kinds l.entries;
+  own : HasOwnWeights gen.W.Width.unit l.kinds l.entries;
   rest : AreBounds (2 * length l.kinds) (drop l.bound-index l.bounds);
-  so_far : (w : ℕ → ℕ → Option ℤ) × IsLoweredSoFar (entry (held l.kinds l.fn.entries)) (2 * length l.kinds) l.bounds (drop l.bound-index l.bounds) (entry (held l.kinds l.entries)) w;
+  so_far : (w : ℕ → ℕ → Option ℤ) × IsLoweredSoFar (entry (held gen.W.Width.unit l.kinds l.fn.entries)) (2 * length l.kinds) l.bounds (drop l.bound-index l.bounds) (entry (held gen.W.Width.unit l.kinds l.entries)) w;
 }

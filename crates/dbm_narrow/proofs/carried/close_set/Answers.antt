@@ -9,20 +9,20 @@ use Rattle.dbm_narrow.specs.Rounds.{IsNarrow}
 use Rattle.dbm_narrow.proofs.carried.close_set.Goals as goal
 
 pub close_strong-requires-clause-narrow : goal.close_strong-requires-clause-narrow
-close_strong-requires-clause-narrow c =
-    subst (λ (k : List Bool). IsNarrow k c.as_slice.result.now) (sym c.list.ensures.value) (subst (λ (x : List ℤ). IsNarrow c.set.inside.kinds x) (sym c.as_slice.ensures.value) c.set.invariant)
+close_strong-requires-clause-narrow gen c =
+    subst (λ (k : List Bool). IsNarrow gen.W.Width.unit k c.as_slice.result.now) (sym c.list.ensures.value) (subst (λ (x : List ℤ). IsNarrow gen.W.Width.unit c.set.inside.kinds x) (sym c.as_slice.ensures.value) c.set.invariant)
 
 pub close_strong-requires-clause-strong : goal.close_strong-requires-clause-strong
-close_strong-requires-clause-strong c =
-    let e : held c.list.result.now c.as_slice.result.now ≡ c.args.set = ap (λ k. held k c.as_slice.result.now) c.list.ensures.value ∙ ap (held c.set.inside.kinds) c.as_slice.ensures.value ∙ c.set.view_is in
+close_strong-requires-clause-strong gen c =
+    let e : held gen.W.Width.unit c.list.result.now c.as_slice.result.now ≡ c.args.set = ap (λ k. held gen.W.Width.unit k c.as_slice.result.now) c.list.ensures.value ∙ ap (held gen.W.Width.unit c.set.inside.kinds) c.as_slice.ensures.value ∙ c.set.view_is in
     subst (λ (m : HalfMatrix). IsStrong (nodes m) (entry m)) (sym e) c.requires.strong
 
 pub returns-in-Closed : goal.returns-in-Closed
-returns-in-Closed c =
-    let e : held c.list.result.now c.as_slice.result.now ≡ c.args.set = ap (λ k. held k c.as_slice.result.now) c.list.ensures.value ∙ ap (held c.set.inside.kinds) c.as_slice.ensures.value ∙ c.set.view_is in
+returns-in-Closed gen c =
+    let e : held gen.W.Width.unit c.list.result.now c.as_slice.result.now ≡ c.args.set = ap (λ k. held gen.W.Width.unit k c.as_slice.result.now) c.list.ensures.value ∙ ap (held gen.W.Width.unit c.set.inside.kinds) c.as_slice.ensures.value ∙ c.set.view_is in
     record { closing = ap close_of (sym e) ∙ c.in-Closed.ensures.outcome.0 ∙ ap Matrix e }
 
 pub returns-in-Empty : goal.returns-in-Empty
-returns-in-Empty c =
-    let e : held c.list.result.now c.as_slice.result.now ≡ c.args.set = ap (λ k. held k c.as_slice.result.now) c.list.ensures.value ∙ ap (held c.set.inside.kinds) c.as_slice.ensures.value ∙ c.set.view_is in
+returns-in-Empty gen c =
+    let e : held gen.W.Width.unit c.list.result.now c.as_slice.result.now ≡ c.args.set = ap (λ k. held gen.W.Width.unit k c.as_slice.result.now) c.list.ensures.value ∙ ap (held gen.W.Width.unit c.set.inside.kinds) c.as_slice.ensures.value ∙ c.set.view_is in
     record { closing = ap close_of (sym e) ∙ c.in-Empty.ensures.outcome }

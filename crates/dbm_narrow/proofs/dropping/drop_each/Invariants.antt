@@ -3,7 +3,7 @@ use Rattle.dbm_narrow.specs.Entries.{at, dropped}
 use Rattle.dbm_narrow.proofs.dropping.drop_each.Given as goal
 
 abbrev pub invariant-loop-j : goal.invariant-loop-j
-invariant-loop-j l = record {
-  done : (a : ℕ) → a < l.j → at l.row a ≡ dropped l.slot l.i a (at l.fn.row a);
-  rest : (a : ℕ) → l.j ≤ a → at l.row a ≡ at l.fn.row a;
+invariant-loop-j gen l = record {
+  done : (a : ℕ) → a < l.j → at gen.W.Width.unit l.row a ≡ dropped gen.W.Width.unit l.slot l.i a (at gen.W.Width.unit l.fn.row a);
+  rest : (a : ℕ) → l.j ≤ a → at gen.W.Width.unit l.row a ≡ at gen.W.Width.unit l.fn.row a;
 }

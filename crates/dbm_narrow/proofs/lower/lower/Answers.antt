@@ -1,64 +1,46 @@
-use Rattle.std.specs.Prelude.{◌≡◌, ◌<◌, ◌≤◌, ◌<ℤ◌, ◌≤ℤ◌, ◌*◌, ◌^◌, FitsSigned, pos, negsuc, Some, length}
-use Rattle.std.proofs.Common.{arith, rules, sym, ◌∙◌, ap, subst, get_or}
-use Rattle.std.proofs.lemmas.Int.{ints}
-use mir.Syntax.{w32}
-use mir.Val.{of_z, to_z}
-use Rattle.dbm_core.proofs.NodeLemmas.{flip_below}
+use Rattle.std.specs.Prelude.{◌<ℤ◌, ◌≤ℤ◌, pos, negsuc, Some}
+use Rattle.std.proofs.Common.{sym, ◌∙◌, ap, subst}
 use Rattle.dbm_core.specs.Nodes.{flip}
 use Rattle.dbm_core.specs.Weights.{AtMost}
-use Rattle.dbm_narrow.proofs.EntryLemmas.{lt-false, lt-true, read-entry, same, wide-negative, wide-positive}
+use Rattle.dbm_narrow.proofs.EntryLemmas.{lt-false, wide-negative, wide-positive, zero-above, zero-below}
 use Rattle.dbm_narrow.proofs.LowerLemmas.{ends-inserted, first-sum, has_ends, lowers-first, lowers-kept, lowers-second, lowers-to, second-sum}
 use Rattle.dbm_narrow.proofs.RoundLemmas.{narrow-size}
+use Rattle.dbm_narrow.proofs.SizeLemmas.{middle-fits}
 use Rattle.dbm_narrow.specs.Entries.{at}
-use Rattle.dbm_narrow.specs.Lowerings.{AreEnds}
 use Rattle.dbm_narrow.proofs.lower.lower.Goals as goal
 
 pub entry_at-current-requires-clause-size : goal.entry_at-current-requires-clause-size
-entry_at-current-requires-clause-size c = narrow-size c.args.kinds.now c.args.entries.now c.requires.narrow
+entry_at-current-requires-clause-size gen c = narrow-size gen.W.Width.unit gen.W.Width.positive c.args.kinds.now c.args.entries.now c.requires.narrow
 
-pub ends_of-ends-requires-clause-size : goal.ends_of-ends-requires-clause-size
-ends_of-ends-requires-clause-size c = narrow-size c.args.kinds.now c.args.entries.now c.requires.narrow
+pub ends_of-ends-requires : goal.ends_of-ends-requires
+ends_of-ends-requires gen c = (middle-fits gen.row.W gen.met.W.Width.light, (c.requires.narrow.matrix.few, (c.requires.row, (c.requires.column, (narrow-size gen.W.Width.unit gen.W.Width.positive c.args.kinds.now c.args.entries.now c.requires.narrow, (c.requires.narrow.entries, (c.requires.low, c.requires.high)))))))
 
-pub go_through_rows-requires-clause-size : goal.go_through_rows-requires-clause-size
-go_through_rows-requires-clause-size c = narrow-size c.args.kinds.now c.args.entries.now c.requires.narrow
+pub go_through_rows-requires : goal.go_through_rows-requires
+go_through_rows-requires gen c = (middle-fits gen.row.W gen.met.W.Width.light, (c.requires.narrow.matrix.few, (narrow-size gen.W.Width.unit gen.W.Width.positive c.args.kinds.now c.args.entries.now c.requires.narrow, (c.requires.narrow.entries, c.ends_of-ends.ensures.entries))))
 
-pub returns-then-current-bound : goal.returns-then-current-bound
-returns-then-current-bound c =
-    let f : FitsSigned w32 c.entry_at-current.result = search rules in
-    let h : c.entry_at-current.result ≤ℤ c.args.bound = grind (arith, ints) in
-    record { lowering = lowers-kept c.args.kinds.now c.args.entries.now c.args.i c.args.j c.args.bound c.requires.narrow c.requires.row c.requires.column c.requires.low c.requires.high c.requires.weights (subst (λ x. x ≤ℤ c.args.bound) c.entry_at-current.ensures.entry h) }
+pub returns-then-not-is_less : goal.returns-then-not-is_less
+returns-then-not-is_less gen c =
+    let h : c.entry_at-current.result ≤ℤ c.args.bound = lt-false gen.W.Width.unit gen.W.Width.positive c.args.bound c.entry_at-current.result (sym c.is_less.ensures.less ∙ c.if-not-is_less.true) in
+    record { lowering = lowers-kept gen.W.Width.unit gen.W.Width.positive c.args.kinds.now c.args.entries.now c.args.i c.args.j c.args.bound c.requires.narrow c.requires.row c.requires.column c.requires.low c.requires.high c.requires.weights (subst (λ x. x ≤ℤ c.args.bound) c.entry_at-current.ensures.entry h) }
 
-pub returns-then-first-lt0 : goal.returns-then-first-lt0
-returns-then-first-lt0 c =
-    let ends : AreEnds (2 * length c.args.kinds.now) c.args.entries.now c.args.i c.args.j c.args.bound c.ends_of-ends.result = subst (λ b. AreEnds (2 * length c.args.kinds.now) c.args.entries.now c.args.i c.args.j b c.ends_of-ends.result) (same c.args.bound c.ranges.bound) c.ends_of-ends.ensures.ends in
-    let few : length c.args.kinds.now ≤ 16 = c.requires.narrow.matrix.few in
-    let r : to_z w32 (of_z w32 (get_or c.ends_of-ends.result.from_first c.args.i (pos 0))) ≡ at c.ends_of-ends.result.from_first c.args.i = read-entry (2 ^ 27) c.ends_of-ends.result.from_first c.args.i (omega arith) c.ends_of-ends.ensures.entries.from_first (omega arith) in
-    let n : to_z w32 (of_z w32 (get_or c.ends_of-ends.result.from_first c.args.i (pos 0))) <ℤ pos 0 = lt-true _ _ c.if-first-lt0.true in
-    record { lowering = lowers-first c.args.kinds.now c.args.entries.now c.args.i c.args.j c.args.bound c.requires.narrow c.requires.row c.requires.column c.requires.low c.requires.high (subst (λ a. AtMost a (Some (negsuc 0))) (first-sum c.args.kinds.now c.args.entries.now c.args.i c.args.j c.args.bound c.requires.narrow c.requires.row c.requires.column c.requires.low c.requires.high c.ends_of-ends.result ends) (wide-negative (at c.ends_of-ends.result.from_first c.args.i) (subst (λ x. x <ℤ pos 0) r n))) }
+pub returns-then-is_less : goal.returns-then-is_less
+returns-then-is_less gen c =
+    let n : at gen.W.Width.unit c.ends_of-ends.result.from_first c.args.i <ℤ pos 0 = subst (λ x. x <ℤ pos 0) c.read-first.ensures.value (zero-above gen.W.Width.unit gen.W.Width.positive c.read-first.result c.zero.result c.is_less-2.result c.zero.ensures.value c.is_less-2.ensures.less c.if-is_less.true) in
+    record { lowering = lowers-first gen.W.Width.unit gen.W.Width.positive c.args.kinds.now c.args.entries.now c.args.i c.args.j c.args.bound c.requires.narrow c.requires.row c.requires.column c.requires.low c.requires.high (subst (λ a. AtMost a (Some (negsuc 0))) (first-sum gen.W.Width.unit gen.W.Width.positive c.args.kinds.now c.args.entries.now c.args.i c.args.j c.args.bound c.requires.narrow c.requires.row c.requires.column c.requires.low c.requires.high c.ends_of-ends.result c.ends_of-ends.ensures.ends) (wide-negative gen.W.Width.unit gen.W.Width.positive (at gen.W.Width.unit c.ends_of-ends.result.from_first c.args.i) n)) }
 
-pub returns-then-second-lt0 : goal.returns-then-second-lt0
-returns-then-second-lt0 c =
-    let ends : AreEnds (2 * length c.args.kinds.now) c.args.entries.now c.args.i c.args.j c.args.bound c.ends_of-ends.result = subst (λ b. AreEnds (2 * length c.args.kinds.now) c.args.entries.now c.args.i c.args.j b c.ends_of-ends.result) (same c.args.bound c.ranges.bound) c.ends_of-ends.ensures.ends in
-    let few : length c.args.kinds.now ≤ 16 = c.requires.narrow.matrix.few in
-    let hb : c.other_sign-behind.result < 2 * length c.args.kinds.now = subst (λ k. k < 2 * length c.args.kinds.now) (sym c.other_sign-behind.ensures.flipped) (flip_below c.args.j (length c.args.kinds.now) c.requires.column) in
-    let r : to_z w32 (of_z w32 (get_or c.ends_of-ends.result.from_second c.other_sign-behind.result (pos 0))) ≡ at c.ends_of-ends.result.from_second (flip c.args.j) =
-    read-entry (2 ^ 27) c.ends_of-ends.result.from_second c.other_sign-behind.result (omega arith) c.ends_of-ends.ensures.entries.from_second (omega arith) ∙ ap (at c.ends_of-ends.result.from_second) c.other_sign-behind.ensures.flipped in
-    let n : to_z w32 (of_z w32 (get_or c.ends_of-ends.result.from_second c.other_sign-behind.result (pos 0))) <ℤ pos 0 = lt-true _ _ c.if-second-lt0.true in
-    record { lowering = lowers-second c.args.kinds.now c.args.entries.now c.args.i c.args.j c.args.bound c.requires.narrow c.requires.row c.requires.column c.requires.low c.requires.high (subst (λ a. AtMost a (Some (negsuc 0))) (second-sum c.args.kinds.now c.args.entries.now c.args.i c.args.j c.args.bound c.requires.narrow c.requires.row c.requires.column c.requires.low c.requires.high c.ends_of-ends.result ends) (wide-negative (at c.ends_of-ends.result.from_second (flip c.args.j)) (subst (λ x. x <ℤ pos 0) r n))) }
+pub returns-then-is_less-2 : goal.returns-then-is_less-2
+returns-then-is_less-2 gen c =
+    let n : at gen.W.Width.unit c.ends_of-ends.result.from_second (flip c.args.j) <ℤ pos 0 = subst (λ x. x <ℤ pos 0) (c.read-second.ensures.value ∙ ap (at gen.W.Width.unit c.ends_of-ends.result.from_second) c.other_sign-behind.ensures.flipped) (zero-above gen.W.Width.unit gen.W.Width.positive c.read-second.result c.zero-2.result c.is_less-3.result c.zero-2.ensures.value c.is_less-3.ensures.less c.if-is_less-2.true) in
+    record { lowering = lowers-second gen.W.Width.unit gen.W.Width.positive c.args.kinds.now c.args.entries.now c.args.i c.args.j c.args.bound c.requires.narrow c.requires.row c.requires.column c.requires.low c.requires.high (subst (λ a. AtMost a (Some (negsuc 0))) (second-sum gen.W.Width.unit gen.W.Width.positive c.args.kinds.now c.args.entries.now c.args.i c.args.j c.args.bound c.requires.narrow c.requires.row c.requires.column c.requires.low c.requires.high c.ends_of-ends.result c.ends_of-ends.ensures.ends) (wide-negative gen.W.Width.unit gen.W.Width.positive (at gen.W.Width.unit c.ends_of-ends.result.from_second (flip c.args.j)) n)) }
 
 pub returns-then-go_through_rows : goal.returns-then-go_through_rows
-returns-then-go_through_rows c =
-    let ends : AreEnds (2 * length c.args.kinds.now) c.args.entries.now c.args.i c.args.j c.args.bound c.ends_of-ends.result = subst (λ b. AreEnds (2 * length c.args.kinds.now) c.args.entries.now c.args.i c.args.j b c.ends_of-ends.result) (same c.args.bound c.ranges.bound) c.ends_of-ends.ensures.ends in
-    let few : length c.args.kinds.now ≤ 16 = c.requires.narrow.matrix.few in
-    let hb : c.other_sign-behind.result < 2 * length c.args.kinds.now = subst (λ k. k < 2 * length c.args.kinds.now) (sym c.other_sign-behind.ensures.flipped) (flip_below c.args.j (length c.args.kinds.now) c.requires.column) in
-    let r : to_z w32 (of_z w32 (get_or c.ends_of-ends.result.from_first c.args.i (pos 0))) ≡ at c.ends_of-ends.result.from_first c.args.i = read-entry (2 ^ 27) c.ends_of-ends.result.from_first c.args.i (omega arith) c.ends_of-ends.ensures.entries.from_first (omega arith) in
-    let s : to_z w32 (of_z w32 (get_or c.ends_of-ends.result.from_second c.other_sign-behind.result (pos 0))) ≡ at c.ends_of-ends.result.from_second (flip c.args.j) =
-    read-entry (2 ^ 27) c.ends_of-ends.result.from_second c.other_sign-behind.result (omega arith) c.ends_of-ends.ensures.entries.from_second (omega arith) ∙ ap (at c.ends_of-ends.result.from_second) c.other_sign-behind.ensures.flipped in
-    let m : pos 0 ≤ℤ to_z w32 (of_z w32 (get_or c.ends_of-ends.result.from_first c.args.i (pos 0))) = lt-false _ _ c.if-first-lt0.false in
-    let n : pos 0 ≤ℤ to_z w32 (of_z w32 (get_or c.ends_of-ends.result.from_second c.other_sign-behind.result (pos 0))) = lt-false _ _ c.if-second-lt0.false in
+returns-then-go_through_rows gen c =
+    let m : pos 0 ≤ℤ at gen.W.Width.unit c.ends_of-ends.result.from_first c.args.i = subst (λ x. pos 0 ≤ℤ x) c.read-first.ensures.value (zero-below gen.W.Width.unit gen.W.Width.positive c.read-first.result c.zero.result c.is_less-2.result c.zero.ensures.value c.is_less-2.ensures.less c.if-is_less.false) in
+    let n : pos 0 ≤ℤ at gen.W.Width.unit c.ends_of-ends.result.from_second (flip c.args.j) = subst (λ x. pos 0 ≤ℤ x) (c.read-second.ensures.value ∙ ap (at gen.W.Width.unit c.ends_of-ends.result.from_second) c.other_sign-behind.ensures.flipped) (zero-below gen.W.Width.unit gen.W.Width.positive c.read-second.result c.zero-2.result c.is_less-3.result c.zero-2.ensures.value c.is_less-3.ensures.less c.if-is_less-2.false) in
     record {
-      lowering = lowers-to c.args.kinds.now c.args.entries.now c.args.i c.args.j c.args.bound c.requires.narrow c.requires.row c.requires.column c.requires.low c.requires.high c.go_through_rows.new.entries c.requires.weights c.go_through_rows.auto.entries (c.go_through_rows.ensures.entries c.if-go_through_rows.true)
-          (subst (AtMost (Some (pos 0))) (first-sum c.args.kinds.now c.args.entries.now c.args.i c.args.j c.args.bound c.requires.narrow c.requires.row c.requires.column c.requires.low c.requires.high c.ends_of-ends.result ends) (wide-positive (at c.ends_of-ends.result.from_first c.args.i) (subst (λ x. pos 0 ≤ℤ x) r m)))
-          (subst (AtMost (Some (pos 0))) (second-sum c.args.kinds.now c.args.entries.now c.args.i c.args.j c.args.bound c.requires.narrow c.requires.row c.requires.column c.requires.low c.requires.high c.ends_of-ends.result ends) (wide-positive (at c.ends_of-ends.result.from_second (flip c.args.j)) (subst (λ x. pos 0 ≤ℤ x) s n)))
-          (λ a b ha w. ends-inserted c.args.kinds.now c.args.entries.now c.go_through_rows.new.entries c.args.i c.args.j c.args.bound c.ends_of-ends.result (has_ends c.args.kinds.now c.args.entries.now c.args.i c.args.j c.args.bound c.requires.narrow c.requires.row c.requires.column c.requires.low c.requires.high c.ends_of-ends.result ends) c.ends_of-ends.ensures.entries a b ha w (c.go_through_rows.ensures.kept c.if-go_through_rows.true a b ha w));
+      lowering = lowers-to gen.W.Width.unit gen.W.Width.positive c.args.kinds.now c.args.entries.now c.args.i c.args.j c.args.bound c.requires.narrow c.requires.row c.requires.column c.requires.low c.requires.high c.go_through_rows.new.entries c.requires.weights c.go_through_rows.auto.entries (c.go_through_rows.ensures.entries c.if-go_through_rows.true)
+          (subst (AtMost (Some (pos 0))) (first-sum gen.W.Width.unit gen.W.Width.positive c.args.kinds.now c.args.entries.now c.args.i c.args.j c.args.bound c.requires.narrow c.requires.row c.requires.column c.requires.low c.requires.high c.ends_of-ends.result c.ends_of-ends.ensures.ends) (wide-positive gen.W.Width.unit gen.W.Width.positive (at gen.W.Width.unit c.ends_of-ends.result.from_first c.args.i) m))
+          (subst (AtMost (Some (pos 0))) (second-sum gen.W.Width.unit gen.W.Width.positive c.args.kinds.now c.args.entries.now c.args.i c.args.j c.args.bound c.requires.narrow c.requires.row c.requires.column c.requires.low c.requires.high c.ends_of-ends.result c.ends_of-ends.ensures.ends) (wide-positive gen.W.Width.unit gen.W.Width.positive (at gen.W.Width.unit c.ends_of-ends.result.from_second (flip c.args.j)) n))
+          (λ a b ha w. ends-inserted gen.W.Width.unit gen.W.Width.positive c.args.kinds.now c.args.entries.now c.go_through_rows.new.entries c.args.i c.args.j c.args.bound c.ends_of-ends.result (has_ends gen.W.Width.unit gen.W.Width.positive c.args.kinds.now c.args.entries.now c.args.i c.args.j c.args.bound c.requires.narrow c.requires.row c.requires.column c.requires.low c.requires.high c.ends_of-ends.result c.ends_of-ends.ensures.ends) c.ends_of-ends.ensures.entries a b ha w
+          (c.go_through_rows.ensures.kept c.if-go_through_rows.true a b ha w));
     }

@@ -7,7 +7,7 @@ use Rattle.dbm_narrow.specs.Entries.{held}
 use Rattle.dbm_narrow.proofs.met.are_met.Given as goal
 
 abbrev pub invariant-loop-bound : goal.invariant-loop-bound
-invariant-loop-bound l = record {
+invariant-loop-bound gen l = record {
   rest : AreBounds (2 * length l.kinds) (drop l.bound-index l.bounds);
-  so_far : (w : ℕ → ℕ → Option ℤ) × IsLoweredSoFar (entry (held l.kinds l.entries)) (2 * length l.kinds) l.bounds (drop l.bound-index l.bounds) (entry (held l.kinds l.entries)) w;
+  so_far : (w : ℕ → ℕ → Option ℤ) × IsLoweredSoFar (entry (held gen.W.Width.unit l.kinds l.entries)) (2 * length l.kinds) l.bounds (drop l.bound-index l.bounds) (entry (held gen.W.Width.unit l.kinds l.entries)) w;
 }

@@ -5,8 +5,8 @@ use Rattle.dbm_narrow.specs.Entries.{at, none, settle}
 use Rattle.dbm_narrow.proofs.middle.over.Given as goal
 
 abbrev pub invariant-loop-j : goal.invariant-loop-j
-invariant-loop-j l = record {
+invariant-loop-j gen l = record {
   size : length l.sums ≡ 32;
-  done : (k : ℕ) → k < l.j → at l.sums k ≡ int_min (at l.row k) (settle (l.step +ℤ at l.next k));
-  rest : (k : ℕ) → l.j ≤ k → at l.sums k ≡ none;
+  done : (k : ℕ) → k < l.j → at gen.W.Width.unit l.sums k ≡ int_min (at gen.W.Width.unit l.row k) (settle gen.W.Width.unit (l.step +ℤ at gen.W.Width.unit l.next k));
+  rest : (k : ℕ) → l.j ≤ k → at gen.W.Width.unit l.sums k ≡ none gen.W.Width.unit;
 }

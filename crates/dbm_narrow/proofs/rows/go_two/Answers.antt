@@ -1,21 +1,14 @@
-use Rattle.std.specs.Prelude.{◌≡◌, ◌+◌, ℤ, FitsSigned}
-use Rattle.std.proofs.Common.{arith, rules, ◌∙◌, length-set}
-use mir.Syntax.{w32}
-use mir.Val.{of_z, to_z}
-use Rattle.dbm_narrow.proofs.EntryLemmas.{same}
+use Rattle.std.specs.Prelude.{◌+◌, ℤ}
+use Rattle.std.proofs.Common.{refl, arith, length-set}
 use Rattle.dbm_narrow.proofs.RowLemmas.{gone-next, gone-none, gone-value}
 use Rattle.dbm_narrow.specs.Entries.{at}
 use Rattle.dbm_narrow.proofs.rows.go_two.Goals as goal
 
 pub returns : goal.returns
-returns c =
-    let f : FitsSigned w32 c.gone_at-first.result = search rules in
-    let g : FitsSigned w32 c.gone_at-second.result = search rules in
-    let tu : to_z w32 (of_z w32 c.args.to_first) ≡ c.args.to_first = same c.args.to_first c.ranges.to_first in
-    let tv : to_z w32 (of_z w32 c.args.to_second) ≡ c.args.to_second = same c.args.to_second c.ranges.to_second in
+returns gen c =
     record {
-      gone = gone-next _ _ _ _ _ _ c.args.j (c.args.j + 1) (c.args.j + 2) _ (omega arith) (omega arith) (omega (arith, length-set {A = ℤ}))
-          (gone-next _ _ _ _ _ _ c.args.j c.args.j (c.args.j + 1) _ (omega arith) (omega arith) (omega arith) (gone-none _ _ _ _ _ c.args.j)
-          (gone-value _ _ _ _ _ c.args.from_first.now c.args.from_second.now c.args.j (at c.args.row.now c.args.j) (same c.gone_at-first.result f ∙ c.gone_at-first.ensures.value) tu tv))
-          (gone-value _ _ _ _ _ c.args.from_first.now c.args.from_second.now (c.args.j + 1) (at c.args.row.now (c.args.j + 1)) (same c.gone_at-second.result g ∙ c.gone_at-second.ensures.value) tu tv);
+      gone = gone-next gen.W.Width.unit gen.W.Width.positive _ _ _ _ _ _ c.args.j (c.args.j + 1) (c.args.j + 2) _ (omega arith) (omega arith) (omega (arith, length-set {A = ℤ}))
+          (gone-next gen.W.Width.unit gen.W.Width.positive _ _ _ _ _ _ c.args.j c.args.j (c.args.j + 1) _ (omega arith) (omega arith) (omega arith) (gone-none gen.W.Width.unit gen.W.Width.positive _ _ _ _ _ c.args.j)
+          (gone-value gen.W.Width.unit gen.W.Width.positive _ _ _ _ _ c.args.from_first.now c.args.from_second.now c.args.j (at gen.W.Width.unit c.args.row.now c.args.j) (c.gone_at-first.ensures.value) refl refl))
+          (gone-value gen.W.Width.unit gen.W.Width.positive _ _ _ _ _ c.args.from_first.now c.args.from_second.now (c.args.j + 1) (at gen.W.Width.unit c.args.row.now (c.args.j + 1)) (c.gone_at-second.ensures.value) refl refl);
     }

@@ -1,12 +1,10 @@
-use Rattle.std.specs.Prelude.{◌≡◌, ◌<◌, ◌+◌, ◌*◌, ◌/◌, ◌^◌, pos}
-use Rattle.std.proofs.Common.{arith, sym, ◌∙◌, ap, refl, length, length-set, get_or}
-use mir.Syntax.{w32}
-use mir.Val.{of_z, to_z}
+use Rattle.std.specs.Prelude.{ℤ, replicate, ◌≡◌, ◌+◌, ◌*◌, ◌/◌}
+use Rattle.std.proofs.Common.{subst, arith, sym, ◌∙◌, ap, refl, length-set}
 use Rattle.dbm_core.proofs.HalfLemmas.{place-small}
 use Rattle.dbm_core.proofs.NodeLemmas.{flip-half}
 use Rattle.dbm_core.specs.Half.{row_start}
 use Rattle.dbm_core.specs.Nodes.{flip}
-use Rattle.dbm_narrow.proofs.EntryLemmas.{none-anywhere, pair-kept, pair-other, read-entry}
+use Rattle.dbm_narrow.proofs.EntryLemmas.{none-anywhere, pair-kept, pair-other}
 use Rattle.dbm_narrow.proofs.MiddleLemmas.{flip-first, flip-second}
 use Rattle.dbm_narrow.proofs.PartLemmas.{place-in}
 use Rattle.dbm_narrow.proofs.RowLemmas.{done-set, rest-set, two-rest, two-set, two-size}
@@ -14,74 +12,64 @@ use Rattle.dbm_narrow.specs.Entries.{at, none, pair_at}
 use Rattle.dbm_narrow.proofs.rows.whole_row.Goals as goal
 
 pub loop-j-init : goal.loop-j-init
-loop-j-init c = record { size = refl; done = λ k l. absurd (omega arith); rest = λ k l. none-anywhere 32 k }
+loop-j-init gen c = record { size = refl; done = λ k l. absurd (omega arith); rest = λ k l. subst (λ z. at gen.W.Width.unit (replicate {A = ℤ} 32 z) k ≡ none gen.W.Width.unit) (sym c.none-row.ensures.value) (none-anywhere gen.W.Width.unit gen.W.Width.positive 32 k) }
 
 pub overflow_add-at : goal.overflow_add-at
-overflow_add-at c = omega (arith, place-small c.args.i c.loop-j.j (omega arith) (omega arith))
+overflow_add-at gen c = omega (arith, place-small c.args.i c.loop-j.j (omega arith) (omega arith))
 
-pub offset_bounds-entries-at : goal.offset_bounds-entries-at
-offset_bounds-entries-at c = omega (arith, place-small c.args.i c.loop-j.j (omega arith) (omega arith))
-
-pub bounds-entries-at : goal.bounds-entries-at
-bounds-entries-at c = omega (arith, place-in c.args.entries.now c.args.slots c.args.i c.loop-j.j c.requires.size c.requires.row (omega arith))
+pub read-requires : goal.read-requires
+read-requires gen c = record { place = omega (arith, place-in gen.W.Width.unit gen.W.Width.positive c.args.entries.now c.args.slots c.args.i c.loop-j.j c.requires.size c.requires.row (omega arith)) }
 
 pub loop-j-preserved : goal.loop-j-preserved
-loop-j-preserved c =
-    let m : row_start c.args.i + c.loop-j.j < length c.args.entries.now = place-in c.args.entries.now c.args.slots c.args.i c.loop-j.j c.requires.size c.requires.row (omega arith) in
-    let e : to_z w32 (of_z w32 (get_or c.args.entries.now (c.row_at-start.result + c.loop-j.j) (pos 0))) ≡ at c.args.entries.now (row_start c.args.i + c.loop-j.j) =
-    ap (λ s. to_z w32 (of_z w32 (get_or c.args.entries.now (s + c.loop-j.j) (pos 0)))) c.row_at-start.ensures.start
-    ∙ read-entry (2 ^ 25) c.args.entries.now (row_start c.args.i + c.loop-j.j) (omega arith) c.requires.entries m in
+loop-j-preserved gen c =
+    let r : c.read.result ≡ at gen.W.Width.unit c.args.entries.now (c.row_at-start.result + c.loop-j.j) = c.read.ensures.value in
+    let e : c.read.result ≡ at gen.W.Width.unit c.args.entries.now (row_start c.args.i + c.loop-j.j) =
+    r ∙ ap (λ s. at gen.W.Width.unit c.args.entries.now (s + c.loop-j.j)) c.row_at-start.ensures.start in
     record {
       size = length-set c.loop-j.row c.loop-j.j _ ∙ c.loop-j.invariant.size;
-      done = done-set (λ k x. x ≡ at c.args.entries.now (row_start c.args.i + k)) c.loop-j.row c.loop-j.j _ (omega (arith, c.loop-j.invariant.size)) c.loop-j.invariant.done e;
-      rest = rest-set (λ k x. x ≡ none) c.loop-j.row c.loop-j.j _ c.loop-j.invariant.rest;
+      done = done-set gen.W.Width.unit gen.W.Width.positive (λ k x. x ≡ at gen.W.Width.unit c.args.entries.now (row_start c.args.i + k)) c.loop-j.row c.loop-j.j _ (omega (arith, c.loop-j.invariant.size)) c.loop-j.invariant.done e;
+      rest = rest-set gen.W.Width.unit gen.W.Width.positive (λ k x. x ≡ none gen.W.Width.unit) c.loop-j.row c.loop-j.j _ c.loop-j.invariant.rest;
     }
 
 pub loop-slot-init : goal.loop-slot-init
-loop-slot-init c = record {
+loop-slot-init gen c = record {
   size = c.loop-j.invariant.size;
-  done = λ k l. c.loop-j.invariant.done k (omega arith) ∙ sym (pair-kept c.args.entries.now c.args.i k (omega arith));
+  done = λ k l. c.loop-j.invariant.done k (omega arith) ∙ sym (pair-kept gen.W.Width.unit gen.W.Width.positive c.args.entries.now c.args.i k (omega arith));
   rest = λ k l. c.loop-j.invariant.rest k (omega arith);
 }
 
 pub overflow_add-even : goal.overflow_add-even
-overflow_add-even c = omega (arith, place-small (2 * c.loop-slot.slot) (flip c.args.i) (omega arith) (omega (arith, flip-half c.args.i)))
+overflow_add-even gen c = omega (arith, place-small (2 * c.loop-slot.slot) (flip c.args.i) (omega arith) (omega (arith, flip-half c.args.i)))
 
 pub overflow_add-odd : goal.overflow_add-odd
-overflow_add-odd c = omega (arith, place-small (2 * c.loop-slot.slot + 1) (flip c.args.i) (omega arith) (omega (arith, flip-half c.args.i)))
+overflow_add-odd gen c = omega (arith, place-small (2 * c.loop-slot.slot + 1) (flip c.args.i) (omega arith) (omega (arith, flip-half c.args.i)))
 
-pub offset_bounds-entries-even : goal.offset_bounds-entries-even
-offset_bounds-entries-even c = omega (arith, place-small (2 * c.loop-slot.slot) (flip c.args.i) (omega arith) (omega (arith, flip-half c.args.i)))
+pub read-second-requires : goal.read-second-requires
+read-second-requires gen c = record { place = omega (arith, place-in gen.W.Width.unit gen.W.Width.positive c.args.entries.now c.args.slots (2 * c.loop-slot.slot) (flip c.args.i) c.requires.size (omega arith) (omega (arith, flip-half c.args.i))) }
 
-pub offset_bounds-entries-odd : goal.offset_bounds-entries-odd
-offset_bounds-entries-odd c = omega (arith, place-small (2 * c.loop-slot.slot + 1) (flip c.args.i) (omega arith) (omega (arith, flip-half c.args.i)))
-
-pub bounds-entries-even : goal.bounds-entries-even
-bounds-entries-even c = omega (arith, place-in c.args.entries.now c.args.slots (2 * c.loop-slot.slot) (flip c.args.i) c.requires.size (omega arith) (omega (arith, flip-half c.args.i)))
-
-pub bounds-entries-odd : goal.bounds-entries-odd
-bounds-entries-odd c = omega (arith, place-in c.args.entries.now c.args.slots (2 * c.loop-slot.slot + 1) (flip c.args.i) c.requires.size (omega arith) (omega (arith, flip-half c.args.i)))
+pub read-first-requires : goal.read-first-requires
+read-first-requires gen c = record { place = omega (arith, place-in gen.W.Width.unit gen.W.Width.positive c.args.entries.now c.args.slots (2 * c.loop-slot.slot + 1) (flip c.args.i) c.requires.size (omega arith) (omega (arith, flip-half c.args.i))) }
 
 pub loop-slot-preserved : goal.loop-slot-preserved
-loop-slot-preserved c =
+loop-slot-preserved gen c =
     let o : c.args.other ≡ flip c.args.i = c.requires.other in
     let h : flip c.args.i / 2 ≡ c.args.i / 2 = flip-half c.args.i in
-    let m : row_start (2 * c.loop-slot.slot) + flip c.args.i < length c.args.entries.now = place-in c.args.entries.now c.args.slots (2 * c.loop-slot.slot) (flip c.args.i) c.requires.size (omega arith) (omega arith) in
-    let n : row_start (2 * c.loop-slot.slot + 1) + flip c.args.i < length c.args.entries.now = place-in c.args.entries.now c.args.slots (2 * c.loop-slot.slot + 1) (flip c.args.i) c.requires.size (omega arith) (omega arith) in
-    let even : to_z w32 (of_z w32 (get_or c.args.entries.now (c.row_at.result + c.args.other) (pos 0))) ≡ pair_at c.args.entries.now c.args.i (2 * c.loop-slot.slot + 1) =
-    ap (λ s. to_z w32 (of_z w32 (get_or c.args.entries.now (s + c.args.other) (pos 0)))) c.row_at.ensures.start
-    ∙ ap (λ o. to_z w32 (of_z w32 (get_or c.args.entries.now (row_start (2 * c.loop-slot.slot) + o) (pos 0)))) o
-    ∙ read-entry (2 ^ 25) c.args.entries.now (row_start (2 * c.loop-slot.slot) + flip c.args.i) (omega arith) c.requires.entries m
-    ∙ ap (λ k. at c.args.entries.now (row_start k + flip c.args.i)) (sym (flip-second c.loop-slot.slot))
-    ∙ sym (pair-other c.args.entries.now c.args.i (2 * c.loop-slot.slot + 1) (omega arith)) in
-    let odd : to_z w32 (of_z w32 (get_or c.args.entries.now (c.row_at-in-loop-slot.result + c.args.other) (pos 0))) ≡ pair_at c.args.entries.now c.args.i (2 * c.loop-slot.slot) =
-    ap (λ s. to_z w32 (of_z w32 (get_or c.args.entries.now (s + c.args.other) (pos 0)))) c.row_at-in-loop-slot.ensures.start
-    ∙ ap (λ o. to_z w32 (of_z w32 (get_or c.args.entries.now (row_start (2 * c.loop-slot.slot + 1) + o) (pos 0)))) o
-    ∙ read-entry (2 ^ 25) c.args.entries.now (row_start (2 * c.loop-slot.slot + 1) + flip c.args.i) (omega arith) c.requires.entries n
-    ∙ ap (λ k. at c.args.entries.now (row_start k + flip c.args.i)) (sym (flip-first c.loop-slot.slot))
-    ∙ sym (pair-other c.args.entries.now c.args.i (2 * c.loop-slot.slot) (omega arith)) in
+    let reven : c.read-second.result ≡ at gen.W.Width.unit c.args.entries.now (c.row_at.result + c.args.other) = c.read-second.ensures.value in
+    let even : c.read-second.result ≡ pair_at gen.W.Width.unit c.args.entries.now c.args.i (2 * c.loop-slot.slot + 1) =
+    reven
+    ∙ ap (λ s. at gen.W.Width.unit c.args.entries.now (s + c.args.other)) c.row_at.ensures.start
+    ∙ ap (λ o. at gen.W.Width.unit c.args.entries.now (row_start (2 * c.loop-slot.slot) + o)) o
+    ∙ ap (λ k. at gen.W.Width.unit c.args.entries.now (row_start k + flip c.args.i)) (sym (flip-second gen.W.Width.unit gen.W.Width.positive c.loop-slot.slot))
+    ∙ sym (pair-other gen.W.Width.unit gen.W.Width.positive c.args.entries.now c.args.i (2 * c.loop-slot.slot + 1) (omega arith)) in
+    let rodd : c.read-first.result ≡ at gen.W.Width.unit c.args.entries.now (c.row_at-in-loop-slot.result + c.args.other) = c.read-first.ensures.value in
+    let odd : c.read-first.result ≡ pair_at gen.W.Width.unit c.args.entries.now c.args.i (2 * c.loop-slot.slot) =
+    rodd
+    ∙ ap (λ s. at gen.W.Width.unit c.args.entries.now (s + c.args.other)) c.row_at-in-loop-slot.ensures.start
+    ∙ ap (λ o. at gen.W.Width.unit c.args.entries.now (row_start (2 * c.loop-slot.slot + 1) + o)) o
+    ∙ ap (λ k. at gen.W.Width.unit c.args.entries.now (row_start k + flip c.args.i)) (sym (flip-first gen.W.Width.unit gen.W.Width.positive c.loop-slot.slot))
+    ∙ sym (pair-other gen.W.Width.unit gen.W.Width.positive c.args.entries.now c.args.i (2 * c.loop-slot.slot) (omega arith)) in
     record {
-      size = two-size 32 c.loop-slot.row c.loop-slot.slot _ _ c.loop-slot.invariant.size;
-      done = two-set (λ k x. x ≡ pair_at c.args.entries.now c.args.i k) c.loop-slot.row c.loop-slot.slot _ _ (omega (arith, c.loop-slot.invariant.size)) c.loop-slot.invariant.done odd even;
-      rest = two-rest (λ k x. x ≡ none) c.loop-slot.row c.loop-slot.slot _ _ c.loop-slot.invariant.rest;
+      size = two-size gen.W.Width.unit gen.W.Width.positive 32 c.loop-slot.row c.loop-slot.slot _ _ c.loop-slot.invariant.size;
+      done = two-set gen.W.Width.unit gen.W.Width.positive (λ k x. x ≡ pair_at gen.W.Width.unit c.args.entries.now c.args.i k) c.loop-slot.row c.loop-slot.slot _ _ (omega (arith, c.loop-slot.invariant.size)) c.loop-slot.invariant.done odd even;
+      rest = two-rest gen.W.Width.unit gen.W.Width.positive (λ k x. x ≡ none gen.W.Width.unit) c.loop-slot.row c.loop-slot.slot _ _ c.loop-slot.invariant.rest;
     }

@@ -4,15 +4,15 @@ use Rattle.dbm_narrow.specs.Entries.{at, none, pair_at}
 use Rattle.dbm_narrow.proofs.rows.whole_row.Given as goal
 
 abbrev pub invariant-loop-j : goal.invariant-loop-j
-invariant-loop-j l = record {
+invariant-loop-j gen l = record {
   size : length l.row ≡ 32;
-  done : (k : ℕ) → k < l.j → at l.row k ≡ at l.entries (row_start l.i + k);
-  rest : (k : ℕ) → l.j ≤ k → at l.row k ≡ none;
+  done : (k : ℕ) → k < l.j → at gen.W.Width.unit l.row k ≡ at gen.W.Width.unit l.entries (row_start l.i + k);
+  rest : (k : ℕ) → l.j ≤ k → at gen.W.Width.unit l.row k ≡ none gen.W.Width.unit;
 }
 
 abbrev pub invariant-loop-slot : goal.invariant-loop-slot
-invariant-loop-slot l = record {
+invariant-loop-slot gen l = record {
   size : length l.row ≡ 32;
-  done : (k : ℕ) → k < 2 * l.slot → at l.row k ≡ pair_at l.entries l.i k;
-  rest : (k : ℕ) → 2 * l.slot ≤ k → at l.row k ≡ none;
+  done : (k : ℕ) → k < 2 * l.slot → at gen.W.Width.unit l.row k ≡ pair_at gen.W.Width.unit l.entries l.i k;
+  rest : (k : ℕ) → 2 * l.slot ≤ k → at gen.W.Width.unit l.row k ≡ none gen.W.Width.unit;
 }

@@ -1,41 +1,21 @@
 use Rattle.std.specs.Prelude.{◌≡◌, true}
-use Rattle.std.proofs.Common.{subst}
-use mir.Syntax.{w32}
-use mir.Val.{of_z, to_z}
-use Rattle.dbm_close.specs.declared.closed.Closed.TheVariants.{Empty, Matrix}
-use Rattle.dbm_narrow.proofs.EntryLemmas.{same}
-use Rattle.dbm_narrow.proofs.StandingLemmas.{stands-closed, stands-closes, stands-narrow}
-use Rattle.dbm_narrow.proofs.StrongEntries.{stands-strong}
-use Rattle.dbm_narrow.specs.Entries.{held}
-use Rattle.dbm_narrow.specs.Standing.{StandsTo}
+use Rattle.dbm_narrow.proofs.StandingLemmas.{stands-narrow, stands-outcome, stands-strong}
 use Rattle.dbm_narrow.proofs.standing.close_small.Goals as goal
 
-pub finish_strong-requires : goal.finish_strong-requires
-finish_strong-requires c =
+pub finish_strong-requires-clause-narrow : goal.finish_strong-requires-clause-narrow
+finish_strong-requires-clause-narrow gen c =
     let e : c.stand.result ≡ true = cc in
-    let tc : to_z w32 (of_z w32 c.args.c) ≡ c.args.c = same c.args.c c.ranges.c in
-    let st : StandsTo c.args.kinds.now c.args.entries.now c.stand.new.entries c.args.q c.args.y c.args.c = subst (λ x. StandsTo c.args.kinds.now c.args.entries.now c.stand.new.entries c.args.q c.args.y x) tc (c.stand.ensures.stands e) in
-    record {
-      narrow = stands-narrow c.args.kinds.now c.args.entries.now c.stand.new.entries c.args.q c.args.y c.args.c c.requires.narrow c.requires.closed c.requires.node c.stand.auto.entries st;
-      strong = stands-strong c.args.kinds.now c.args.entries.now c.stand.new.entries c.args.q c.args.y c.args.c c.requires.narrow c.requires.closed c.requires.node c.stand.auto.entries st;
-    }
+    stands-narrow gen.W.Width.unit gen.W.Width.positive c.args.kinds.now c.args.entries.now c.stand.new.entries c.args.q c.args.y c.args.c c.requires.narrow c.requires.node c.stand.auto.entries (c.stand.ensures.stands e)
 
-pub returns-then-finish_strong : goal.returns-then-finish_strong
-returns-then-finish_strong c =
+pub finish_strong-requires-clause-strong : goal.finish_strong-requires-clause-strong
+finish_strong-requires-clause-strong gen c =
     let e : c.stand.result ≡ true = cc in
-    let tc : to_z w32 (of_z w32 c.args.c) ≡ c.args.c = same c.args.c c.ranges.c in
-    let st : StandsTo c.args.kinds.now c.args.entries.now c.stand.new.entries c.args.q c.args.y c.args.c = subst (λ x. StandsTo c.args.kinds.now c.args.entries.now c.stand.new.entries c.args.q c.args.y x) tc (c.stand.ensures.stands e) in
-    record {
-      outcome = record {
-        narrow = record { matrix = c.if-finish_strong.ensures.finish.finish.entries.matrix; entries = c.if-finish_strong.ensures.finish.entries };
-        closes = stands-closes c.args.kinds.now c.args.entries.now c.stand.new.entries c.args.q c.args.y c.args.c c.requires.narrow c.requires.closed c.requires.node c.stand.auto.entries st (Matrix (held c.args.kinds.now c.stand.new.entries)) c.requires.slot c.requires.apart c.if-finish_strong.ensures.finish.finish;
-        closed = stands-closed c.args.kinds.now c.args.entries.now c.stand.new.entries c.args.q c.args.y c.args.c c.requires.narrow c.requires.closed c.requires.node c.stand.auto.entries st (Matrix (held c.args.kinds.now c.stand.new.entries)) c.requires.slot c.requires.apart c.if-finish_strong.ensures.finish.finish;
-      };
-    }
+    stands-strong gen.W.Width.unit gen.W.Width.positive c.args.kinds.now c.args.entries.now c.stand.new.entries c.args.q c.args.y c.args.c c.requires.narrow c.requires.node c.stand.auto.entries (c.stand.ensures.stands e) c.requires.closed c.requires.whole
 
-pub returns-else-finish_strong : goal.returns-else-finish_strong
-returns-else-finish_strong c =
+pub returns : goal.returns
+returns gen c =
     let e : c.stand.result ≡ true = cc in
-    let tc : to_z w32 (of_z w32 c.args.c) ≡ c.args.c = same c.args.c c.ranges.c in
-    let st : StandsTo c.args.kinds.now c.args.entries.now c.stand.new.entries c.args.q c.args.y c.args.c = subst (λ x. StandsTo c.args.kinds.now c.args.entries.now c.stand.new.entries c.args.q c.args.y x) tc (c.stand.ensures.stands e) in
-    record { outcome = stands-closes c.args.kinds.now c.args.entries.now c.stand.new.entries c.args.q c.args.y c.args.c c.requires.narrow c.requires.closed c.requires.node c.stand.auto.entries st Empty c.requires.slot c.requires.apart c.if-finish_strong.ensures.finish }
+    record {
+      outcome = stands-outcome gen.W.Width.unit gen.W.Width.positive c.args.kinds.now c.args.entries.now c.stand.new.entries c.args.q c.args.y c.args.c c.requires.narrow c.requires.node c.stand.auto.entries (c.stand.ensures.stands e) c.requires.closed c.requires.whole
+          c.finish_strong.result c.requires.slot c.requires.apart c.finish_strong.ensures.finish;
+    }

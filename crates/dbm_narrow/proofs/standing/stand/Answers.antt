@@ -1,161 +1,126 @@
-use Rattle.std.specs.Prelude.{◌≡◌, ◌<◌, ◌≤◌, ◌+◌, ◌*◌, ◌^◌, ◌+ℤ◌, ◌≤ℤ◌, neg_ℤ, FitsSigned, pos, true, ℕ, length}
-use Rattle.std.proofs.Common.{arith, rules, sym, ◌∙◌, ap, subst, inr}
+use Rattle.std.specs.Prelude.{◌≡◌, ◌<◌, ◌≤◌, ◌+◌, ◌*◌, ◌+ℤ◌, ◌≤ℤ◌, neg_ℤ, pos, true, ℕ, length}
+use Rattle.std.proofs.Common.{arith, sym, ◌∙◌, ap, subst, inr}
 use Rattle.std.proofs.lemmas.Int.{ints}
-use mir.Syntax.{w32}
-use mir.Val.{of_z, to_z}
+use Rattle.dbm_core.proofs.HalfLemmas.{entry-coherent}
 use Rattle.dbm_core.proofs.NodeLemmas.{flip-flip, flip_below}
 use Rattle.dbm_core.specs.Half.{entry, row_start}
 use Rattle.dbm_core.specs.Nodes.{flip}
 use Rattle.dbm_incremental.proofs.SlotLemmas.{stood-rest}
-use Rattle.dbm_incremental.proofs.StandLemmas.{node-even, node-odd, shift-even, shift-odd, stood-strong}
+use Rattle.dbm_incremental.proofs.StandLemmas.{node-even, node-odd, shift-even, shift-odd}
 use Rattle.dbm_incremental.specs.Equations.{stood_entry}
-use Rattle.dbm_narrow.proofs.EntryLemmas.{held-entry, held-kept, same}
+use Rattle.dbm_narrow.proofs.EntryLemmas.{held-entry, held-kept}
+use Rattle.dbm_narrow.proofs.LightLemmas.{rows-fit}
 use Rattle.dbm_narrow.proofs.MiddleLemmas.{row-is_entry}
 use Rattle.dbm_narrow.proofs.RoundLemmas.{narrow-size}
-use Rattle.dbm_narrow.proofs.StandingLemmas.{IsStep, closed-strong, stood-row, wide-replaced}
-use Rattle.dbm_narrow.specs.Entries.{AreEntries, at, held, pair_at, wide}
+use Rattle.dbm_narrow.proofs.StandingLemmas.{IsStep, stood-coherent, stood-row, wide-replaced}
+use Rattle.dbm_narrow.specs.Entries.{AreEntries, IsEntry, at, held, pair_at, wide}
 use Rattle.dbm_narrow.proofs.standing.stand.Goals as goal
 
-pub whole_row-node-requires-clause-size : goal.whole_row-node-requires-clause-size
-whole_row-node-requires-clause-size c = narrow-size c.args.kinds.now c.args.entries.now c.requires.narrow
+pub whole_row-node-requires : goal.whole_row-node-requires
+whole_row-node-requires gen c =
+    let size : length c.args.entries.now ≡ row_start (2 * length c.args.kinds.now) = narrow-size gen.W.Width.unit gen.W.Width.positive c.args.kinds.now c.args.entries.now c.requires.narrow in
+    (rows-fit gen.row.W gen.met.W.Width.light, (c.requires.narrow.matrix.few, (c.requires.node, (c.other_sign-other.ensures.flipped, (size, c.requires.narrow.entries)))))
 
-pub whole_row-behind-requires-clause-size : goal.whole_row-behind-requires-clause-size
-whole_row-behind-requires-clause-size c = narrow-size c.args.kinds.now c.args.entries.now c.requires.narrow
-
-pub whole_row-behind-requires-clause-row : goal.whole_row-behind-requires-clause-row
-whole_row-behind-requires-clause-row c = subst (λ k. k < (2 * length c.args.kinds.now)) (sym c.other_sign-other.ensures.flipped) (flip_below c.args.y (length c.args.kinds.now) c.requires.node)
-
-pub whole_row-behind-requires-clause-other : goal.whole_row-behind-requires-clause-other
-whole_row-behind-requires-clause-other c = sym (ap flip c.other_sign-other.ensures.flipped ∙ flip-flip c.args.y)
+pub whole_row-behind-requires : goal.whole_row-behind-requires
+whole_row-behind-requires gen c =
+    let size : length c.args.entries.now ≡ row_start (2 * length c.args.kinds.now) = narrow-size gen.W.Width.unit gen.W.Width.positive c.args.kinds.now c.args.entries.now c.requires.narrow in
+    let row : c.other_sign-other.result < 2 * length c.args.kinds.now = subst (λ k. k < 2 * length c.args.kinds.now) (sym c.other_sign-other.ensures.flipped) (flip_below c.args.y (length c.args.kinds.now) c.requires.node) in
+    (rows-fit gen.row.W gen.met.W.Width.light, (c.requires.narrow.matrix.few, (row, (sym (ap flip c.other_sign-other.ensures.flipped ∙ flip-flip c.args.y), (size, c.requires.narrow.entries)))))
 
 pub twice_of-twice_less-requires-clause-low : goal.twice_of-twice_less-requires-clause-low
-twice_of-twice_less-requires-clause-low c =
-    let lo : neg_ℤ (pos (2 ^ 25)) ≤ℤ c.args.c = c.requires.low in
-    let hi : c.args.c ≤ℤ pos (2 ^ 25) = c.requires.high in
-    let tc : to_z w32 (of_z w32 c.args.c) ≡ c.args.c = same c.args.c c.ranges.c in
-    let fl : FitsSigned w32 c.negative-less.result = search rules in
-    let el : c.negative-less.result ≡ neg_ℤ c.args.c = c.negative-less.ensures.value ∙ ap neg_ℤ tc in
-    let tl : to_z w32 (of_z w32 c.negative-less.result) ≡ neg_ℤ c.args.c = same c.negative-less.result fl ∙ el in
+twice_of-twice_less-requires-clause-low gen c =
+    let lo : neg_ℤ (pos (2 * gen.W.Width.unit)) ≤ℤ c.args.c = c.requires.low in
+    let hi : c.args.c ≤ℤ pos (2 * gen.W.Width.unit) = c.requires.high in
+    let tl : c.negative-less.result ≡ neg_ℤ c.args.c = c.negative-less.ensures.value in
     omega (arith, ints)
 
 pub twice_of-twice_less-requires-clause-high : goal.twice_of-twice_less-requires-clause-high
-twice_of-twice_less-requires-clause-high c =
-    let lo : neg_ℤ (pos (2 ^ 25)) ≤ℤ c.args.c = c.requires.low in
-    let hi : c.args.c ≤ℤ pos (2 ^ 25) = c.requires.high in
-    let tc : to_z w32 (of_z w32 c.args.c) ≡ c.args.c = same c.args.c c.ranges.c in
-    let fl : FitsSigned w32 c.negative-less.result = search rules in
-    let el : c.negative-less.result ≡ neg_ℤ c.args.c = c.negative-less.ensures.value ∙ ap neg_ℤ tc in
-    let tl : to_z w32 (of_z w32 c.negative-less.result) ≡ neg_ℤ c.args.c = same c.negative-less.result fl ∙ el in
+twice_of-twice_less-requires-clause-high gen c =
+    let lo : neg_ℤ (pos (2 * gen.W.Width.unit)) ≤ℤ c.args.c = c.requires.low in
+    let hi : c.args.c ≤ℤ pos (2 * gen.W.Width.unit) = c.requires.high in
+    let tl : c.negative-less.result ≡ neg_ℤ c.args.c = c.negative-less.ensures.value in
     omega (arith, ints)
 
-pub stood_row-first-requires-clause-row : goal.stood_row-first-requires-clause-row
-stood_row-first-requires-clause-row c = row-is_entry (2 ^ 25) (2 * length c.args.kinds.now) c.args.entries.now c.whole_row-node.result c.args.y c.requires.narrow.entries c.whole_row-node.ensures.entries c.whole_row-node.ensures.beyond
+pub stood_row-first-requires : goal.stood_row-first-requires
+stood_row-first-requires gen c =
+    let few : length c.args.kinds.now ≤ 16 = c.requires.narrow.matrix.few in
+    let lo : neg_ℤ (pos (2 * gen.W.Width.unit)) ≤ℤ c.args.c = c.requires.low in
+    let hi : c.args.c ≤ℤ pos (2 * gen.W.Width.unit) = c.requires.high in
+    let tl : c.negative-less.result ≡ neg_ℤ c.args.c = c.negative-less.ensures.value in
+    let tt1 : c.twice_of-twice_less.result ≡ neg_ℤ c.args.c +ℤ neg_ℤ c.args.c = c.twice_of-twice_less.ensures.value ∙ ap (λ x. x +ℤ x) tl in
+    let z : c.zero.result ≡ pos 0 = c.zero.ensures.value in
+    let row : AreEntries gen.W.Width.unit (2 * gen.W.Width.unit) c.whole_row-node.result =
+    row-is_entry gen.W.Width.unit gen.W.Width.positive (2 * gen.W.Width.unit) (2 * length c.args.kinds.now) c.args.entries.now c.whole_row-node.result c.args.y c.requires.narrow.entries c.whole_row-node.ensures.entries c.whole_row-node.ensures.beyond in
+    let first : IsEntry gen.W.Width.unit (4 * gen.W.Width.unit) c.zero.result = inr (omega (arith, ints), omega (arith, ints)) in
+    let second : IsEntry gen.W.Width.unit (4 * gen.W.Width.unit) c.twice_of-twice_less.result = inr (omega (arith, ints), omega (arith, ints)) in
+    let others : IsEntry gen.W.Width.unit (4 * gen.W.Width.unit) c.negative-less.result = inr (omega (arith, ints), omega (arith, ints)) in
+    (rows-fit gen.row.W gen.met.W.Width.light, (omega arith, (omega arith, (row, (first, (second, others))))))
 
-pub stood_row-first-requires-clause-first : goal.stood_row-first-requires-clause-first
-stood_row-first-requires-clause-first c = inr (omega (arith, ints), omega (arith, ints))
+pub stood_row-second-requires : goal.stood_row-second-requires
+stood_row-second-requires gen c =
+    let few : length c.args.kinds.now ≤ 16 = c.requires.narrow.matrix.few in
+    let lo : neg_ℤ (pos (2 * gen.W.Width.unit)) ≤ℤ c.args.c = c.requires.low in
+    let hi : c.args.c ≤ℤ pos (2 * gen.W.Width.unit) = c.requires.high in
+    let tw : c.twice_of-twice.result ≡ c.args.c +ℤ c.args.c = c.twice_of-twice.ensures.value in
+    let z : c.zero-2.result ≡ pos 0 = c.zero-2.ensures.value in
+    let row : AreEntries gen.W.Width.unit (2 * gen.W.Width.unit) c.whole_row-behind.result =
+    row-is_entry gen.W.Width.unit gen.W.Width.positive (2 * gen.W.Width.unit) (2 * length c.args.kinds.now) c.args.entries.now c.whole_row-behind.result c.other_sign-other.result c.requires.narrow.entries c.whole_row-behind.ensures.entries c.whole_row-behind.ensures.beyond in
+    let first : IsEntry gen.W.Width.unit (4 * gen.W.Width.unit) c.twice_of-twice.result = inr (omega (arith, ints), omega (arith, ints)) in
+    let second : IsEntry gen.W.Width.unit (4 * gen.W.Width.unit) c.zero-2.result = inr (omega (arith, ints), omega (arith, ints)) in
+    let others : IsEntry gen.W.Width.unit (4 * gen.W.Width.unit) c.args.c = inr (omega (arith, ints), omega (arith, ints)) in
+    (rows-fit gen.row.W gen.met.W.Width.light, (omega arith, (omega arith, (row, (first, (second, others))))))
 
-pub stood_row-first-requires-clause-second : goal.stood_row-first-requires-clause-second
-stood_row-first-requires-clause-second c =
-    let lo : neg_ℤ (pos (2 ^ 25)) ≤ℤ c.args.c = c.requires.low in
-    let hi : c.args.c ≤ℤ pos (2 ^ 25) = c.requires.high in
-    let tc : to_z w32 (of_z w32 c.args.c) ≡ c.args.c = same c.args.c c.ranges.c in
-    let fl : FitsSigned w32 c.negative-less.result = search rules in
-    let el : c.negative-less.result ≡ neg_ℤ c.args.c = c.negative-less.ensures.value ∙ ap neg_ℤ tc in
-    let tl : to_z w32 (of_z w32 c.negative-less.result) ≡ neg_ℤ c.args.c = same c.negative-less.result fl ∙ el in
-    let ft : FitsSigned w32 c.twice_of-twice_less.result = search rules in
-    let fw : FitsSigned w32 c.twice_of-twice.result = search rules in
-    let tt1 : to_z w32 (of_z w32 c.twice_of-twice_less.result) ≡ neg_ℤ c.args.c +ℤ neg_ℤ c.args.c = same c.twice_of-twice_less.result ft ∙ c.twice_of-twice_less.ensures.value ∙ ap (λ x. x +ℤ x) tl in
-    let tw : to_z w32 (of_z w32 c.twice_of-twice.result) ≡ c.args.c +ℤ c.args.c = same c.twice_of-twice.result fw ∙ c.twice_of-twice.ensures.value ∙ ap (λ x. x +ℤ x) tc in
-    inr (omega (arith, ints), omega (arith, ints))
+pub shared_whole_as_slice-are_within : goal.shared_whole_as_slice-are_within
+shared_whole_as_slice-are_within gen c = rows-fit gen.row.W gen.met.W.Width.light
 
-pub stood_row-first-requires-clause-others : goal.stood_row-first-requires-clause-others
-stood_row-first-requires-clause-others c =
-    let lo : neg_ℤ (pos (2 ^ 25)) ≤ℤ c.args.c = c.requires.low in
-    let hi : c.args.c ≤ℤ pos (2 ^ 25) = c.requires.high in
-    let tc : to_z w32 (of_z w32 c.args.c) ≡ c.args.c = same c.args.c c.ranges.c in
-    let fl : FitsSigned w32 c.negative-less.result = search rules in
-    let el : c.negative-less.result ≡ neg_ℤ c.args.c = c.negative-less.ensures.value ∙ ap neg_ℤ tc in
-    let tl : to_z w32 (of_z w32 c.negative-less.result) ≡ neg_ℤ c.args.c = same c.negative-less.result fl ∙ el in
-    inr (omega (arith, ints), omega (arith, ints))
+pub shared_whole_as_slice-are_within-2 : goal.shared_whole_as_slice-are_within-2
+shared_whole_as_slice-are_within-2 gen c = rows-fit gen.row.W gen.met.W.Width.light
 
-pub stood_row-second-requires-clause-row : goal.stood_row-second-requires-clause-row
-stood_row-second-requires-clause-row c = row-is_entry (2 ^ 25) (2 * length c.args.kinds.now) c.args.entries.now c.whole_row-behind.result c.other_sign-other.result c.requires.narrow.entries c.whole_row-behind.ensures.entries c.whole_row-behind.ensures.beyond
-
-pub stood_row-second-requires-clause-first : goal.stood_row-second-requires-clause-first
-stood_row-second-requires-clause-first c =
-    let lo : neg_ℤ (pos (2 ^ 25)) ≤ℤ c.args.c = c.requires.low in
-    let hi : c.args.c ≤ℤ pos (2 ^ 25) = c.requires.high in
-    let tc : to_z w32 (of_z w32 c.args.c) ≡ c.args.c = same c.args.c c.ranges.c in
-    let fl : FitsSigned w32 c.negative-less.result = search rules in
-    let el : c.negative-less.result ≡ neg_ℤ c.args.c = c.negative-less.ensures.value ∙ ap neg_ℤ tc in
-    let tl : to_z w32 (of_z w32 c.negative-less.result) ≡ neg_ℤ c.args.c = same c.negative-less.result fl ∙ el in
-    let ft : FitsSigned w32 c.twice_of-twice_less.result = search rules in
-    let fw : FitsSigned w32 c.twice_of-twice.result = search rules in
-    let tt1 : to_z w32 (of_z w32 c.twice_of-twice_less.result) ≡ neg_ℤ c.args.c +ℤ neg_ℤ c.args.c = same c.twice_of-twice_less.result ft ∙ c.twice_of-twice_less.ensures.value ∙ ap (λ x. x +ℤ x) tl in
-    let tw : to_z w32 (of_z w32 c.twice_of-twice.result) ≡ c.args.c +ℤ c.args.c = same c.twice_of-twice.result fw ∙ c.twice_of-twice.ensures.value ∙ ap (λ x. x +ℤ x) tc in
-    inr (omega (arith, ints), omega (arith, ints))
-
-pub stood_row-second-requires-clause-second : goal.stood_row-second-requires-clause-second
-stood_row-second-requires-clause-second c = inr (omega (arith, ints), omega (arith, ints))
-
-pub stood_row-second-requires-clause-others : goal.stood_row-second-requires-clause-others
-stood_row-second-requires-clause-others c =
-    let lo : neg_ℤ (pos (2 ^ 25)) ≤ℤ c.args.c = c.requires.low in
-    let hi : c.args.c ≤ℤ pos (2 ^ 25) = c.requires.high in
-    let tc : to_z w32 (of_z w32 c.args.c) ≡ c.args.c = same c.args.c c.ranges.c in
-    let fl : FitsSigned w32 c.negative-less.result = search rules in
-    let el : c.negative-less.result ≡ neg_ℤ c.args.c = c.negative-less.ensures.value ∙ ap neg_ℤ tc in
-    let tl : to_z w32 (of_z w32 c.negative-less.result) ≡ neg_ℤ c.args.c = same c.negative-less.result fl ∙ el in
-    inr (omega (arith, ints), omega (arith, ints))
-
-pub replace_rows-requires-clause-size : goal.replace_rows-requires-clause-size
-replace_rows-requires-clause-size c = narrow-size c.args.kinds.now c.args.entries.now c.requires.narrow
-
-pub replace_rows-requires-clause-first : goal.replace_rows-requires-clause-first
-replace_rows-requires-clause-first c = let e : c.are_within.result ≡ true = cc in c.are_within.ensures.within e
-
-pub replace_rows-requires-clause-second : goal.replace_rows-requires-clause-second
-replace_rows-requires-clause-second c = let e : c.are_within-2.result ≡ true = cc in c.are_within-2.ensures.within e
+pub replace_rows-requires : goal.replace_rows-requires
+replace_rows-requires gen c =
+    let few : length c.args.kinds.now ≤ 16 = c.requires.narrow.matrix.few in
+    let size : length c.args.entries.now ≡ row_start (2 * length c.args.kinds.now) = narrow-size gen.W.Width.unit gen.W.Width.positive c.args.kinds.now c.args.entries.now c.requires.narrow in
+    let a : c.are_within.result ≡ true = cc in
+    let b : c.are_within-2.result ≡ true = cc in
+    (rows-fit gen.row.W gen.met.W.Width.light, (few, (size, (c.requires.narrow.entries, (c.are_within.ensures.within a, (c.are_within-2.ensures.within b, omega arith))))))
 
 pub returns : goal.returns
-returns c =
+returns gen c =
     let few : length c.args.kinds.now ≤ 16 = c.requires.narrow.matrix.few in
-    let lo : neg_ℤ (pos (2 ^ 25)) ≤ℤ c.args.c = c.requires.low in
-    let hi : c.args.c ≤ℤ pos (2 ^ 25) = c.requires.high in
-    let tc : to_z w32 (of_z w32 c.args.c) ≡ c.args.c = same c.args.c c.ranges.c in
-    let fl : FitsSigned w32 c.negative-less.result = search rules in
-    let el : c.negative-less.result ≡ neg_ℤ c.args.c = c.negative-less.ensures.value ∙ ap neg_ℤ tc in
-    let tl : to_z w32 (of_z w32 c.negative-less.result) ≡ neg_ℤ c.args.c = same c.negative-less.result fl ∙ el in
-    let ft : FitsSigned w32 c.twice_of-twice_less.result = search rules in
-    let fw : FitsSigned w32 c.twice_of-twice.result = search rules in
-    let tt1 : to_z w32 (of_z w32 c.twice_of-twice_less.result) ≡ neg_ℤ c.args.c +ℤ neg_ℤ c.args.c = same c.twice_of-twice_less.result ft ∙ c.twice_of-twice_less.ensures.value ∙ ap (λ x. x +ℤ x) tl in
-    let tw : to_z w32 (of_z w32 c.twice_of-twice.result) ≡ c.args.c +ℤ c.args.c = same c.twice_of-twice.result fw ∙ c.twice_of-twice.ensures.value ∙ ap (λ x. x +ℤ x) tc in
-    let node : AreEntries (2 ^ 25) c.whole_row-node.result = row-is_entry (2 ^ 25) (2 * length c.args.kinds.now) c.args.entries.now c.whole_row-node.result c.args.y c.requires.narrow.entries c.whole_row-node.ensures.entries c.whole_row-node.ensures.beyond in
-    let behind : AreEntries (2 ^ 25) c.whole_row-behind.result = row-is_entry (2 ^ 25) (2 * length c.args.kinds.now) c.args.entries.now c.whole_row-behind.result c.other_sign-other.result c.requires.narrow.entries c.whole_row-behind.ensures.entries c.whole_row-behind.ensures.beyond in
+    let lo : neg_ℤ (pos (2 * gen.W.Width.unit)) ≤ℤ c.args.c = c.requires.low in
+    let hi : c.args.c ≤ℤ pos (2 * gen.W.Width.unit) = c.requires.high in
+    let tl : c.negative-less.result ≡ neg_ℤ c.args.c = c.negative-less.ensures.value in
+    let tt1 : c.twice_of-twice_less.result ≡ neg_ℤ c.args.c +ℤ neg_ℤ c.args.c = c.twice_of-twice_less.ensures.value ∙ ap (λ x. x +ℤ x) tl in
+    let tw : c.twice_of-twice.result ≡ c.args.c +ℤ c.args.c = c.twice_of-twice.ensures.value in
+    let node : AreEntries gen.W.Width.unit (2 * gen.W.Width.unit) c.whole_row-node.result = row-is_entry gen.W.Width.unit gen.W.Width.positive (2 * gen.W.Width.unit) (2 * length c.args.kinds.now) c.args.entries.now c.whole_row-node.result c.args.y c.requires.narrow.entries c.whole_row-node.ensures.entries c.whole_row-node.ensures.beyond in
+    let behind : AreEntries gen.W.Width.unit (2 * gen.W.Width.unit) c.whole_row-behind.result = row-is_entry gen.W.Width.unit gen.W.Width.positive (2 * gen.W.Width.unit) (2 * length c.args.kinds.now) c.args.entries.now c.whole_row-behind.result c.other_sign-other.result c.requires.narrow.entries c.whole_row-behind.ensures.entries c.whole_row-behind.ensures.beyond in
     let hf : flip c.args.y < (2 * length c.args.kinds.now) = flip_below c.args.y (length c.args.kinds.now) c.requires.node in
-    let rn : (j : ℕ) → j < (2 * length c.args.kinds.now) → wide (at c.whole_row-node.result j) ≡ (entry (held c.args.kinds.now c.args.entries.now)) c.args.y j = λ j hj. ap wide (c.whole_row-node.ensures.entries j hj) ∙ sym (held-entry c.args.kinds.now c.args.entries.now c.args.y j) in
-    let rb : (j : ℕ) → j < (2 * length c.args.kinds.now) → wide (at c.whole_row-behind.result j) ≡ (entry (held c.args.kinds.now c.args.entries.now)) (flip c.args.y) j =
-    λ j hj. ap wide (c.whole_row-behind.ensures.entries j hj ∙ ap (λ k. pair_at c.args.entries.now k j) c.other_sign-other.ensures.flipped) ∙ sym (held-entry c.args.kinds.now c.args.entries.now (flip c.args.y) j) in
-    let b0 : IsStep (pos 0) = (omega (arith, ints), omega (arith, ints)) in
-    let bt : IsStep (to_z w32 (of_z w32 c.twice_of-twice_less.result)) = (omega (arith, ints), omega (arith, ints)) in
-    let bl : IsStep (to_z w32 (of_z w32 c.negative-less.result)) = (omega (arith, ints), omega (arith, ints)) in
-    let bw : IsStep (to_z w32 (of_z w32 c.twice_of-twice.result)) = (omega (arith, ints), omega (arith, ints)) in
-    let bc : IsStep (to_z w32 (of_z w32 c.args.c)) = (omega (arith, ints), omega (arith, ints)) in
-    let pf : (j : ℕ) → j < (2 * length c.args.kinds.now) → wide (at c.stood_row-first.result j) ≡ stood_entry (entry (held c.args.kinds.now c.args.entries.now)) c.args.q c.args.y c.args.c (2 * c.args.q) j =
-    λ j hj. ap wide (c.stood_row-first.ensures.stood j (omega arith))
-    ∙ stood-row (entry (held c.args.kinds.now c.args.entries.now)) (2 * length c.args.kinds.now) c.args.q c.args.y c.args.c c.args.c c.args.y (2 * c.args.q) c.whole_row-node.result (pos 0) (to_z w32 (of_z w32 c.twice_of-twice_less.result)) (to_z w32 (of_z w32 c.negative-less.result)) (node-even c.args.q c.args.y) (shift-even c.args.q c.args.c) c.requires.node hf rn node
+    let rn : (j : ℕ) → j < (2 * length c.args.kinds.now) → wide gen.W.Width.unit (at gen.W.Width.unit c.whole_row-node.result j) ≡ (entry (held gen.W.Width.unit c.args.kinds.now c.args.entries.now)) c.args.y j = λ j hj. ap (wide gen.W.Width.unit) (c.whole_row-node.ensures.entries j hj) ∙ sym (held-entry gen.W.Width.unit gen.W.Width.positive c.args.kinds.now c.args.entries.now c.args.y j) in
+    let rb : (j : ℕ) → j < (2 * length c.args.kinds.now) → wide gen.W.Width.unit (at gen.W.Width.unit c.whole_row-behind.result j) ≡ (entry (held gen.W.Width.unit c.args.kinds.now c.args.entries.now)) (flip c.args.y) j =
+    λ j hj. ap (wide gen.W.Width.unit) (c.whole_row-behind.ensures.entries j hj ∙ ap (λ k. pair_at gen.W.Width.unit c.args.entries.now k j) c.other_sign-other.ensures.flipped) ∙ sym (held-entry gen.W.Width.unit gen.W.Width.positive c.args.kinds.now c.args.entries.now (flip c.args.y) j) in
+    let z1 : c.zero.result ≡ pos 0 = c.zero.ensures.value in
+    let z2 : c.zero-2.result ≡ pos 0 = c.zero-2.ensures.value in
+    let b0 : IsStep gen.W.Width.unit gen.W.Width.positive c.zero.result = (omega (arith, ints), omega (arith, ints)) in
+    let b1 : IsStep gen.W.Width.unit gen.W.Width.positive c.zero-2.result = (omega (arith, ints), omega (arith, ints)) in
+    let bt : IsStep gen.W.Width.unit gen.W.Width.positive (c.twice_of-twice_less.result) = (omega (arith, ints), omega (arith, ints)) in
+    let bl : IsStep gen.W.Width.unit gen.W.Width.positive (c.negative-less.result) = (omega (arith, ints), omega (arith, ints)) in
+    let bw : IsStep gen.W.Width.unit gen.W.Width.positive (c.twice_of-twice.result) = (omega (arith, ints), omega (arith, ints)) in
+    let bc : IsStep gen.W.Width.unit gen.W.Width.positive (c.args.c) = (omega (arith, ints), omega (arith, ints)) in
+    let pf : (j : ℕ) → j < (2 * length c.args.kinds.now) → wide gen.W.Width.unit (at gen.W.Width.unit c.stood_row-first.result j) ≡ stood_entry (entry (held gen.W.Width.unit c.args.kinds.now c.args.entries.now)) c.args.q c.args.y c.args.c (2 * c.args.q) j =
+    λ j hj. ap (wide gen.W.Width.unit) (c.stood_row-first.ensures.stood j (omega arith))
+    ∙ stood-row gen.W.Width.unit gen.W.Width.positive (entry (held gen.W.Width.unit c.args.kinds.now c.args.entries.now)) (2 * length c.args.kinds.now) c.args.q c.args.y c.args.c c.args.c c.args.y (2 * c.args.q) c.whole_row-node.result c.zero.result (c.twice_of-twice_less.result) (c.negative-less.result) (node-even c.args.q c.args.y) (shift-even c.args.q c.args.c) c.requires.node hf rn node
     (omega (arith, ints)) (omega (arith, ints)) (omega (arith, ints)) b0 bt bl j hj in
-    let ps : (j : ℕ) → j < (2 * length c.args.kinds.now) → wide (at c.stood_row-second.result j) ≡ stood_entry (entry (held c.args.kinds.now c.args.entries.now)) c.args.q c.args.y c.args.c (2 * c.args.q + 1) j =
-    λ j hj. ap wide (c.stood_row-second.ensures.stood j (omega arith))
-    ∙ stood-row (entry (held c.args.kinds.now c.args.entries.now)) (2 * length c.args.kinds.now) c.args.q c.args.y c.args.c (neg_ℤ c.args.c) (flip c.args.y) (2 * c.args.q + 1) c.whole_row-behind.result (to_z w32 (of_z w32 c.twice_of-twice.result)) (pos 0) (to_z w32 (of_z w32 c.args.c)) (node-odd c.args.q c.args.y) (shift-odd c.args.q c.args.c) c.requires.node hf rb behind
-    (omega (arith, ints)) (omega (arith, ints)) (omega (arith, ints)) bw b0 bc j hj in
+    let ps : (j : ℕ) → j < (2 * length c.args.kinds.now) → wide gen.W.Width.unit (at gen.W.Width.unit c.stood_row-second.result j) ≡ stood_entry (entry (held gen.W.Width.unit c.args.kinds.now c.args.entries.now)) c.args.q c.args.y c.args.c (2 * c.args.q + 1) j =
+    λ j hj. ap (wide gen.W.Width.unit) (c.stood_row-second.ensures.stood j (omega arith))
+    ∙ stood-row gen.W.Width.unit gen.W.Width.positive (entry (held gen.W.Width.unit c.args.kinds.now c.args.entries.now)) (2 * length c.args.kinds.now) c.args.q c.args.y c.args.c (neg_ℤ c.args.c) (flip c.args.y) (2 * c.args.q + 1) c.whole_row-behind.result (c.twice_of-twice.result) c.zero-2.result (c.args.c) (node-odd c.args.q c.args.y) (shift-odd c.args.q c.args.c) c.requires.node hf rb behind
+    (omega (arith, ints)) (omega (arith, ints)) (omega (arith, ints)) bw b1 bc j hj in
     record {
       stands = λ _. record {
         entries = c.replace_rows.ensures.entries;
         stood = λ i j hi w. (let hj : j < (2 * length c.args.kinds.now) = omega arith in
-            held-kept c.args.kinds.now c.replace_rows.new.entries i j w ∙ ap wide (c.replace_rows.ensures.kept i j hi w)
-            ∙ wide-replaced (stood_entry (entry (held c.args.kinds.now c.args.entries.now)) c.args.q c.args.y c.args.c) (length c.args.kinds.now) c.args.q c.stood_row-first.result c.stood_row-second.result
-            (stood-strong (entry (held c.args.kinds.now c.args.entries.now)) (length c.args.kinds.now) c.args.q c.args.y c.args.c c.requires.node (closed-strong c.args.kinds.now c.args.entries.now c.requires.narrow c.requires.closed)).coherent c.requires.slot pf ps (entry (held c.args.kinds.now c.args.entries.now)) i j (at c.args.entries.now (row_start i + j)) hi hj
-            (sym (held-kept c.args.kinds.now c.args.entries.now i j w)) (stood-rest (entry (held c.args.kinds.now c.args.entries.now)) c.args.q c.args.y c.args.c i j));
+            held-kept gen.W.Width.unit gen.W.Width.positive c.args.kinds.now c.replace_rows.new.entries i j w ∙ ap (wide gen.W.Width.unit) (c.replace_rows.ensures.kept i j hi w)
+            ∙ wide-replaced gen.W.Width.unit gen.W.Width.positive (stood_entry (entry (held gen.W.Width.unit c.args.kinds.now c.args.entries.now)) c.args.q c.args.y c.args.c) (length c.args.kinds.now) c.args.q c.stood_row-first.result c.stood_row-second.result
+            (stood-coherent gen.W.Width.unit gen.W.Width.positive (entry (held gen.W.Width.unit c.args.kinds.now c.args.entries.now)) (length c.args.kinds.now) c.args.q c.args.y c.args.c c.requires.node (entry-coherent (held gen.W.Width.unit c.args.kinds.now c.args.entries.now) c.requires.narrow.matrix)) c.requires.slot pf ps (entry (held gen.W.Width.unit c.args.kinds.now c.args.entries.now)) i j (at gen.W.Width.unit c.args.entries.now (row_start i + j)) hi hj
+            (sym (held-kept gen.W.Width.unit gen.W.Width.positive c.args.kinds.now c.args.entries.now i j w)) (stood-rest (entry (held gen.W.Width.unit c.args.kinds.now c.args.entries.now)) c.args.q c.args.y c.args.c i j));
       };
     }

@@ -1,8 +1,5 @@
-use Rattle.dbm_narrow.proofs.StrongEntries.{strong-empties, strong-finishes}
+use Rattle.dbm_narrow.proofs.StrongEntries.{strong-tells}
 use Rattle.dbm_narrow.proofs.steps.finish_strong.Goals as goal
 
-pub returns-then-has_empty_range : goal.returns-then-has_empty_range
-returns-then-has_empty_range c = record { finish = strong-empties c.args.kinds.now c.args.entries.now c.requires.narrow c.requires.strong c.if-has_empty_range.ensures.empty }
-
 pub returns : goal.returns
-returns c = record { finish = strong-finishes c.args.kinds.now c.args.entries.now c.requires.narrow c.requires.strong c.if-has_empty_range.ensures.empty }
+returns gen c = record { finish = strong-tells gen.W.Width.unit gen.W.Width.positive c.args.kinds.now c.args.entries.now c.requires.narrow c.requires.strong c.last_steps.result c.last_steps.ensures.last }

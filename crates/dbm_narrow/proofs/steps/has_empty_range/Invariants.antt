@@ -6,4 +6,4 @@ use Rattle.dbm_narrow.specs.Entries.{held}
 use Rattle.dbm_narrow.proofs.steps.has_empty_range.Given as goal
 
 abbrev pub invariant-loop-slot : goal.invariant-loop-slot
-invariant-loop-slot l = (k : ℕ) → k < l.slot → slot_low l.kinds (entry (held l.kinds l.entries)) k ≤ℤ slot_high l.kinds (entry (held l.kinds l.entries)) k
+invariant-loop-slot gen l = (k : ℕ) → k < l.slot → slot_low l.kinds (entry (held gen.W.Width.unit l.kinds l.entries)) k ≤ℤ slot_high l.kinds (entry (held gen.W.Width.unit l.kinds l.entries)) k

@@ -6,4 +6,4 @@ use Rattle.dbm_narrow.specs.Entries.{held}
 use Rattle.dbm_narrow.proofs.walks.is_diagonal_negative.Given as goal
 
 abbrev pub invariant-loop-slot : goal.invariant-loop-slot
-invariant-loop-slot l = (h : ℕ) → h < l.slot → AtMost (Some (pos 0)) (entry (held l.kinds l.entries) (2 * h) (2 * h))
+invariant-loop-slot gen l = (h : ℕ) → h < l.slot → AtMost (Some (pos 0)) (entry (held gen.W.Width.unit l.kinds l.entries) (2 * h) (2 * h))

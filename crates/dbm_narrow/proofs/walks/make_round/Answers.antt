@@ -1,51 +1,54 @@
-use Rattle.std.specs.Prelude.{◌<ℤ◌, ◌≤ℤ◌, ◌+◌, ◌*◌, ◌^◌, pos, negsuc, Some}
-use Rattle.std.proofs.Common.{arith, sym, ◌∙◌, subst, inl, inr}
+use Rattle.std.specs.Prelude.{◌≡◌, ◌<ℤ◌, ◌≤ℤ◌, ◌+◌, ◌*◌, pos, negsuc, Some}
+use Rattle.std.proofs.Common.{arith, rules, length, sym, ◌∙◌, subst, inl, inr}
+use Rattle.dbm_core.specs.Half.{row_start}
 use Rattle.dbm_core.specs.Weights.{AtMost}
-use Rattle.dbm_narrow.proofs.EntryLemmas.{lt-false, lt-true, read-entry, wide-at, wide-negative, wide-positive}
+use Rattle.dbm_narrow.proofs.EntryLemmas.{wide-at, wide-negative, wide-positive, zero-above, zero-below}
 use Rattle.dbm_narrow.proofs.MiddleLemmas.{middle-rounded}
 use Rattle.dbm_narrow.proofs.RoundLemmas.{narrow-size}
 use Rattle.dbm_narrow.specs.Entries.{at}
 use Rattle.dbm_narrow.proofs.walks.make_round.Goals as goal
 
-pub returns-then-middle-q-lt0 : goal.returns-then-middle-q-lt0
-returns-then-middle-q-lt0 c =
-    let n : at c.fill_middle.new.middle.from_first (2 * c.args.q) <ℤ pos 0 =
-    subst (λ x. x <ℤ pos 0) (read-entry (2 ^ 27) c.fill_middle.new.middle.from_first (2 * c.args.q) (omega arith) c.fill_middle.ensures.entries.from_first (omega arith)) (lt-true _ _ c.if-middle-q-lt0.true) in
+pub returns-then-is_less : goal.returns-then-is_less
+returns-then-is_less gen c =
+    let n : at gen.W.Width.unit c.fill_middle.new.middle.from_first (2 * c.args.q) <ℤ pos 0 =
+    subst (λ x. x <ℤ pos 0) c.read-first.ensures.value (zero-above gen.W.Width.unit gen.W.Width.positive c.read-first.result c.zero.result c.is_less.result c.zero.ensures.value c.is_less.ensures.less c.if-is_less.true) in
     record {
       bounds = c.fill_middle.ensures.entries;
-      round = inl (subst (λ a. AtMost a (Some (negsuc 0))) (sym (wide-at c.fill_middle.new.middle.from_first (2 * c.args.q)) ∙ c.fill_middle.ensures.bounds.from_first (2 * c.args.q) (omega arith))
-          (wide-negative (at c.fill_middle.new.middle.from_first (2 * c.args.q)) n));
+      round = inl (subst (λ a. AtMost a (Some (negsuc 0))) (sym (wide-at gen.W.Width.unit gen.W.Width.positive c.fill_middle.new.middle.from_first (2 * c.args.q)) ∙ c.fill_middle.ensures.bounds.from_first (2 * c.args.q) (omega arith))
+          (wide-negative gen.W.Width.unit gen.W.Width.positive (at gen.W.Width.unit c.fill_middle.new.middle.from_first (2 * c.args.q)) n));
     }
 
-pub returns-then-middle-q-lt0-2 : goal.returns-then-middle-q-lt0-2
-returns-then-middle-q-lt0-2 c =
-    let n : at c.fill_middle.new.middle.from_second (2 * c.args.q + 1) <ℤ pos 0 =
-    subst (λ x. x <ℤ pos 0) (read-entry (2 ^ 27) c.fill_middle.new.middle.from_second (2 * c.args.q + 1) (omega arith) c.fill_middle.ensures.entries.from_second (omega arith)) (lt-true _ _ c.if-middle-q-lt0-2.true) in
+pub returns-then-is_less-2 : goal.returns-then-is_less-2
+returns-then-is_less-2 gen c =
+    let n : at gen.W.Width.unit c.fill_middle.new.middle.from_second (2 * c.args.q + 1) <ℤ pos 0 =
+    subst (λ x. x <ℤ pos 0) c.read-second.ensures.value (zero-above gen.W.Width.unit gen.W.Width.positive c.read-second.result c.zero-2.result c.is_less-2.result c.zero-2.ensures.value c.is_less-2.ensures.less c.if-is_less-2.true) in
     record {
       bounds = c.fill_middle.ensures.entries;
-      round = inr (subst (λ a. AtMost a (Some (negsuc 0))) (sym (wide-at c.fill_middle.new.middle.from_second (2 * c.args.q + 1)) ∙ c.fill_middle.ensures.bounds.from_second (2 * c.args.q + 1) (omega arith))
-          (wide-negative (at c.fill_middle.new.middle.from_second (2 * c.args.q + 1)) n));
+      round = inr (subst (λ a. AtMost a (Some (negsuc 0))) (sym (wide-at gen.W.Width.unit gen.W.Width.positive c.fill_middle.new.middle.from_second (2 * c.args.q + 1)) ∙ c.fill_middle.ensures.bounds.from_second (2 * c.args.q + 1) (omega arith))
+          (wide-negative gen.W.Width.unit gen.W.Width.positive (at gen.W.Width.unit c.fill_middle.new.middle.from_second (2 * c.args.q + 1)) n));
     }
 
-pub go_through_rows-requires-clause-size : goal.go_through_rows-requires-clause-size
-go_through_rows-requires-clause-size c = narrow-size c.args.kinds.now c.args.entries.now c.requires.narrow
+pub go_through_rows-requires : goal.go_through_rows-requires
+go_through_rows-requires gen c =
+    let size : length c.args.entries.now ≡ row_start (2 * length c.args.kinds.now) = narrow-size gen.W.Width.unit gen.W.Width.positive c.args.kinds.now c.args.entries.now c.requires.narrow in
+    search rules
 
 pub returns-then-go_through_rows : goal.returns-then-go_through_rows
-returns-then-go_through_rows c =
-    let m : pos 0 ≤ℤ at c.fill_middle.new.middle.from_first (2 * c.args.q) =
-    subst (λ x. pos 0 ≤ℤ x) (read-entry (2 ^ 27) c.fill_middle.new.middle.from_first (2 * c.args.q) (omega arith) c.fill_middle.ensures.entries.from_first (omega arith)) (lt-false _ _ c.if-middle-q-lt0.false) in
-    let n : pos 0 ≤ℤ at c.fill_middle.new.middle.from_second (2 * c.args.q + 1) =
-    subst (λ x. pos 0 ≤ℤ x) (read-entry (2 ^ 27) c.fill_middle.new.middle.from_second (2 * c.args.q + 1) (omega arith) c.fill_middle.ensures.entries.from_second (omega arith)) (lt-false _ _ c.if-middle-q-lt0-2.false) in
+returns-then-go_through_rows gen c =
+    let m : pos 0 ≤ℤ at gen.W.Width.unit c.fill_middle.new.middle.from_first (2 * c.args.q) =
+    subst (λ x. pos 0 ≤ℤ x) c.read-first.ensures.value (zero-below gen.W.Width.unit gen.W.Width.positive c.read-first.result c.zero.result c.is_less.result c.zero.ensures.value c.is_less.ensures.less c.if-is_less.false) in
+    let n : pos 0 ≤ℤ at gen.W.Width.unit c.fill_middle.new.middle.from_second (2 * c.args.q + 1) =
+    subst (λ x. pos 0 ≤ℤ x) c.read-second.ensures.value (zero-below gen.W.Width.unit gen.W.Width.positive c.read-second.result c.zero-2.result c.is_less-2.result c.zero-2.ensures.value c.is_less-2.ensures.less c.if-is_less-2.false) in
     record {
       bounds = c.fill_middle.ensures.entries;
       round = record {
         sound = (
-          subst (AtMost (Some (pos 0))) (sym (wide-at c.fill_middle.new.middle.from_first (2 * c.args.q)) ∙ c.fill_middle.ensures.bounds.from_first (2 * c.args.q) (omega arith))
-              (wide-positive (at c.fill_middle.new.middle.from_first (2 * c.args.q)) m),
-          subst (AtMost (Some (pos 0))) (sym (wide-at c.fill_middle.new.middle.from_second (2 * c.args.q + 1)) ∙ c.fill_middle.ensures.bounds.from_second (2 * c.args.q + 1) (omega arith))
-              (wide-positive (at c.fill_middle.new.middle.from_second (2 * c.args.q + 1)) n),
+          subst (AtMost (Some (pos 0))) (sym (wide-at gen.W.Width.unit gen.W.Width.positive c.fill_middle.new.middle.from_first (2 * c.args.q)) ∙ c.fill_middle.ensures.bounds.from_first (2 * c.args.q) (omega arith))
+              (wide-positive gen.W.Width.unit gen.W.Width.positive (at gen.W.Width.unit c.fill_middle.new.middle.from_first (2 * c.args.q)) m),
+          subst (AtMost (Some (pos 0))) (sym (wide-at gen.W.Width.unit gen.W.Width.positive c.fill_middle.new.middle.from_second (2 * c.args.q + 1)) ∙ c.fill_middle.ensures.bounds.from_second (2 * c.args.q + 1) (omega arith))
+              (wide-positive gen.W.Width.unit gen.W.Width.positive (at gen.W.Width.unit c.fill_middle.new.middle.from_second (2 * c.args.q + 1)) n),
         );
-        kept = λ i j hi w. middle-rounded c.args.kinds.now c.args.entries.now c.go_through_rows.new.entries c.args.q c.fill_middle.new.middle c.fill_middle.ensures.bounds c.fill_middle.ensures.entries i j hi w
+        kept = λ i j hi w. middle-rounded gen.W.Width.unit gen.W.Width.positive c.args.kinds.now c.args.entries.now c.go_through_rows.new.entries c.args.q c.fill_middle.new.middle c.fill_middle.ensures.bounds c.fill_middle.ensures.entries i j hi w
             (c.go_through_rows.ensures.kept c.if-go_through_rows.true i j hi w);
         entries = c.go_through_rows.ensures.entries c.if-go_through_rows.true;
       };

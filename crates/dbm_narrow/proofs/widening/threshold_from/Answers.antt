@@ -1,39 +1,33 @@
-use Rattle.std.specs.Prelude.{◌≡◌, ℤ, Option, Some, None, false, FitsSigned, refl}
-use Rattle.std.specs.Int.{w64}
+use Rattle.std.specs.Prelude.{◌≡◌, ◌^◌, FitsSigned, None, Some, false, neg_ℤ, pos}
+use Rattle.std.specs.Int.{int_max}
 use Rattle.std.proofs.Common.{rules, ap, sym, ◌∙◌}
 use Rattle.std.proofs.lemmas.Int.{to_z-of_z}
-use mir.Syntax.{w128, w32}
-use mir.Val.{of_z, to_z}
+use mir.Syntax.{w128, w64}
 use Rattle.dbm_core.specs.Operations.{next_threshold, threshold_value}
-use Rattle.dbm_narrow.proofs.DoubledThresholds.{next-valued, threshold-found, valued}
-use Rattle.dbm_narrow.proofs.EntryLemmas.{same}
-use Rattle.dbm_narrow.specs.Widenings.{start_at}
+use Rattle.dbm_narrow.proofs.DoubledThresholds.{threshold-beyond, threshold-found, threshold-none}
+use Rattle.dbm_narrow.specs.Widths.{start_at}
 use Rattle.dbm_narrow.proofs.widening.threshold_from.Goals as goal
 
-pub returns-in-None : goal.returns-in-None
-returns-in-None c =
-    let f : FitsSigned w64 c.start_of.result = search rules in
-    let b : to_z w32 (of_z w32 c.args.bound) ≡ c.args.bound = same c.args.bound c.ranges.bound in
-    let s : to_z w64 (of_z w64 c.start_of.result) ≡ c.start_of.result = to_z-of_z w64 c.start_of.result f in
-    let e = c.start_of.ensures.start in
-    let l = c.least_from.ensures.threshold in
-    let i = c.in-None.is in
-    let n : valued c.args.doubled (next_threshold c.args.thresholds.now false (start_at c.args.doubled c.args.bound)) ≡ next_threshold c.args.thresholds.now c.args.doubled c.args.bound = next-valued c.args.thresholds.now c.args.doubled c.args.bound in
-    let v : valued c.args.doubled None ≡ None = refl in
-    record { threshold = cc }
+pub returns-in_err-start : goal.returns-in_err-start
+returns-in_err-start gen c =
+    record { threshold = c.from_residual.ensures ∙ threshold-beyond c.args.thresholds.now c.args.doubled c.args.bound c.see_words.ensures.words c.in_err-start.ensures.start }
 
-pub returns-in-Some : goal.returns-in-Some
-returns-in-Some c =
-    let f : FitsSigned w64 c.start_of.result = search rules in
-    let g : FitsSigned w64 c.in-Some.threshold = search rules in
+pub returns-in_err-threshold : goal.returns-in_err-threshold
+returns-in_err-threshold gen c =
+    let s : FitsSigned w64 c.in_ok-start.start = search rules in
+    let e : c.in_ok-start.start ≡ int_max (start_at c.args.doubled c.args.bound) (neg_ℤ (pos (2 ^ 63))) = c.in_ok-start.ensures.start in
+    let n : None ≡ next_threshold c.args.thresholds.now false c.in_ok-start.start = sym c.in_err-threshold.was ∙ c.least_from.ensures.threshold ∙ ap (next_threshold c.args.thresholds.now false) (to_z-of_z w64 c.in_ok-start.start s) in
+    record { threshold = c.from_residual-in_err-threshold.ensures ∙ threshold-none c.args.thresholds.now c.args.doubled c.args.bound c.in_ok-start.start c.see_words.ensures.words e n }
+
+pub returns : goal.returns
+returns gen c =
     let h : FitsSigned w128 c.threshold_value.result = search rules in
-    let b : to_z w32 (of_z w32 c.args.bound) ≡ c.args.bound = same c.args.bound c.ranges.bound in
-    let s : to_z w64 (of_z w64 c.start_of.result) ≡ c.start_of.result = to_z-of_z w64 c.start_of.result f in
-    let t : to_z w64 (of_z w64 c.in-Some.threshold) ≡ c.in-Some.threshold = to_z-of_z w64 c.in-Some.threshold g in
-    let e : c.start_of.result ≡ start_at c.args.doubled c.args.bound = c.start_of.ensures.start ∙ ap (start_at c.args.doubled) b in
-    let l : c.least_from.result ≡ next_threshold c.args.thresholds.now false c.start_of.result = c.least_from.ensures.threshold ∙ ap (next_threshold c.args.thresholds.now false) s in
-    let r : c.threshold_value.result ≡ threshold_value c.args.doubled c.in-Some.threshold = c.threshold_value.ensures.value ∙ ap (threshold_value c.args.doubled) t in
+    let s : FitsSigned w64 c.in_ok-start.start = search rules in
+    let t : FitsSigned w64 c.in_ok-threshold.threshold = search rules in
+    let e : c.in_ok-start.start ≡ int_max (start_at c.args.doubled c.args.bound) (neg_ℤ (pos (2 ^ 63))) = c.in_ok-start.ensures.start in
+    let n : Some c.in_ok-threshold.threshold ≡ next_threshold c.args.thresholds.now false c.in_ok-start.start = sym c.in_ok-threshold.was ∙ c.least_from.ensures.threshold ∙ ap (next_threshold c.args.thresholds.now false) (to_z-of_z w64 c.in_ok-start.start s) in
+    let v : c.threshold_value.result ≡ threshold_value c.args.doubled c.in_ok-threshold.threshold = c.threshold_value.ensures.value ∙ ap (threshold_value c.args.doubled) (to_z-of_z w64 c.in_ok-threshold.threshold t) in
     record {
       threshold = ap Some (to_z-of_z w128 c.threshold_value.result h)
-          ∙ threshold-found c.args.thresholds.now c.args.doubled c.args.bound c.start_of.result c.in-Some.threshold c.threshold_value.result e (sym c.in-Some.is ∙ l) r;
+          ∙ threshold-found c.args.thresholds.now c.args.doubled c.args.bound c.in_ok-start.start c.in_ok-threshold.threshold c.threshold_value.result c.see_words.ensures.words e n v;
     }

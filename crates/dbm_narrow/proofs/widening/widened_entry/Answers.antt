@@ -1,38 +1,29 @@
-use Rattle.std.specs.Prelude.{◌≡◌, ◌^◌, ◌≤ℤ◌, ◌<ℤ◌, pos, ℤ}
-use Rattle.std.proofs.Common.{subst, sym}
-use mir.Syntax.{w32}
-use mir.Val.{of_z, to_z}
-use Rattle.dbm_core.specs.Operations.{next_threshold}
-use Rattle.dbm_narrow.proofs.EntryLemmas.{le-false, le-true, same}
+use Rattle.std.specs.Prelude.{◌≡◌, ◌*◌, ◌≤ℤ◌, ◌<ℤ◌, int_lt, false, pos, true}
+use Rattle.std.proofs.Common.{ap, subst, sym, ◌∙◌}
+use Rattle.dbm_narrow.proofs.EntryLemmas.{lt-false, lt-true}
 use Rattle.dbm_narrow.proofs.WideningLemmas.{widened-goes, widened-none, widened-stays}
-use Rattle.dbm_narrow.specs.Widenings.{IsThresholdEntry, IsWidened}
+use Rattle.dbm_narrow.specs.Widenings.{IsWidened}
 use Rattle.dbm_narrow.proofs.widening.widened_entry.Goals as goal
 
-pub returns-then-new-old : goal.returns-then-new-old
-returns-then-new-old c =
-    let x : to_z w32 (of_z w32 c.args.old) ≡ c.args.old = same c.args.old c.ranges.old in
-    let y : to_z w32 (of_z w32 c.args.new) ≡ c.args.new = same c.args.new c.ranges.new in
-    let h : to_z w32 (of_z w32 c.args.new) ≤ℤ to_z w32 (of_z w32 c.args.old) = le-true (to_z w32 (of_z w32 c.args.new)) (to_z w32 (of_z w32 c.args.old)) c.if-new-old.true in
-    record {
-      widened = subst (IsWidened c.args.thresholds.now c.args.doubled c.args.old c.args.new) (sym x)
-          (widened-stays c.args.thresholds.now c.args.doubled c.args.old c.args.new c.requires.old (subst (λ z. z ≤ℤ c.args.old) y (subst (λ z. to_z w32 (of_z w32 c.args.new) ≤ℤ z) x h)));
-    }
+pub returns-then-not-is_less : goal.returns-then-not-is_less
+returns-then-not-is_less gen c =
+    let t : c.is_less.result ≡ false = cc in
+    let h : c.args.new ≤ℤ c.args.old = lt-false gen.W.Width.unit gen.W.Width.positive c.args.old c.args.new (sym c.is_less.ensures.less ∙ t) in
+    record { widened = widened-stays gen.W.Width.unit gen.W.Width.positive c.args.thresholds.now c.args.doubled c.args.old c.args.new c.requires.old h }
 
-pub returns-then-new-ge-FREE : goal.returns-then-new-ge-FREE
-returns-then-new-ge-FREE c =
-    let y : to_z w32 (of_z w32 c.args.new) ≡ c.args.new = same c.args.new c.ranges.new in
-    let h : pos (2 ^ 28) ≤ℤ to_z w32 (of_z w32 c.args.new) = le-true (pos (2 ^ 28)) (to_z w32 (of_z w32 c.args.new)) c.if-new-ge-FREE.true in
-    record { widened = widened-none c.args.thresholds.now c.args.doubled c.args.old c.args.new (subst (λ z. pos (2 ^ 28) ≤ℤ z) y h) }
+pub returns-then-not-is_less-2 : goal.returns-then-not-is_less-2
+returns-then-not-is_less-2 gen c =
+    let t : c.is_less-2.result ≡ false = cc in
+    let h : pos (16 * gen.W.Width.unit) ≤ℤ c.args.new = lt-false gen.W.Width.unit gen.W.Width.positive c.args.new (pos (16 * gen.W.Width.unit)) (ap (int_lt c.args.new) (sym c.free.ensures.value) ∙ sym c.is_less-2.ensures.less ∙ t) in
+    record {
+      widened = subst (IsWidened gen.W.Width.unit c.args.thresholds.now c.args.doubled c.args.old c.args.new) (sym c.none.ensures.value)
+          (widened-none gen.W.Width.unit gen.W.Width.positive c.args.thresholds.now c.args.doubled c.args.old c.args.new h);
+    }
 
 pub returns : goal.returns
-returns c =
-    let x : to_z w32 (of_z w32 c.args.old) ≡ c.args.old = same c.args.old c.ranges.old in
-    let y : to_z w32 (of_z w32 c.args.new) ≡ c.args.new = same c.args.new c.ranges.new in
-    let h : to_z w32 (of_z w32 c.args.old) <ℤ to_z w32 (of_z w32 c.args.new) = le-false (to_z w32 (of_z w32 c.args.new)) (to_z w32 (of_z w32 c.args.old)) c.if-new-old.false in
-    let l : to_z w32 (of_z w32 c.args.new) <ℤ pos (2 ^ 28) = le-false (pos (2 ^ 28)) (to_z w32 (of_z w32 c.args.new)) c.if-new-ge-FREE.false in
-    record {
-      widened = widened-goes c.args.thresholds.now c.args.doubled c.args.old c.args.new c.threshold_entry.result
-          (subst (λ z. z <ℤ c.args.new) x (subst (λ z. to_z w32 (of_z w32 c.args.old) <ℤ z) y h))
-          (subst (λ z. z <ℤ pos (2 ^ 28)) y l)
-          (subst (λ b. IsThresholdEntry (next_threshold c.args.thresholds.now c.args.doubled b) c.threshold_entry.result) y c.threshold_entry.ensures.threshold);
-    }
+returns gen c =
+    let t : c.is_less.result ≡ true = cc in
+    let u : c.is_less-2.result ≡ true = cc in
+    let h : c.args.old <ℤ c.args.new = lt-true gen.W.Width.unit gen.W.Width.positive c.args.old c.args.new (sym c.is_less.ensures.less ∙ t) in
+    let l : c.args.new <ℤ pos (16 * gen.W.Width.unit) = lt-true gen.W.Width.unit gen.W.Width.positive c.args.new (pos (16 * gen.W.Width.unit)) (ap (int_lt c.args.new) (sym c.free.ensures.value) ∙ sym c.is_less-2.ensures.less ∙ u) in
+    record { widened = widened-goes gen.W.Width.unit gen.W.Width.positive c.args.thresholds.now c.args.doubled c.args.old c.args.new c.threshold_entry.result h l c.threshold_entry.ensures.entry }

@@ -7,9 +7,9 @@ use Rattle.dbm_narrow.specs.Carried.{ClosesStood}
 use Rattle.dom_octagon_states.proofs.closing.close_stood.Goals as goal
 use Rattle.dom_octagon_states.specs.Held.{matrix_held}
 
-pub returns-in-Small : goal.returns-in-Small
-returns-in-Small c =
-    let h : IfOk c.stood_small.result (λ o. IfSome o (ClosesStood c.as_ref.result.now c.args.q c.args.y c.args.c)) = rw (to_z-of_z w128 c.args.c c.ranges.c) at c.stood_small.ensures.stood in
+pub returns-in-Large : goal.returns-in-Large
+returns-in-Large c =
+    let h : IfOk c.stood_large-in-Large.result (λ o. IfSome o (ClosesStood c.as_ref-in-Large.result.now c.args.q c.args.y c.args.c)) = rw (to_z-of_z w128 c.args.c c.ranges.c) at c.stood_large-in-Large.ensures.stood in
     record {
-      stood = subst (λ (m : HalfMatrix). IfOk c.stood_small.result (λ o. IfSome o (ClosesStood m c.args.q c.args.y c.args.c))) (c.as_ref.ensures ∙ sym (ap matrix_held c.in-Small.is) ∙ c.m.view_is) h;
+      stood = subst (λ (m : HalfMatrix). IfOk c.stood_large-in-Large.result (λ o. IfSome o (ClosesStood m c.args.q c.args.y c.args.c))) (c.as_ref-in-Large.ensures ∙ sym (ap matrix_held c.in-Large.is) ∙ c.m.view_is) h;
     }
