@@ -1,10 +1,8 @@
 //! The graph.
-use crate::index::Index;
-use crate::pool::Lists;
+use crate::inputs::Inputs;
+use crate::links::{CellLink, Links};
 use crate::value::Value;
-use slab::Slab;
-use smallvec::SmallVec;
-use std::marker::Model;
+use std::alloc::Global;
 
 /// One cell stands at a place among another cell's inputs, counted from 0.
 #[derive(Clone, Copy, Debug, PartialEq, Eq, Hash)]
@@ -13,45 +11,23 @@ pub struct Use {
     pub place: usize,
 }
 
+/// The place of a number: a cell, where it has a value.
 #[derive(Drop)]
-pub(crate) struct Cell<V> {
-    pub(crate) number: usize,
+pub(crate) struct Place<V> {
     pub(crate) owner: u32,
-    pub(crate) value: Value<V>,
-    // its key among the cells of its owner
-    pub(crate) own: usize,
-    pub(crate) inputs: SmallVec<usize, 2>,
-    // the keys of its uses of them
-    pub(crate) uses: SmallVec<usize, 2>,
+    pub(crate) value: Option<Value<V>>,
+    pub(crate) inputs: Inputs,
 }
 
 /// Cells, each called by a number, with its inputs and dependents.
 #[derive(Drop)]
 pub struct Graph<V> {
-    pub(crate) cells: Slab<Cell<V>>,
-    // the key of a cell, by its number
-    pub(crate) keys: Index,
-    // the cells by the buckets of their owners
-    pub(crate) owned: Lists<usize>,
-    // the uses by the cells that are used
-    pub(crate) uses: Lists<Use>,
-}
-
-impl<V> Model for Graph<V> {
-    ghost use Rattle.slab.specs.Slab.{get};
-    ghost use Rattle.std.specs.FinMap as map;
-    ghost use Rattle.daig_graph.specs.Cells.{Cells};
-
-    ghost Value = { Cells V };
-
-    ghost use Rattle.std.specs.Coded.{codes};
-
-    ghost coded = { Prim.hlevel (codes, map.code) };
-
-    ghost use Rattle.daig_graph.specs.Agrees.{filled_cells, Agrees};
-    ghost use Rattle.daig_graph.specs.Keys.{key_at};
-
-    ghost view = { λ a. record { cells = map.from_entries (filled_cells a.cells.slots) } };
-
-    ghost invariant = { λ a. Agrees (get a.cells) (key_at a.keys) a.owned a.uses };
+    // by the number of a cell
+    pub(crate) places: Vec<Place<V>>,
+    // by the number of a cell, as many as places
+    pub(crate) links: Vec<Links>,
+    // the first cell of each bucket of owners
+    pub(crate) owned: Vec<CellLink>,
+    pub(crate) count: usize,
+    pub(crate) alloc: Global,
 }

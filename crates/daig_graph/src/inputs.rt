@@ -1,72 +1,92 @@
-//! The inputs of a cell that is to be filled.
-ghost use Rattle.std.specs.Prelude.{◌≡◌, [], ◌∷◌, ◌++◌, length, IfOk, OnOk, OnErr};
+//! The inputs of a cell.
+ghost use Rattle.std.specs.Prelude.{◌≡◌, [], ◌∷◌, ◌++◌, length, OnOk, OnErr};
 
 use base_values::Memory;
-use smallvec::SmallVec;
-use std::alloc::Global;
-use std::marker::Model;
+use std::alloc::{AllocError, Global};
 
-/// The inputs of a cell that is to be filled, from left to right. Two take no memory.
+/// The inputs of a cell, from left to right. Two take no memory.
 #[derive(Drop)]
 pub struct Inputs {
-    pub(crate) cells: SmallVec<usize, 2>,
-}
-
-impl Model for Inputs {
-    ghost use Rattle.std.specs.Prelude.{List, ℕ};
-
-    ghost Value = { List ℕ };
-
-    ghost view = { λ a. a.cells.items };
+    count: usize,
+    // up to two stand here, and more in `many`, all of them
+    few: [usize; 2],
+    many: Vec<usize>,
 }
 
 impl Inputs {
     /// No inputs. It takes no memory.
     #[inline]
-    pub fn new(alloc: Global) -> Inputs
-        ensures empty { result ≡ [] }
-    {
+    pub fn new(alloc: Global) -> Inputs {
         Inputs {
-            cells: SmallVec::new(alloc),
+            count: 0,
+            few: [0; 2],
+            many: Vec::new(alloc),
         }
     }
 
     /// One input more, on the right.
     #[inline]
-    pub fn push(&mut self, cell: usize) -> Result<(), Memory>
-        ensures added { OnOk result (self.new ≡ self.old ++ cell ∷ []) }
-        ensures err { OnErr result (self.new ≡ self.old) }
-    {
-        self.cells.push(cell)?;
+    pub fn push(&mut self, cell: usize) -> Result<(), Memory> {
+        if self.count < 2 {
+            self.few[self.count] = cell;
+        } else {
+            push_third(&mut self.many, &self.few, self.count, cell)?;
+        }
+        self.count += 1;
         Ok(())
     }
 
     /// The inputs, from left to right.
     #[inline]
-    pub fn as_slice(&self) -> &[usize]
-        ensures same { result.now ≡ self.now }
-    {
-        self.cells.as_slice()
+    pub fn as_slice(&self) -> &[usize] {
+        if self.count <= 2 {
+            &self.few[0..self.count]
+        } else {
+            self.many.as_slice()
+        }
+    }
+
+    /// The inputs, for writing.
+    #[inline]
+    pub(crate) fn as_mut_slice(&mut self) -> &mut [usize] {
+        if self.count <= 2 {
+            &mut self.few[0..self.count]
+        } else {
+            self.many.as_mut_slice()
+        }
     }
 
     /// How many there are.
     #[inline]
-    pub fn len(&self) -> usize
-        ensures count { result ≡ length self.now }
-    {
-        self.cells.len()
+    pub fn len(&self) -> usize {
+        self.count
     }
 
-    /// As many keys, which mean nothing yet.
+    /// Takes all inputs away, and gives back their memory.
     #[inline]
-    pub(crate) fn blank_keys(&self) -> Result<SmallVec<usize, 2>, Memory>
-        ensures as_many { IfOk result (λ keys. length keys.items ≡ length self.now) }
-    {
-        let cells = &self.cells;
-        let mut keys = SmallVec::new(*cells.allocator());
-        for place in 0..cells.len() {
-            keys.push(place)?;
+    pub(crate) fn clear(&mut self) {
+        if self.count > 2 {
+            self.many.clear();
+            self.many.shrink_to_fit();
         }
-        Ok(keys)
+        self.count = 0;
     }
+}
+
+/// One input more, beyond two.
+#[cold]
+#[inline(never)]
+fn push_third(
+    many: &mut Vec<usize>,
+    few: &[usize; 2],
+    count: usize,
+    cell: usize,
+) -> Result<(), AllocError> {
+    if count == 2 {
+        many.reserve(3)?;
+        many.push(few[0])?;
+        many.push(few[1])?;
+    }
+    many.push(cell)?;
+    Ok(())
 }

@@ -4,14 +4,14 @@
 //! its inputs from left to right; contracts see it as that map. A cell is filled when all its inputs are there, and
 //! taken away when no other has it as an input, so inputs are always cells.
 //!
-//! Cells stand in a slab and are found by an index, a list of keys with a place for each number (`specs/Keys.antt`). What
-//! uses a cell, and what belongs to a statement, are lists that are threaded through two pools of members
-//! (`specs/Linked.antt`), so that an item goes in and out in constant time, however long its list is; their first members
-//! are found by an index too. Filling and removing take as many steps as the cell has inputs, and filling as many more as
-//! the indexes get places; reading takes constant time, and a list of dependents or of the cells of a statement is
-//! walked, not copied. Removing and reading take no memory. A list of inputs comes as [`Inputs`].
+//! The cell of a number stands at the place of that number in one list, and beside it in another one how lists go on: what
+//! uses a cell, and what belongs to a statement, are lists that are threaded through the cells themselves, so that an
+//! item goes in and out in constant time, however long its list is, and nothing is moved. A link is a number in half the
+//! memory, 0 for none. Filling and removing take as many steps as the cell has inputs, and filling as many more as there
+//! are new places; reading takes constant time, and a list of dependents or of the cells of a statement is walked, not
+//! copied. Removing and reading take no memory. A list of inputs comes as [`Inputs`].
 //!
-//! The memory of the indexes of cells is in proportion to the greatest number of a cell, so numbers are to be given from
+//! The memory is in proportion to the greatest number of a cell, so numbers are to be given from
 //! 0 on. [`Graph::renumber`] gives the cells other numbers, in the same order, so that those of cells that are gone need
 //! not be kept. Statements keep their numbers: the index of their lists has a bounded number of places, and statements
 //! whose numbers are far apart may share a list (`specs/Buckets.antt`).
@@ -21,11 +21,9 @@
 
 mod filling;
 mod graph;
-mod index;
 mod inputs;
-mod lists;
+mod links;
 mod owned;
-mod pool;
 mod reading;
 mod renumbering;
 mod value;

@@ -1,11 +1,9 @@
 //! The cells of a statement, on a list that it may share with others.
 ghost use Rattle.std.specs.Prelude.{◌≡◌};
-ghost use Rattle.std.specs.Iterator.{YieldsFirst, item_count};
 ghost use Rattle.daig_graph.specs.Buckets.{bucket_of};
 
 use crate::graph::Graph;
-use crate::walk::Iter;
-use std::marker::Model;
+use crate::links::CellLink;
 
 /// How many lists the cells of all statements hang on. Numbers of statements are never used again, so their index would
 /// grow as long as a session lasts; with this many lists it takes half a megabyte at most. A session gives some million
@@ -20,35 +18,22 @@ pub(crate) fn bucket(statement: u32) -> usize
     (statement % BUCKETS) as usize
 }
 
-/// What is left of the cells of a statement, seen as the list of their numbers.
+/// What is left of the cells of a statement.
 #[derive(Drop)]
 pub struct OwnedCells<'a, V> {
     pub(crate) graph: &'a Graph<V>,
     pub(crate) statement: u32,
-    // the cells on its list, also those of other statements
-    pub(crate) shared: Iter<'a, usize>,
-}
-
-impl<'a, V> Model for OwnedCells<'a, V> {
-    ghost use Rattle.std.specs.Prelude.{List, ℕ};
-    ghost use Rattle.std.specs.List.{filter};
-    ghost use Rattle.daig_graph.specs.Cells.{is_owned};
-
-    ghost Value = { List ℕ };
-
-    ghost view = { λ a. filter (is_owned a.graph.now.cells a.statement) a.shared };
+    // the next cell on its list, which may be one of another statement
+    pub(crate) next: CellLink,
 }
 
 impl<'a, V> Iterator for OwnedCells<'a, V> {
     type Item = usize;
 
-    ghost next_gives = { YieldsFirst (λ rest. rest) };
-
-    ghost remaining = { item_count (λ rest. rest) };
-
     #[inline]
     fn next(&mut self) -> Option<usize> {
-        while let Some(cell) = self.shared.next() {
+        while let Some(cell) = self.next.cell() {
+            self.next = self.graph.links[cell].own_next;
             if self.graph.is_owned(cell, self.statement) {
                 return Some(cell);
             }

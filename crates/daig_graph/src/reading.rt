@@ -1,11 +1,6 @@
 //! Reading cells.
-ghost use Rattle.std.specs.Prelude.{◌≡◌, ℕ, ◌↔◌, option_copied, option_map, IfSome, IsTrue, None};
-ghost use Rattle.std.specs.FinMap as map;
-ghost use Rattle.daig_graph.specs.Agrees.{filled};
-ghost use Rattle.daig_graph.specs.Held.{IsIn, IsOnce};
-ghost use Rattle.daig_graph.specs.Cells.{AreCells, IsOwned, IsUse, is_owned};
-
-use crate::graph::{Cell, Graph, Use};
+use crate::graph::{Graph, Place};
+use crate::links::{CellLink, UseLink};
 use crate::owned::{OwnedCells, bucket};
 use crate::value::Value;
 use crate::walk::Iter;
@@ -13,23 +8,16 @@ use crate::walk::Iter;
 impl<V> Graph<V> {
     /// The value of a cell, or `None` where it is not there.
     #[inline]
-    pub fn value(&self, cell: usize) -> Option<&Value<V>>
-        ensures value { option_copied result ≡ option_map
-            (λ f. f.value) (map.get self.now.cells cell) }
-    {
-        match self.cell(cell) {
-            Some(found) => Some(&found.value),
+    pub fn value(&self, cell: usize) -> Option<&Value<V>> {
+        match self.places.get(cell) {
+            Some(place) => place.value.as_ref(),
             None => None,
         }
     }
 
     /// The inputs of a cell from left to right, or `None` where it is not there. They are cells.
     #[inline]
-    pub fn inputs(&self, cell: usize) -> Option<&[usize]>
-        ensures inputs { option_copied result ≡ option_map
-            (λ f. f.inputs) (map.get self.now.cells cell) }
-        ensures cells { IfSome result (λ inputs. AreCells self.now.cells inputs.now) }
-    {
+    pub fn inputs(&self, cell: usize) -> Option<&[usize]> {
         match self.cell(cell) {
             Some(found) => Some(found.inputs.as_slice()),
             None => None,
@@ -39,40 +27,41 @@ impl<V> Graph<V> {
     /// The cells of which a cell is an input, each with the place where it stands among its inputs; none where the cell
     /// is not there. No two are alike.
     #[inline]
-    pub fn dependents(&self, cell: usize) -> Iter<'_, Use>
-        ensures once { IsOnce result }
-        ensures uses { (u : Use) → IsIn result u ↔ IsUse self.now.cells cell u }
-    {
-        self.uses.items(cell)
+    pub fn dependents(&self, cell: usize) -> Iter<'_> {
+        let next = match self.links.get(cell) {
+            Some(links) => links.first,
+            None => UseLink::none(),
+        };
+        Iter {
+            links: self.links.as_slice(),
+            next,
+        }
     }
 
     /// The cells that belong to a statement, each once. Going over them takes as many steps as there are cells on the
     /// statement's list, which it may share.
     #[inline]
-    pub fn cells_of_statement(&self, statement: u32) -> OwnedCells<'_, V>
-        ensures once { IsOnce result }
-        ensures cells { (x : ℕ) → IsIn result x ↔ IsOwned self.now.cells statement x }
-    {
+    pub fn cells_of_statement(&self, statement: u32) -> OwnedCells<'_, V> {
+        let next = match self.owned.get(bucket(statement)) {
+            Some(first) => *first,
+            None => CellLink::none(),
+        };
         OwnedCells {
             graph: self,
             statement,
-            shared: self.owned.items(bucket(statement)),
+            next,
         }
     }
 
     /// How many cells there are.
     #[inline]
-    pub fn kept_count(&self) -> usize
-        ensures count { result ≡ map.len self.now.cells }
-    {
-        self.cells.len()
+    pub fn kept_count(&self) -> usize {
+        self.count
     }
 
     /// Whether a cell belongs to a statement.
     #[inline]
-    pub(crate) fn is_owned(&self, cell: usize, statement: u32) -> bool
-        ensures is { result ≡ is_owned self.now.cells statement cell }
-    {
+    pub(crate) fn is_owned(&self, cell: usize, statement: u32) -> bool {
         match self.cell(cell) {
             Some(found) => found.owner == statement,
             None => false,
@@ -80,13 +69,10 @@ impl<V> Graph<V> {
     }
 
     #[inline]
-    fn cell(&self, number: usize) -> Option<&Cell<V>>
-        ensures filled { option_map filled (option_copied result) ≡ map.get self.now.cells number }
-        ensures cells { IfSome result (λ c. AreCells self.now.cells c.now.inputs.items) }
-    {
-        match self.keys.get(number).key() {
-            Some(key) => self.cells.get(key),
-            None => None,
+    fn cell(&self, number: usize) -> Option<&Place<V>> {
+        match self.places.get(number) {
+            Some(place) if place.value.is_some() => Some(place),
+            _ => None,
         }
     }
 }

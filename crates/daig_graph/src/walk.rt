@@ -1,42 +1,21 @@
-//! The items of a list, one after another.
-ghost use Rattle.std.specs.Iterator.{YieldsFirst, item_count};
+//! The uses of a cell, one after another.
+use crate::graph::Use;
+use crate::links::{Links, UseLink};
 
-use crate::index::Link;
-use crate::pool::Member;
-use slab::Slab;
-use std::marker::Model;
-
-/// What is left of a list, seen as the list of its items.
+/// What is left of the uses of a cell.
 #[derive(Drop)]
-pub struct Iter<'a, T> {
-    pub(crate) members: &'a Slab<Member<T>>,
-    pub(crate) next: Link,
+pub struct Iter<'a> {
+    pub(crate) links: &'a [Links],
+    pub(crate) next: UseLink,
 }
 
-impl<'a, T> Model for Iter<'a, T> {
-    ghost use Rattle.std.specs.Prelude.{List, map};
-
-    ghost Value = { List T };
-
-    ghost use Rattle.slab.specs.Slab.{get};
-    ghost use Rattle.daig_graph.specs.Walks.{IsWalk, left};
-
-    ghost view = { λ a. map (λ e. e.1) (left a.members.now a.next) };
-
-    ghost invariant = { λ a. IsWalk (get a.members.now) a.next (left a.members.now a.next) };
-}
-
-impl<'a, T: Copy> Iterator for Iter<'a, T> {
-    type Item = T;
-
-    ghost next_gives = { YieldsFirst (λ rest. rest) };
-
-    ghost remaining = { item_count (λ rest. rest) };
+impl<'a> Iterator for Iter<'a> {
+    type Item = Use;
 
     #[inline]
-    fn next(&mut self) -> Option<T> {
-        let member = self.members.get(self.next.key()?)?;
-        self.next = member.next;
-        Some(member.item)
+    fn next(&mut self) -> Option<Use> {
+        let one = self.next.used()?;
+        self.next = self.links[one.cell].beside(one.place).next;
+        Some(one)
     }
 }
