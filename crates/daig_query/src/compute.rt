@@ -55,6 +55,24 @@ fn held_at(graph: &Graph<Held>, cells: &[usize], place: usize) -> Option<Held>
     }
 }
 
+/// The value of the cell at a place among these.
+#[inline]
+fn value_of<'a>(graph: &'a Graph<Held>, cells: &[usize], place: usize) -> Option<&'a Value<Held>> {
+    match cells.get(place) {
+        Some(cell) => graph.value(*cell),
+        None => None,
+    }
+}
+
+/// What is held, where a value is a state.
+#[inline]
+fn held_of(value: Option<&Value<Held>>) -> Option<Held> {
+    match value {
+        Some(Value::State(held)) => Some(*held),
+        _ => None,
+    }
+}
+
 /// Of iterates that stop at one that is the state of the iterate before it: that state, with that one's index.
 #[inline]
 fn settled(graph: &Graph<Held>, cells: &[usize]) -> Held
@@ -233,6 +251,13 @@ fn result_of<D: Domain, L: Ledger>(
     Ok(number)
 }
 
+/// The Over of an input.
+#[inline]
+fn passed_on(head: StmtId, chain: &SharedChain) -> Result<Value<Held>, Memory> {
+    let chain = chain.clone()?;
+    Ok(Value::Over { head, chain })
+}
+
 /// What a row that is no fixed point makes of inputs that all are states.
 #[inline]
 fn applied<D: Domain, L: Ledger>(
@@ -256,8 +281,16 @@ fn applied<D: Domain, L: Ledger>(
     ensures recalled { IsRecalled store.old row.now entry.now → steps.new ≡ steps.old }
 {
     let cells = entry.inputs.as_slice();
-    let left = held_at(&store.graph, cells, 0);
-    let right = held_at(&store.graph, cells, 1);
+    let left = value_of(&store.graph, cells, 0);
+    if let Some(Value::Over { head, chain }) = left {
+        return passed_on(*head, chain);
+    }
+    let right = value_of(&store.graph, cells, 1);
+    if let Some(Value::Over { head, chain }) = right {
+        return passed_on(*head, chain);
+    }
+    let left = held_of(left);
+    let right = held_of(right);
     let index = index_of(row, left);
     if let Some(held) = alone(row, left, right) {
         let state = held.state;
@@ -301,15 +334,13 @@ pub(crate) fn compute<D: Domain, L: Ledger>(
     ensures recalled { IsRecalled store.old row.now entry.now → steps.new ≡ steps.old }
     ensures over { HasOver store.old.graph.cells entry.now.inputs → steps.new ≡ steps.old }
 {
-    if let Some(over) = first_over(&store.graph, entry.inputs.as_slice()) {
-        let chain = over.1.clone()?;
-        return Ok(Value::Over {
-            head: over.0,
-            chain,
-        });
-    }
     match row {
-        Row::Fixed(head, _) => fixed(alloc, dom, flow, store, row, *head, entry),
+        Row::Fixed(head, _) => {
+            if let Some(over) = first_over(&store.graph, entry.inputs.as_slice()) {
+                return passed_on(over.0, over.1);
+            }
+            fixed(alloc, dom, flow, store, row, *head, entry)
+        }
         _ => applied(alloc, dom, flow, store, row, entry, owner, steps),
     }
 }
