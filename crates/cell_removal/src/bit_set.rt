@@ -4,7 +4,7 @@ ghost use Rattle.std.specs.Bool.{Decides};
 ghost use Rattle.cell_removal.specs.Marks.{HasMark, Puts, SameWords, with_mark};
 
 use base_values::Memory;
-use std::alloc::{AllocError, Global};
+use std::alloc::Global;
 use std::marker::Model;
 
 /// Some numbers: a bit for each number up to the greatest of them.
@@ -22,15 +22,11 @@ impl Model for BitSet {
 }
 
 impl BitSet {
-    /// No number is marked. It takes no memory yet.
-    #[tactic(auto, using(crate::proofs::Marking::none_marked))]
+    /// No number is marked, and there is room for those below this.
     #[inline]
-    pub(crate) fn new(alloc: Global) -> BitSet
-        ensures none { (n : ℕ) → HasMark result n → ⊥ }
-    {
-        BitSet {
-            words: Vec::new(alloc),
-        }
+    pub(crate) fn with_room(alloc: Global, room: usize) -> Result<BitSet, Memory> {
+        let words = vec![in alloc; 0; room / 64 + 1]?;
+        Ok(BitSet { words })
     }
 
     /// Whether a number is marked.
@@ -47,38 +43,10 @@ impl BitSet {
         }
     }
 
-    /// Marks a number.
-    #[tactic(auto, using(crate::proofs::Marking::puts_bit))]
+    /// Marks a number that there is room for.
     #[inline]
-    pub(crate) fn add(&mut self, number: usize) -> Result<(), Memory>
-        ensures puts { OnOk result (Puts self.old self.new number) }
-    {
-        reserve(&mut self.words, number)?;
-        set_bit(&mut self.words, number);
-        Ok(())
+    pub(crate) fn add(&mut self, number: usize) {
+        let word = number / 64;
+        self.words[word] = self.words[word] | (1u64 << (number % 64));
     }
-}
-
-/// A word for the bit of a number.
-#[tactic(auto, using(crate::proofs::Marking::same_words))]
-#[inline]
-fn reserve(words: &mut Vec<u64>, number: usize) -> Result<(), AllocError>
-    ensures word { OnOk result (number / 64 < vec_len words.new) }
-    ensures same { OnOk result (SameWords words.old.items words.new.items) }
-{
-    let word = number / 64;
-    if words.len() <= word {
-        words.resize(word + 1, 0)?;
-    }
-    Ok(())
-}
-
-/// Sets the bit of a number.
-#[inline]
-fn set_bit(words: &mut Vec<u64>, number: usize)
-    requires word { number / 64 < vec_len words.old }
-    ensures sets { words.new.items ≡ with_mark words.old.items number }
-{
-    let word = number / 64;
-    words[word] = words[word] | (1u64 << (number % 64));
 }

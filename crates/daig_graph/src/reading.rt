@@ -59,6 +59,12 @@ impl<V> Graph<V> {
         self.count
     }
 
+    /// A number that the number of each cell is below.
+    #[inline]
+    pub fn room(&self) -> usize {
+        self.places.len()
+    }
+
     /// Whether a cell belongs to a statement.
     #[inline]
     pub(crate) fn is_owned(&self, cell: usize, statement: u32) -> bool {
