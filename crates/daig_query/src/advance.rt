@@ -10,7 +10,7 @@ ghost use Rattle.daig_query.specs.Filled.{cells_added, missing, Fills};
 ghost use Rattle.daig_query.specs.Turned.{fills_of, stacked_names, HandsDown, IsTopAbsent, Obeys, Turns};
 
 use crate::engine::Engine;
-use crate::opening::{Absent, Open, fill, next_absent, opened, row_of};
+use crate::opening::{Absent, Open, fill, first_absent, next_absent, opened, row_of};
 use crate::store::Store;
 use crate::walk::{Walk, next_demanded};
 use base_values::Memory;
@@ -150,8 +150,13 @@ fn turn_open<D: Domain, L: Ledger>(
         * fills_of turn) }
     ensures most { steps.new ≤ steps.old + D.counted dom.now }
 {
-    let top = &walk.stack[walk.stack.len() - 1];
-    let found = row_of(flow, &store.names, &top.name);
+    let height = walk.stack.len();
+    let top = &mut walk.stack[height - 1];
+    if let Some(absent) = first_absent(flow, store, top)? {
+        walk.stack.push(opened(alloc, absent.cell, &absent.name))?;
+        return Ok(AdvanceResult::Pushed);
+    }
+    let found = row_of(flow, &store.names, &walk.stack[height - 1].name);
     let Some(row) = &found else { unreachable!() };
     if let Some(absent) = look_at_top(dom, flow, store, row, &mut walk.stack)? {
         walk.stack.push(opened(alloc, absent.cell, &absent.name))?;

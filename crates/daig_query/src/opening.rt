@@ -21,6 +21,7 @@ use domain_laws::{Domain, Steps};
 use imp_flow::Flow;
 use imp_flow_rows::Row;
 use std::alloc::Global;
+use std::hash::Hash;
 use std::sync::ledger::Ledger;
 
 /// A name that is to be filled: its number, and the cells of those of its inputs that are found.
@@ -81,6 +82,33 @@ pub(crate) fn row_of<'a>(flow: &'a Flow<'_>, names: &Names, name: &Name) -> Opti
         None => None,
     };
     flow.row(frame, name.point)
+}
+
+/// The first input of a name none of whose inputs is found yet, where it has no cell and is found without the row. Where it
+/// has a cell, the name gets it.
+#[inline]
+pub(crate) fn first_absent<S: Eq + Hash + Drop>(
+    flow: &Flow<'_>,
+    store: &mut Store<S>,
+    entry: &mut Open,
+) -> Result<Option<Absent>, Memory> {
+    if entry.inputs.len() > 0 {
+        return Ok(None);
+    }
+    let Some(point) = flow.point_before(entry.name.point) else {
+        return Ok(None);
+    };
+    let name = Name {
+        path: entry.name.path,
+        point,
+    };
+    let cell = store.names.add_input(name, entry.cell, 0)?;
+    let there = has_cell(&store.graph, cell);
+    if !there {
+        return Ok(Some(without_cell(cell, &name)));
+    }
+    entry.inputs.push(cell)?;
+    Ok(None)
 }
 
 /// Finds the inputs of a name from left to right, up to the first that has no cell, which is given.

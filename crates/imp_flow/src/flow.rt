@@ -18,7 +18,8 @@ use call_contexts::{Setting, main_place};
 use cell_names::{NameFrame, Point};
 use imp_chains::Widening;
 use imp_flow_rows::{
-    Node, Row, branch_row, enter_row, exit_row, fix_row, leap_row, next_row, post_row, turn_row,
+    Node, Row, before_iterate, before_post, branch_row, enter_row, exit_row, fix_row, leap_row,
+    next_row, post_row, turn_row,
 };
 use imp_slots::Layout;
 use imp_syntax::{ProcId, StmtId};
@@ -297,6 +298,30 @@ impl<'a> Flow<'a> {
             Point::Exit(stmt) => self.exit_row(stmt),
             Point::Leap(stmt, last) => self.leap_row(stmt, last),
         }
+    }
+
+    /// The point of the first input of a name's row, by the name's point, where both have the same path. It spares the row
+    /// where that input is to be filled first. It is `None` also for points where this is told by the row alone.
+    #[inline]
+    pub fn point_before(&self, point: Point) -> Option<Point> {
+        match point {
+            Point::Post(stmt) => Some(before_post(&self.node(stmt)?)),
+            Point::Then(stmt) | Point::Else(stmt) | Point::Fix(stmt) => {
+                Some(self.node(stmt)?.front())
+            }
+            Point::Iterate(stmt, index) => self.point_before_iterate(stmt, index),
+            Point::Exit(stmt) => Some(Point::Fix(stmt)),
+            Point::Entry | Point::Body | Point::Leap(_, _) => None,
+        }
+    }
+
+    /// The point of the first input of an iterate.
+    #[inline]
+    fn point_before_iterate(&self, stmt: StmtId, index: u32) -> Option<Point> {
+        if index == 0 {
+            return None;
+        }
+        Some(before_iterate(&self.node(stmt)?, index - 1))
     }
 
     /// The row of a name, by the last frame of its path and its point: for a name that the program has, exactly its

@@ -109,6 +109,41 @@ pub fn post_row<'a>(node: &Node<'a>) -> Option<Row<'a>>
     }
 }
 
+/// The point of the first input of the row after a statement with a condition.
+#[inline]
+fn before_branching<'a>(prog: &'a View<'a>, entry: &'a Entry) -> Point {
+    match entry.part.node() {
+        StmtNode::While(_, _) => before_behind_loop(entry.number, &leaves_of(prog, entry)),
+        _ => then_end(entry),
+    }
+}
+
+/// The point of the first input of the row after a loop.
+#[inline]
+fn before_behind_loop(head: StmtId, leaves: &Leaves<'_>) -> Point {
+    let count = leaves.len();
+    if count == 0 {
+        Point::Fix(head)
+    } else {
+        joined_at(head, leaves, count - 1)
+    }
+}
+
+/// The point of the first input of the row after a statement, in the same path.
+#[inline]
+pub fn before_post(node: &Node<'_>) -> Point {
+    match &node.known.form {
+        SlotForm::Cond(_) => before_branching(node.prog, node.known),
+        _ => front_of(node.known),
+    }
+}
+
+/// The point of the first input of the iterate after that of this index.
+#[inline]
+pub fn before_iterate(node: &Node<'_>, index: u32) -> Point {
+    iterate_at(node.stmt(), node.front(), index)
+}
+
 /// Into the procedure that a statement calls.
 #[tactic(auto, using(crate::proofs::RowLemmas::enters_none))]
 #[inline]
