@@ -225,10 +225,15 @@ fn result_of<D: Domain, L: Ledger>(
         left,
         right,
     };
+    if let Some(state) = store.recent.get(&key) {
+        return Ok(state);
+    }
     if let Some(state) = store.memo.get(&key) {
+        store.recent.keep(&key, state);
         return Ok(state);
     }
     let number = make_state(alloc, dom, &mut store.states, row, left, right, steps)?;
+    store.recent.keep(&key, number);
     let _ = store.memo.keep(key, number);
     Ok(number)
 }

@@ -18,7 +18,7 @@ use cell_names::Names;
 use cell_removal::commit;
 use daig_graph::Graph;
 use domain_laws::Domain;
-use memo_table::Memo;
+use memo_table::{Memo, RecentResults};
 use state_table::StateTable;
 use std::alloc::Global;
 
@@ -51,12 +51,14 @@ impl<D: Domain + Drop> Engine<D> {
         let spare = memo.saturating_mul(4).saturating_add(SLACK);
         let memo = Memo::new(alloc, memo)?;
         let operations = OperationTable::new(alloc)?;
+        let recent = RecentResults::new(alloc)?;
         let store = Store {
             graph: Graph::new(alloc),
             names: Names::new(alloc),
             states: StateTable::new(alloc),
             operations,
             memo,
+            recent,
         };
         Ok(Engine {
             domain,

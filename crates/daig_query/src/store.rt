@@ -3,7 +3,7 @@ use crate::held::Held;
 use crate::operation_table::OperationTable;
 use cell_names::Names;
 use daig_graph::Graph;
-use memo_table::Memo;
+use memo_table::{Memo, RecentResults};
 use state_table::StateTable;
 use std::hash::Hash;
 
@@ -15,4 +15,6 @@ pub(crate) struct Store<S: Eq + Hash> {
     pub(crate) states: StateTable<S>,
     pub(crate) operations: OperationTable,
     pub(crate) memo: Memo<S>,
+    // what the memo gave or kept last
+    pub(crate) recent: RecentResults,
 }

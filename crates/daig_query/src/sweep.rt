@@ -52,6 +52,7 @@ pub(crate) fn sweep_all<S: Eq + Hash + Drop>(store: &mut Store<S>)
     ensures operations { store.new.operations ≡ [] }
 {
     store.memo.clear();
+    store.recent.clear();
     store.operations.clear();
     let count = store.names.len();
     let mut states = store.states.begin_sweep();

@@ -12,7 +12,9 @@
 mod equality;
 mod memo;
 mod operation;
+mod recent;
 
 pub use equality::{equality_decides, results_stay};
 pub use memo::{Key, Memo};
 pub use operation::Operation;
+pub use recent::RecentResults;
