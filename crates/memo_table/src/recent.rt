@@ -1,99 +1,142 @@
 //! Results that were found last.
+ghost use Rattle.std.specs.Prelude.{◌≡◌, ◌<◌, ◌⊎◌, ℕ, true, [], IfOk, IfSome, IsSome, Contains};
+ghost use Rattle.memo_table.specs.Recent.{key_of, number_of, IsSmall, HasSmallNumbers};
 
 use crate::Key;
 use base_values::Memory;
 use std::alloc::Global;
+use std::marker::Model;
 
 /// How many places there are.
 const PLACES: usize = 4096;
 
-/// A number, or none, in the memory of a number.
-#[inline]
-fn coded(number: Option<usize>) -> usize {
-    match number {
-        None => 0,
-        Some(number) => number.wrapping_add(1),
-    }
-}
-
-/// A key as three plain numbers, and the state that came of it. The operation is coded as one after its number, so that 0 is of none.
+/// A place for a key and for the number of a state. Each number of the key stands as one more than it is, and 0 is none:
+/// a place whose operation is 0 is empty.
 #[derive(Clone, Copy)]
-struct Entry {
+struct Place {
     operation: usize,
     left: usize,
     right: usize,
     state: usize,
 }
 
-/// The number of the state that an operation gave, for the keys that were asked for last: each key has one place, and
-/// displaces the one that stood there. It stands before a [`Memo`](crate::Memo), and forgets more.
+/// An empty place.
+const EMPTY: Place = Place {
+    operation: 0,
+    left: 0,
+    right: 0,
+    state: 0,
+};
+
+/// The numbers of states that operations gave, of the keys that were asked for last. Each key has one place, and
+/// displaces the one that stands there. It stands before a [`Memo`](crate::Memo), costs less to look up, and forgets
+/// more.
 #[derive(Drop)]
 pub struct RecentResults {
-    entries: Vec<Entry>,
+    places: Vec<Place>,
 }
 
-/// The place of a key.
-#[inline]
-fn place_of(operation: usize, left: usize, right: usize) -> usize {
-    let mixed = operation
-        .wrapping_mul(0x9E37_79B9)
-        .wrapping_add(left.wrapping_mul(0x85EB_CA6B))
-        .wrapping_add(right.wrapping_mul(0xC2B2_AE35));
-    (mixed >> 13) & (PLACES - 1)
+impl Model for RecentResults {
+    ghost use Rattle.std.specs.Prelude.{◌≡◌, ℕ, List, vec_len};
+    ghost use Rattle.memo_table.specs.declared.memo.Key.{Key};
+
+    ghost Value = { List (Key × ℕ) };
+
+    ghost use Rattle.memo_table.specs.Recent.{entries_of};
+
+    ghost view = { λ r. entries_of r.places.items };
+
+    ghost invariant = { λ r. vec_len r.places ≡ 4096 };
 }
 
-/// Of no key.
+/// One more than a number, or 0 for none. `None` where that does not fit.
 #[inline]
-fn blank() -> Entry {
-    Entry {
-        operation: 0,
-        left: 0,
-        right: 0,
-        state: 0,
+fn coded(number: Option<usize>) -> Option<usize>
+    ensures is { IfSome result (λ n. number_of n ≡ number) }
+    ensures some { IsSmall number → IsSome result }
+{
+    match number {
+        None => Some(0),
+        Some(number) => number.checked_add(1),
     }
+}
+
+/// A place that holds the number of a state for a key. `None` where a number of the key is the largest there is.
+#[inline]
+fn filled(key: &Key, state: usize) -> Option<Place>
+    ensures key { IfSome result (λ p. key_of p ≡ Some key.now) }
+    ensures state { IfSome result (λ p. p.state ≡ state) }
+    ensures some { HasSmallNumbers key.now → IsSome result }
+{
+    Some(Place {
+        operation: key.operation.checked_add(1)?,
+        left: coded(key.left)?,
+        right: coded(key.right)?,
+        state,
+    })
+}
+
+/// Which of the places that of a key is.
+#[inline]
+fn index_of(place: &Place) -> usize
+    ensures within { result < 4096 }
+{
+    let mixed = place
+        .operation
+        .wrapping_mul(0x9E37_79B9)
+        .wrapping_add(place.left.wrapping_mul(0x85EB_CA6B))
+        .wrapping_add(place.right.wrapping_mul(0xC2B2_AE35));
+    (mixed >> 13) % PLACES
+}
+
+/// Whether two places hold the same key.
+#[inline]
+fn has_same_key(place: &Place, other: &Place) -> bool
+    ensures is { result ≡ true → key_of place.now ≡ key_of other.now }
+{
+    place.operation == other.operation && place.left == other.left && place.right == other.right
 }
 
 impl RecentResults {
     /// No results. It takes the memory for all places.
-    pub fn new(alloc: Global) -> Result<RecentResults, Memory> {
-        let entries = vec![in alloc; blank(); PLACES]?;
-        Ok(RecentResults { entries })
+    pub fn new(alloc: Global) -> Result<RecentResults, Memory>
+        ensures empty { IfOk result (λ r. r ≡ []) }
+    {
+        let places = vec![in alloc; EMPTY; PLACES]?;
+        Ok(RecentResults { places })
     }
 
     /// Forgets all results.
-    pub fn clear(&mut self) {
-        for entry in self.entries.iter_mut() {
-            *entry = blank();
-        }
+    pub fn clear(&mut self)
+        ensures empty { self.new ≡ [] }
+    {
+        self.places.fill(EMPTY);
     }
 
-    /// The number of the state that stands for a key, or `None`.
+    /// The number of the state that is kept for a key, or `None` where none is.
     #[inline]
-    pub fn get(&self, key: &Key) -> Option<usize> {
-        let operation = key.operation.wrapping_add(1);
-        let left = coded(key.left);
-        let right = coded(key.right);
-        let entry = self.entries.get(place_of(operation, left, right))?;
-        if entry.operation == operation && entry.left == left && entry.right == right {
-            Some(entry.state)
+    pub fn get(&self, key: &Key) -> Option<usize>
+        ensures kept { IfSome result (λ n. Contains self.now (key.now, n)) }
+    {
+        let sought = filled(key, 0)?;
+        let place = &self.places[index_of(&sought)];
+        if has_same_key(place, &sought) {
+            Some(place.state)
         } else {
             None
         }
     }
 
-    /// Keeps the number of a state for a key.
+    /// Keeps the number of a state for a key, in place of what stands at the place of that key. Nothing is kept for a key
+    /// one of whose numbers is the largest there is.
     #[inline]
-    pub fn keep(&mut self, key: &Key, state: usize) {
-        let operation = key.operation.wrapping_add(1);
-        let left = coded(key.left);
-        let right = coded(key.right);
-        if let Some(entry) = self.entries.get_mut(place_of(operation, left, right)) {
-            *entry = Entry {
-                operation,
-                left,
-                right,
-                state,
-            };
+    pub fn keep(&mut self, key: &Key, state: usize)
+        ensures kept { HasSmallNumbers key.now → Contains self.new (key.now, state) }
+        ensures others { (k : Key) (n : ℕ) → Contains self.new (k, n) →
+            Contains self.old (k, n) ⊎ ((k ≡ key.now) × (n ≡ state)) }
+    {
+        if let Some(place) = filled(key, state) {
+            self.places[index_of(&place)] = place;
         }
     }
 }

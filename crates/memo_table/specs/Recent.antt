@@ -1,0 +1,36 @@
+-- What the places of recent results hold.
+use Rattle.std.specs.Prelude.{ℕ, zero, suc, ◌<◌, ◌^◌, List, [], ◌∷◌, Option, Some, None}
+use Rattle.memo_table.specs.declared.memo.Key.{Key}
+use Rattle.memo_table.specs.declared.recent.Place.{Place}
+
+-- the number that stands as one more than it is, where 0 is none
+abbrev pub number_of : ℕ → Option ℕ
+number_of zero = None
+number_of (suc n) = Some n
+
+-- the key that has these numbers, if an operation is among them
+abbrev pub key_with : Option ℕ → (left right : Option ℕ) → Option Key
+key_with None left right = None
+key_with (Some operation) left right = Some (record { operation = operation; left = left; right = right })
+
+-- the key of a place, unless that is empty
+abbrev pub key_of : Place → Option Key
+key_of p = key_with (number_of p.operation) (number_of p.left) (number_of p.right)
+
+-- an entry before others, if there is one
+abbrev pub entry_before : Option Key → (state : ℕ) → List (Key × ℕ) → List (Key × ℕ)
+entry_before None state rest = rest
+entry_before (Some key) state rest = (key, state) ∷ rest
+
+-- the keys and states that stand at places
+abbrev pub entries_of : List Place → List (Key × ℕ)
+entries_of [] = []
+entries_of (p ∷ ps) = entry_before (key_of p) p.state (entries_of ps)
+
+-- a number that has one after it
+abbrev pub IsSmall : Option ℕ → Type 0
+IsSmall None = Unit {0}
+IsSmall (Some n) = suc n < 2 ^ 64
+
+abbrev pub HasSmallNumbers : Key → Type 0
+HasSmallNumbers key = IsSmall (Some key.operation) × IsSmall key.left × IsSmall key.right
