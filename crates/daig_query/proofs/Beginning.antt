@@ -22,8 +22,8 @@ module _ {S : Type 0} (store : Store S) where
   none_once : {A : Type 0} (xs : List A) → xs ≡ [] → IsOnce xs
   none_once xs e m n x f k = absurd (let c : None ≡ Some x = sym (ap (λ ys. slice_get ys m) e) ∙ f in cc)
 
-  pub new_right : (dom : Operations S) (plan : Plan) → IsChecked plan.program → store.graph.cells ≡ empty → store.names.paths ≡ [] ∷ [] → store.names.names ≡ [] → store.states ≡ [] → store.memo.entries ≡ [] → IsRight dom plan store
-  new_right dom plan checked cells paths names states memo = record {
+  pub new_right : (dom : Operations S) (plan : Plan) → IsChecked plan.program → store.graph.cells ≡ empty → store.names.paths ≡ [] ∷ [] → store.names.names ≡ [] → store.states ≡ [] → store.memo.entries ≡ [] → store.recent ≡ [] → IsRight dom plan store
+  new_right dom plan checked cells paths names states memo recent = record {
     checked = checked;
     root = ap (λ ps. slice_get ps 0) paths;
     once = none_once store.names.names names;
@@ -34,6 +34,7 @@ module _ {S : Type 0} (store : Store S) where
     };
     cells = λ n f e. absurd (let c : None ≡ Some f = sym (ap (λ m. get m n) cells ∙ get-empty nat_cmp n) ∙ e in cc);
     results = subst (AreResults dom store.operations store.states) (sym memo) (λ key n h. absurd (let l : h.0 < 0 = h.1 in omega arith));
+    recent = subst (AreResults dom store.operations store.states) (sym recent) (λ key n h. absurd (let l : h.0 < 0 = h.1 in omega arith));
   }
     where
       none : (x : CellName) → kept store x ≡ true → ⊥

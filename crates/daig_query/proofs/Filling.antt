@@ -90,7 +90,7 @@ module _ {S : Type 0} (dom : Operations S) (plan : Plan) where
 
   module _ (mid new : Store S) (right : IsRight dom plan mid) (n : ℕ) (x : CellName) (f : Filled Held)
       (number : slice_get mid.names.names n ≡ Some x) (absent : get mid.graph.cells n ≡ None) (has : HasName plan.engine plan.program x) (is : IsCellOf dom plan mid x f) (there : AreCells mid.graph.cells f.inputs)
-      (names : new.names ≡ mid.names) (states : new.states ≡ mid.states) (operations : new.operations ≡ mid.operations) (memo : new.memo ≡ mid.memo) (cells : new.graph.cells ≡ insert mid.graph.cells n f) where
+      (names : new.names ≡ mid.names) (states : new.states ≡ mid.states) (operations : new.operations ≡ mid.operations) (memo : new.memo ≡ mid.memo) (recent : new.recent ≡ mid.recent) (cells : new.graph.cells ≡ insert mid.graph.cells n f) where
     here : get new.graph.cells n ≡ Some f
     here = ap (λ m. get m n) cells ∙ get-insert-here mid.graph.cells n f
 
@@ -187,6 +187,13 @@ module _ {S : Type 0} (dom : Operations S) (plan : Plan) where
         )
         )
 
+    recent_results : AreResults dom new.operations new.states new.recent
+    recent_results = subst (AreResults dom new.operations new.states) (sym recent) (
+        subst (λ s. AreResults dom new.operations s mid.recent) (sym states) (
+        subst (λ p. AreResults dom p mid.states mid.recent) (sym operations) right.recent
+        )
+        )
+
     right_new : IsRight dom plan new
     right_new = record {
       checked = right.checked;
@@ -196,6 +203,7 @@ module _ {S : Type 0} (dom : Operations S) (plan : Plan) where
       kept = set;
       cells = at_cell;
       results = results;
+      recent = recent_results;
     }
 
     one_more : len new.graph.cells ≡ suc (len mid.graph.cells)

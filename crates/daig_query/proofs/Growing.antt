@@ -83,7 +83,7 @@ module _ {S : Type 0} where
   names_no_cell old new h = record { cells = ap (λ g. g.cells) h.graph; few = few_more old new 0 1 (omega arith) (names_few old new h) }
 
   pub names_refl : (store : Store S) → Names store store
-  names_refl store = record { paths = keeps_refl store.names.paths; names = keeps_refl store.names.names; states = refl; operations = refl; memo = refl; graph = refl }
+  names_refl store = record { paths = keeps_refl store.names.paths; names = keeps_refl store.names.names; states = refl; operations = refl; memo = refl; recent = refl; graph = refl }
 
   pub names_trans : (a b c : Store S) → Names a b → Names b c → Names a c
   names_trans a b c h k = record {
@@ -92,6 +92,7 @@ module _ {S : Type 0} where
     states = k.states ∙ h.states;
     operations = k.operations ∙ h.operations;
     memo = k.memo ∙ h.memo;
+    recent = k.recent ∙ h.recent;
     graph = k.graph ∙ h.graph;
   }
 
@@ -138,6 +139,11 @@ module _ {S : Type 0} (dom : Operations S) (plan : Plan) where
     results = subst (λ m. AreResults dom new.operations new.states m.entries) (sym more.memo) (
         subst (λ states. AreResults dom new.operations states old.memo.entries) (sym more.states) (
         subst (λ operations. AreResults dom operations old.states old.memo.entries) (sym more.operations) right.results
+        )
+        );
+    recent = subst (AreResults dom new.operations new.states) (sym more.recent) (
+        subst (λ states. AreResults dom new.operations states old.recent) (sym more.states) (
+        subst (λ operations. AreResults dom operations old.states old.recent) (sym more.operations) right.recent
         )
         );
   }

@@ -1,5 +1,5 @@
 -- Results that are remembered, and stores with more of them.
-use Rattle.std.proofs.Common.{◌≡◌, ℕ, ◌<◌, List, [], length, Option, Some, None, Bool, true, slice_get, refl, sym, ap, ap₂, subst, ◌∙◌}
+use Rattle.std.proofs.Common.{◌≡◌, ℕ, ◌<◌, List, [], length, Option, Some, None, Bool, true, Contains, ◌⊎◌, inl, inr, slice_get, refl, sym, ap, ap₂, subst, ◌∙◌}
 use Rattle.std.specs.FinMap.{get}
 use Rattle.std.specs.Prelude.{IfSome, IsSome}
 use Rattle.domain_laws.specs.Operations.{Operations}
@@ -60,14 +60,21 @@ module _ {S : Type 0} (dom : Operations S) where
       by None e h = absurd cc
       by (Some s) e h = is_result operations states key n row o s at is (made ∙ e) (ap₂ (row_result dom row) left right ∙ e)
 
+  -- results are left where one is added and others may go
+  pub results_kept : (operations : List Operation) (states : List S) (old new : List (Key × ℕ)) (key : Key) (n : ℕ) → ((k : Key) (m : ℕ) → Contains new (k, m) → Contains old (k, m) ⊎ ((k ≡ key) × (m ≡ n))) → AreResults dom operations states old → IsResult dom operations states key n → AreResults dom operations states new
+  results_kept operations states old new key n others are is k m there = elim (others k m there) [
+    | inl before ↦ are k m before
+    | inr added ↦ subst (λ j. IsResult dom operations states j m) (sym added.0) (subst (λ v. IsResult dom operations states key v) (sym added.1) is)
+  ]
+
   -- with more states a row still makes the same
   pub state_grows : (old new : List S) → KeepsNumbers old new → (n : Option ℕ) → IfSome n (λ m. m < length old) → state_at new n ≡ state_at old n
   state_grows old new keeps None h = refl
   state_grows old new keeps (Some n) h = let p = get_some old n h in keeps n p.0 p.1 ∙ sym p.1
 
   module _ (plan : Plan) where
-    pub right_more : (old new : Store S) → IsRight dom plan old → new.graph.cells ≡ old.graph.cells → new.names ≡ old.names → KeepsNumbers old.states new.states → IsOnce new.states → AreResults dom new.operations new.states new.memo.entries → AddsFew 1 old new → Computes dom plan old new
-    right_more old new right graph names keeps single results few = record {
+    pub right_more : (old new : Store S) → IsRight dom plan old → new.graph.cells ≡ old.graph.cells → new.names ≡ old.names → KeepsNumbers old.states new.states → IsOnce new.states → AreResults dom new.operations new.states new.memo.entries → AreResults dom new.operations new.states new.recent → AddsFew 1 old new → Computes dom plan old new
+    right_more old new right graph names keeps single results recent few = record {
       cells = graph;
       names = names;
       states = keeps;
@@ -79,6 +86,7 @@ module _ {S : Type 0} (dom : Operations S) where
         kept = record { named = λ x h. right.kept.named x (sym (same x) ∙ h); closed = λ x y h m. same y ∙ right.kept.closed x y (sym (same x) ∙ h) m };
         cells = λ n f e. cell_at n f (subst (λ m. get m n ≡ Some f) graph e);
         results = results;
+        recent = recent;
       };
       few = few;
     }

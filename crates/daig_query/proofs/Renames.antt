@@ -50,6 +50,7 @@ renames-refl store = record {
   states = refl;
   operations = refl;
   memo = refl;
+  recent = refl;
 }
 
 -- the cell that a cell was
@@ -129,6 +130,11 @@ module _ {S : Type 0} (dom : Operations S) (plan : Plan) (old new : Store S) (r 
         subst (λ operations. AreResults dom operations old.states old.memo.entries) (sym r.operations) right.results
         )
         );
+    recent = subst (AreResults dom new.operations new.states) (sym r.recent) (
+        subst (λ states. AreResults dom new.operations states old.recent) (sym r.states) (
+        subst (λ operations. AreResults dom operations old.states old.recent) (sym r.operations) right.recent
+        )
+        );
   }
 
 -- what is right stays right
@@ -174,8 +180,8 @@ module _ {S : Type 0} (old : Store S) (held : IsInTables old) (numbers : List �
 -- what the cells have then
 pub renames-all : {S : Type 0} (old new : Store S) (held : IsInTables old) (numbers : List ℕ) → AreNamedAnew old.graph.cells old.names.names (length old.names.names) numbers new.names.names →
     Renumbers numbers old.graph.cells new.graph.cells → len new.graph.cells ≡ len old.graph.cells → slice_get new.names.paths 0 ≡ Some [] → IsOnce old.names.names → IsOnce new.names.names →
-    new.states ≡ old.states → new.operations ≡ old.operations → new.memo ≡ old.memo → Renames old new
-renames-all old new held numbers anew moves same_len root once later states operations memo =
+    new.states ≡ old.states → new.operations ≡ old.operations → new.memo ≡ old.memo → new.recent ≡ old.recent → Renames old new
+renames-all old new held numbers anew moves same_len root once later states operations memo recent =
     let named = anew-named old held numbers new.names.names anew in
     record {
       new_of = numbers;
@@ -188,4 +194,5 @@ renames-all old new held numbers anew moves same_len root once later states oper
       states = states;
       operations = operations;
       memo = memo;
+      recent = recent;
     }

@@ -117,8 +117,8 @@ module _ {S : Type 0} (dom : Operations S) (plan : Plan) (old new : Store S) (sw
       )
 
   -- what is right stays right where states have one number and results are right
-  pub swept-right : IsOnce new.states → AreResults dom new.operations new.states new.memo.entries → IsRight dom plan new
-  swept-right single results = record {
+  pub swept-right : IsOnce new.states → AreResults dom new.operations new.states new.memo.entries → AreResults dom new.operations new.states new.recent → IsRight dom plan new
+  swept-right single results recent = record {
     checked = right.checked;
     root = ap (λ k. slice_get k.paths 0) swept.names ∙ right.root;
     once = subst (λ (k : Known). IsOnce k.names) (sym swept.names) right.once;
@@ -126,6 +126,7 @@ module _ {S : Type 0} (dom : Operations S) (plan : Plan) (old new : Store S) (sw
     kept = record { named = λ x h. right.kept.named x (sym (same x) ∙ h); closed = λ x y h m. same y ∙ right.kept.closed x y (sym (same x) ∙ h) m };
     cells = cell-stays;
     results = results;
+    recent = recent;
   }
     where
       same : (x : CellName) → kept new x ≡ kept old x
@@ -172,11 +173,12 @@ module _ {S : Type 0} (old new : Store S) (entries : List (S × ℕ)) (count : �
         ap (λ l. slice_get l (rank entries h.state)) left ∙ marked-at entries h.state m ∙ ap (λ l. slice_get l h.state) states_are;
   }
 
-  pub sweeps-right : (eq : S → S → Bool) → ((s : S) → eq s s ≡ true) → AreOnce eq new.states → new.memo.entries ≡ [] → (dom : Operations S) → StaysRight dom old new
-  sweeps-right eq same once empty dom plan right =
+  pub sweeps-right : (eq : S → S → Bool) → ((s : S) → eq s s ≡ true) → AreOnce eq new.states → new.memo.entries ≡ [] → new.recent ≡ [] → (dom : Operations S) → StaysRight dom old new
+  sweeps-right eq same once empty none dom plan right =
       swept-right dom plan old new sweeps right
       (λ m n s e f. once m n s s e f (same s))
       (subst (AreResults dom new.operations new.states) (sym empty) (no-results dom new.operations new.states))
+      (subst (AreResults dom new.operations new.states) (sym none) (no-results dom new.operations new.states))
 
 -- What is bounded after a sweep is so after a fill.
 module _ {S : Type 0} where

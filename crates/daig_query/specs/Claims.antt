@@ -51,6 +51,7 @@ pub record Lessens {S : Type 0} (old new : Store S) : Type 0 where
   pub states : new.states ≡ old.states
   pub operations : new.operations ≡ old.operations
   pub memo : new.memo ≡ old.memo
+  pub recent : new.recent ≡ old.recent
   pub cells : (n : ℕ) (f : Filled Held) → get new.graph.cells n ≡ Some f → get old.graph.cells n ≡ Some f
 
 -- Where some cells are gone, and those that are left are cells of another program, which finds the same at each, all is

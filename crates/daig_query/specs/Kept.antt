@@ -56,4 +56,5 @@ pub record Names {S : Type 0} (old new : Store S) : Type 0 where
   pub states : new.states ≡ old.states
   pub operations : new.operations ≡ old.operations
   pub memo : new.memo ≡ old.memo
+  pub recent : new.recent ≡ old.recent
   pub graph : new.graph ≡ old.graph

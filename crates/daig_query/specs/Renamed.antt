@@ -40,3 +40,4 @@ module _ {S : Type 0} where
     pub states : new.states ≡ old.states
     pub operations : new.operations ≡ old.operations
     pub memo : new.memo ≡ old.memo
+    pub recent : new.recent ≡ old.recent

@@ -31,8 +31,8 @@ module _ {S : Type 0} (dom : Operations S) (plan : Plan) where
     pub owned : f.owner ≡ owner x.path x.point
 
   -- The program is checked; the first path is empty; names and states have one number; the names that have cells are
-  -- names of the program, and closed under inputs; each cell is that of its number's name; and what is remembered are
-  -- results of operations.
+  -- names of the program, and closed under inputs; each cell is that of its number's name; and what is remembered, and
+  -- what was found last, are results of operations.
   pub record IsRight (store : Store S) : Type 0 where
     pub checked : IsChecked plan.program
     pub root : slice_get store.names.paths 0 ≡ Some []
@@ -41,3 +41,4 @@ module _ {S : Type 0} (dom : Operations S) (plan : Plan) where
     pub kept : AreCells dom plan.engine plan.program same_name (kept store)
     pub cells : (n : ℕ) (f : Filled Held) → get store.graph.cells n ≡ Some f → (x : CellName) × (slice_get store.names.names n ≡ Some x) × IsCellOf store x f
     pub results : AreResults dom store.operations store.states store.memo.entries
+    pub recent : AreResults dom store.operations store.states store.recent

@@ -31,7 +31,7 @@ renamed g c =
     let numbers = c.as_slice.result.now in
     let anew = anew-same store.graph.cells names (length names) made.numbers.items numbers made.names.names c.as_slice.ensures.value c.in_ok-names.ensures.anew in
     renames-all store (record store { graph = c.renumber.new.self; names = made.names }) c.requires.held numbers anew
-    c.renumber.ensures.renumbers c.renumber.ensures.same_len c.in_ok-names.ensures.root c.numbers_are_one.ensures.names c.numbers_are_one-2.ensures.names refl refl refl
+    c.renumber.ensures.renumbers c.renumber.ensures.same_len c.in_ok-names.ensures.root c.numbers_are_one.ensures.names c.numbers_are_one-2.ensures.names refl refl refl refl
 
 pub returns-clause-renames : goal.returns-clause-renames
 returns-clause-renames g c = renamed g c

@@ -39,7 +39,7 @@ returns-clause-puts g c =
     (ap (λ m. get m entry.cell) computes.cells ∙ absent_get dom plan old ready.at.right entry.cell x ready.at.entry.number c.requires.absent)
     ready.at.entry.named is
     (subst (λ m. AreCells m entry.inputs) (sym computes.cells) ready.at.entry.cells)
-    refl refl refl refl e old computes)
+    refl refl refl refl refl e old computes)
 
 pub returns-clause-err : goal.returns-clause-err
 returns-clause-err g c =
@@ -53,6 +53,6 @@ returns-clause-err g c =
       cells = e ∙ computes.cells;
       names = computes.names;
       states = computes.states;
-      right = (right_more dom plan mid _ computes.right e refl (keeps_refl mid.states) computes.right.single computes.right.results (few_more mid _ 0 1 (omega arith) (few_same mid _ refl refl))).right;
+      right = (right_more dom plan mid _ computes.right e refl (keeps_refl mid.states) computes.right.single computes.right.results computes.right.recent (few_more mid _ 0 1 (omega arith) (few_same mid _ refl refl))).right;
       few = few_trans old mid _ 1 0 computes.few (few_same mid _ refl refl);
     })

@@ -9,5 +9,6 @@ returns-clause-lessens g c = record {
   states = refl;
   operations = refl;
   memo = refl;
+  recent = refl;
   cells = λ n f e. without_less c.args.self.now.store.graph.cells c.args.plan n f (ap (λ m. get m n) (sym c.commit.ensures.removes) ∙ e);
 }
