@@ -1,5 +1,5 @@
 -- What the places of recent results hold.
-use Rattle.std.specs.Prelude.{ℕ, zero, suc, ◌<◌, ◌^◌, List, [], ◌∷◌, Option, Some, None}
+use Rattle.std.specs.Prelude.{◌≡◌, ℕ, zero, suc, ◌<◌, ◌+◌, ◌*◌, ◌/◌, ◌%◌, ◌^◌, length, List, [], ◌∷◌, Option, Some, None, slice_get}
 use Rattle.memo_table.specs.declared.memo.Key.{Key}
 use Rattle.memo_table.specs.declared.recent.Place.{Place}
 
@@ -34,3 +34,17 @@ IsSmall (Some n) = suc n < 2 ^ 64
 
 abbrev pub HasSmallNumbers : Key → Type 0
 HasSmallNumbers key = IsSmall (Some key.operation) × IsSmall key.left × IsSmall key.right
+
+-- which of the places that of a key is
+unfoldable pub index_of : Place → ℕ
+index_of p = ((p.operation * 2654435769 % 2 ^ 64 + p.left * 2246822507 % 2 ^ 64) % 2 ^ 64 + p.right * 3266489909 % 2 ^ 64) % 2 ^ 64 / 8192 % 4096
+
+pub record HasSameNumbers (p q : Place) : Type 0 where
+  pub operation : p.operation ≡ q.operation
+  pub left : p.left ≡ q.left
+  pub right : p.right ≡ q.right
+
+-- there are so many places, and each key stands at its own
+pub record ArePlaced (places : List Place) : Type 0 where
+  pub count : length places ≡ 4096
+  pub placed : (i : ℕ) (p : Place) (key : Key) → slice_get places i ≡ Some p → key_of p ≡ Some key → i ≡ index_of p

@@ -1,6 +1,7 @@
 //! Results that were found last.
-ghost use Rattle.std.specs.Prelude.{◌≡◌, ◌<◌, ◌⊎◌, ℕ, true, [], IfOk, IfSome, IsSome, Contains};
-ghost use Rattle.memo_table.specs.Recent.{key_of, number_of, IsSmall, HasSmallNumbers};
+ghost use Rattle.std.specs.Prelude.{◌≡◌, ◌<◌, ◌⊎◌, ℕ, Some, [], IfOk, IfSome, IsSome, Contains};
+ghost use Rattle.std.specs.Bool.{Decides};
+ghost use Rattle.memo_table.specs.Recent.{HasSameNumbers, HasSmallNumbers, IsSmall, index_of, key_of, number_of};
 
 use crate::Key;
 use base_values::Memory;
@@ -37,16 +38,16 @@ pub struct RecentResults {
 }
 
 impl Model for RecentResults {
-    ghost use Rattle.std.specs.Prelude.{◌≡◌, ℕ, List, vec_len};
+    ghost use Rattle.std.specs.Prelude.{ℕ, List};
     ghost use Rattle.memo_table.specs.declared.memo.Key.{Key};
 
     ghost Value = { List (Key × ℕ) };
 
-    ghost use Rattle.memo_table.specs.Recent.{entries_of};
+    ghost use Rattle.memo_table.specs.Recent.{entries_of, ArePlaced};
 
     ghost view = { λ r. entries_of r.places.items };
 
-    ghost invariant = { λ r. vec_len r.places ≡ 4096 };
+    ghost invariant = { λ r. ArePlaced r.places.items };
 }
 
 /// One more than a number, or 0 for none. `None` where that does not fit.
@@ -79,6 +80,7 @@ fn filled(key: &Key, state: usize) -> Option<Place>
 /// Which of the places that of a key is.
 #[inline]
 fn index_of(place: &Place) -> usize
+    ensures is { result ≡ index_of place.now }
     ensures within { result < 4096 }
 {
     let mixed = place
@@ -92,7 +94,7 @@ fn index_of(place: &Place) -> usize
 /// Whether two places hold the same key.
 #[inline]
 fn has_same_key(place: &Place, other: &Place) -> bool
-    ensures is { result ≡ true → key_of place.now ≡ key_of other.now }
+    ensures is { Decides result (HasSameNumbers place.now other.now) }
 {
     place.operation == other.operation && place.left == other.left && place.right == other.right
 }
@@ -117,6 +119,8 @@ impl RecentResults {
     #[inline]
     pub fn get(&self, key: &Key) -> Option<usize>
         ensures kept { IfSome result (λ n. Contains self.now (key.now, n)) }
+        ensures found { (n : ℕ) → HasSmallNumbers key.now → Contains self.now (key.now, n) →
+            result ≡ Some n }
     {
         let sought = filled(key, 0)?;
         let place = &self.places[index_of(&sought)];
