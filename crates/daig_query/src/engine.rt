@@ -37,8 +37,8 @@ pub struct Engine<D: Domain> {
 }
 
 impl<D: Domain + Drop> Engine<D> {
-    /// An engine that keeps nothing, and remembers at most so many results of operations. It is right for every checked
-    /// program.
+    /// An engine that keeps nothing, and remembers at most so many results of operations beside 4,096 found last. It is
+    /// right for every checked program.
     pub fn new(alloc: Global, domain: D, memo: usize) -> Result<Engine<D>, Memory>
         requires some { 0 < memo }
         ensures spare { IfOk result (λ e. e.spare ≤ 4 * memo + 4096) }
