@@ -18,6 +18,10 @@ first_of (Two op a b) = Some a
 first_of (Fixed n z w p) = Some (name w p)
 first_of (Joins stays l n w p) = Some l
 
+-- If there is a row, its first input is this.
+abbrev pub BeginsWith : Option Row → CellName → Type 0
+BeginsWith o x = (r : Row) → o ≡ Some r → first_of r ≡ Some x
+
 -- the second of an operation on two values
 abbrev pub second_of : Row → Option CellName
 second_of (Init layout) = None

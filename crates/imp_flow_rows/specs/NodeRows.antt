@@ -31,6 +31,24 @@ abbrev pub joined_at : (n : ℕ) → List ℕ → (i : ℕ) → Point
 joined_at n breaks zero = Exit n
 joined_at n breaks (suc i) = Leap n (item breaks i)
 
+-- The point of the first input of the row after the loop n, by how many breaks it has, and after any statement.
+abbrev pub before_behind : (n : ℕ) → List Leave → ℕ → Point
+before_behind n ls zero = Fix n
+before_behind n ls (suc i) = joined_at n (breaks_of ls) i
+
+abbrev pub before_by : (n : ℕ) → Point → Shape → Point
+before_by n p (Act s) = p
+before_by n p (If g t e) = t
+before_by n p (While g end ls) = before_behind n ls (length ls)
+before_by n p (Call i q end) = p
+
+abbrev pub before_post : Node → Point
+before_post x = before_by x.stmt x.front x.shape
+
+-- the same of the iterate after the k-th
+abbrev pub before_iterate : (k : ℕ) → Node → Point
+before_iterate k x = iterate_at x.stmt x.front k
+
 abbrev pub where_so : {A : Type 0} → Bool → A → Option A
 where_so true a = Some a
 where_so false a = None

@@ -19,4 +19,7 @@ mod rows;
 pub use input::{Input, Way};
 pub use node::{Leave, Leaves, Node, Shape, behind_or};
 pub use row::{Binary, Row, Unary};
-pub use rows::{branch_row, enter_row, exit_row, fix_row, leap_row, next_row, post_row, turn_row};
+pub use rows::{
+    before_iterate, before_post, branch_row, enter_row, exit_row, fix_row, leap_row, next_row,
+    post_row, turn_row,
+};

@@ -1,11 +1,14 @@
 //! The rows of a statement's points.
-ghost use Rattle.std.specs.Prelude.{ℕ, ◌≡◌, ◌≤◌, ◌<◌, Some, length, option_map, IfSome, List, ◌∷◌};
+ghost use Rattle.std.specs.Prelude.{ℕ, ℤ, ◌≡◌, ◌≤◌, ◌<◌, Some, length, option_map, IfSome, List, ◌∷◌};
+ghost use Rattle.imp_slots.specs.Plain.{Guard};
+ghost use Rattle.batch_meaning.specs.Batch.{LoopOptions};
 ghost use Rattle.imp_flow_rows.specs.Near.{PathFrame};
-ghost use Rattle.cell_rows.specs.Names.{place_of};
+ghost use Rattle.cell_rows.specs.Names.{name, place_of};
 ghost use Rattle.imp_flow_rows.specs.Entered.{known_in, front_point, branching, leaves_now, node_now};
 ghost use Rattle.imp_flow_rows.specs.Near.{row_in};
+ghost use Rattle.imp_flow_rows.specs.Inputs.{BeginsWith};
 ghost use Rattle.imp_flow_rows.specs.Shapes as plain;
-ghost use Rattle.imp_flow_rows.specs.NodeRows.{iterate_at, joined_at, breaks_of, joins_at, behind_loop, post_at, post_by, enter_at, branch_at, turn_at, next_at, fix_at, exit_at, leap_at};
+ghost use Rattle.imp_flow_rows.specs.NodeRows.{iterate_at, joined_at, before_behind, before_by, before_post, before_iterate, breaks_of, joins_at, behind_loop, post_at, post_by, enter_at, branch_at, turn_at, next_at, fix_at, exit_at, leap_at};
 
 use crate::input::Input;
 use crate::node::{
@@ -107,6 +110,56 @@ pub fn post_row<'a>(node: &Node<'a>) -> Option<Row<'a>>
             behind_call(entry, call, end_in(prog, entry.context.proc, *callee))
         }
     }
+}
+
+/// The point of the first input of the row after a loop.
+#[inline]
+fn before_behind_loop(head: StmtId, leaves: &Leaves<'_>) -> Point
+    ensures is { result ≡ before_behind head (leaves_now leaves.now)
+        (length (leaves_now leaves.now)) }
+{
+    let count = leaves.len();
+    if count == 0 {
+        Point::Fix(head)
+    } else {
+        joined_at(head, leaves, count - 1)
+    }
+}
+
+/// The point of the first input of the row after a statement with a condition.
+#[inline]
+fn before_branching<'a>(prog: &'a View<'a>, entry: &'a Entry) -> Point
+    ensures is { (g : Guard) → result ≡ before_by entry.now.number (front_point entry.now)
+        (branching (known_in prog.now) entry.now g entry.now.part) }
+{
+    match entry.part.node() {
+        StmtNode::While(_, _) => before_behind_loop(entry.number, &leaves_of(prog, entry)),
+        _ => then_end(entry),
+    }
+}
+
+/// The point of the first input of the row after a statement. Both names have the same path.
+#[tactic(auto, using(crate::proofs::RowLemmas::begins_post))]
+#[inline]
+pub fn before_post(node: &Node<'_>) -> Point
+    ensures is { result ≡ before_post (node_now node.now) }
+    ensures first { (w : List PathFrame) → BeginsWith (post_at w (node_now node.now))
+        (name w result) }
+{
+    match &node.known.form {
+        SlotForm::Cond(_) => before_branching(node.prog, node.known),
+        _ => front_of(node.known),
+    }
+}
+
+/// The point of the first input of the iterate of a loop after that of this index. Both names have the same path.
+#[inline]
+pub fn before_iterate(node: &Node<'_>, index: u32) -> Point
+    ensures is { result ≡ before_iterate index (node_now node.now) }
+    ensures first { (w : List PathFrame) (engine : LoopOptions) (thresholds : List ℤ) →
+        BeginsWith (next_at w engine thresholds index (node_now node.now)) (name w result) }
+{
+    iterate_at(node.stmt(), node.front(), index)
 }
 
 /// Into the procedure that a statement calls.
