@@ -1,24 +1,27 @@
 //! The flow of a program.
-ghost use Rattle.std.specs.Prelude.{true, false, ◌≡◌, option_map, Some, List, ◌∷◌, reverse};
+ghost use Rattle.std.specs.Prelude.{true, false, ◌≡◌, option_map, Some, IfSome, List, ◌∷◌, reverse};
 ghost use Rattle.imp_slots.specs.Fits.{IsChecked};
 ghost use Rattle.imp_check.specs.Slots.{routines_of};
 ghost use Rattle.batch_meaning.specs.Places.{main_layout};
 ghost use Rattle.call_contexts.specs.Settings.{setting_of};
 ghost use Rattle.cell_names.specs.declared.frame.Point.TheVariants.{Entry, Body, Iterate};
+ghost use Rattle.cell_rows.specs.Names.{name};
 ghost use Rattle.cell_rows.specs.Rows.{Init};
 ghost use Rattle.cell_rows.specs.Flat.{flat_row};
 ghost use Rattle.imp_flow_rows.specs.Entered.{node_now};
 ghost use Rattle.imp_flow_rows.specs.Near.{PathFrame, last_frame, row_in};
-ghost use Rattle.imp_flow_rows.specs.NodeRows.{branch_at, post_at, fix_at, exit_at, leap_at};
+ghost use Rattle.imp_flow_rows.specs.Inputs.{BeginsWith};
+ghost use Rattle.imp_flow_rows.specs.NodeRows.{before_post, branch_at, post_at, fix_at, exit_at, leap_at};
 ghost use Rattle.imp_flow.specs.Nodes.{node_of};
-ghost use Rattle.imp_flow.specs.Plans.{loops_at, thresholds_at, plan_nodes, plan_of, by_node, node_row};
+ghost use Rattle.imp_flow.specs.Plans.{loops_at, thresholds_at, plan_nodes, plan_of, by_node, node_row, front_of, point_before};
 
 use crate::nodes::node_of;
 use call_contexts::{Setting, main_place};
 use cell_names::{NameFrame, Point};
 use imp_chains::Widening;
 use imp_flow_rows::{
-    Node, Row, branch_row, enter_row, exit_row, fix_row, leap_row, next_row, post_row, turn_row,
+    Node, Row, before_iterate, before_post, branch_row, enter_row, exit_row, fix_row, leap_row,
+    next_row, post_row, turn_row,
 };
 use imp_slots::Layout;
 use imp_syntax::{ProcId, StmtId};
@@ -296,6 +299,61 @@ impl<'a> Flow<'a> {
             Point::Fix(stmt) => self.fix_row(stmt),
             Point::Exit(stmt) => self.exit_row(stmt),
             Point::Leap(stmt, last) => self.leap_row(stmt, last),
+        }
+    }
+
+    /// The point before a statement.
+    #[inline]
+    fn front_of(&self, stmt: StmtId) -> Option<Point>
+        ensures is { result ≡ front_of self.now stmt }
+    {
+        match self.node(stmt) {
+            None => None,
+            Some(node) => Some(node.front()),
+        }
+    }
+
+    /// The point of the first input of the row after a statement.
+    #[inline]
+    fn point_before_post(&self, stmt: StmtId) -> Option<Point>
+        ensures is { result ≡ option_map before_post (node_of (plan_nodes self.now) stmt) }
+    {
+        match self.node(stmt) {
+            None => None,
+            Some(node) => Some(before_post(&node)),
+        }
+    }
+
+    /// The point of the first input of an iterate.
+    #[tactic(auto, using(crate::proofs::FlowLemmas::before_gone))]
+    #[inline]
+    fn point_before_iterate(&self, stmt: StmtId, index: u32) -> Option<Point>
+        ensures is { result ≡ point_before self.now (Iterate stmt index) }
+    {
+        if index == 0 {
+            return None;
+        }
+        match self.node(stmt) {
+            None => None,
+            Some(node) => Some(before_iterate(&node, index - 1)),
+        }
+    }
+
+    /// The point of the first input of a name's row, by the name's point, where both have the same path. It spares the
+    /// row where that input is to be filled first. It is `None` for the start of a body, and after a loop with some of
+    /// its breaks, where the row alone tells it. It takes constant time.
+    #[inline]
+    pub fn point_before(&self, point: Point) -> Option<Point>
+        ensures is { result ≡ point_before self.now point }
+        ensures first { IfSome result (λ p. (w : List PathFrame) → BeginsWith
+            (flat_row self.now.engine (reverse self.now.program) w point) (name w p)) }
+    {
+        match point {
+            Point::Post(stmt) => self.point_before_post(stmt),
+            Point::Then(stmt) | Point::Else(stmt) | Point::Fix(stmt) => self.front_of(stmt),
+            Point::Iterate(stmt, index) => self.point_before_iterate(stmt, index),
+            Point::Exit(stmt) => Some(Point::Fix(stmt)),
+            Point::Entry | Point::Body | Point::Leap(_, _) => None,
         }
     }
 
