@@ -128,23 +128,23 @@ module _ {K : Type 0} (decide : Decides K) (old new : K → Option (Member K)) (
     next_rank : K → ℕ
     next_rank k = rank_by k (decide k key)
 
+    rank_by-new : (k : K) (d : (k ≡ key) ⊎ (k ≢ key)) → k ≡ key → rank_by k d ≡ linked.peak
+    unfolding rank_by
+    rank_by-new k (inl f) e = refl
+    rank_by-new k (inr f) e = absurd (f e)
+
+    rank_by-old : (k : K) (d : (k ≡ key) ⊎ (k ≢ key)) → k ≢ key → rank_by k d ≡ linked.rank k
+    unfolding rank_by
+    rank_by-old k (inl f) e = absurd (e f)
+    rank_by-old k (inr f) e = refl
+
     rank-new : (k : K) → k ≡ key → next_rank k ≡ linked.peak
     unfolding next_rank
-    rank-new k e = by (decide k key)
-      where
-        by : (d : (k ≡ key) ⊎ (k ≢ key)) → rank_by k d ≡ linked.peak
-        unfolding rank_by
-        by (inl f) = refl
-        by (inr f) = absurd (f e)
+    rank-new k e = rank_by-new k (decide k key) e
 
     rank-old : (k : K) → k ≢ key → next_rank k ≡ linked.rank k
     unfolding next_rank
-    rank-old k e = by (decide k key)
-      where
-        by : (d : (k ≡ key) ⊎ (k ≢ key)) → rank_by k d ≡ linked.rank k
-        unfolding rank_by
-        by (inl f) = absurd (e f)
-        by (inr f) = refl
+    rank-old k e = rank_by-old k (decide k key) e
 
     falls_from : (k j : K) (m : Member K) → old k ≡ Some m → m.next ≡ Some j → next_rank j < next_rank k
     falls_from k j m e some =

@@ -172,7 +172,8 @@ module _ {K : Type 0} (decide : Decides K) (old new : K → Option (Member K)) (
               let b : r.before ≡ Some j = sym h.2 ∙ some in
               let n = linked.back key j r p.there b in
               let side = before_of_next linked p.there k w.0 h.0 w.1 in
-              (record n.0 { next = r.next }, p.before j n.0 b n.1, n.2 ∙ sym side.1 ∙ sym w.2.list_same, h.0)
+              let here : r.list ≡ m.list = sym side.1 ∙ sym w.2.list_same in
+              (record n.0 { next = r.next }, p.before j n.0 b n.1, n.2 ∙ here, h.0)
           | inr h ↦
               let n = linked.back k j w.0 w.1 (sym h.0 ∙ some) in
               let nj : j ≢ key = λ same. h.1 (sym h.0 ∙ some ∙ ap Some same) in
@@ -200,7 +201,8 @@ module _ {K : Type 0} (decide : Decides K) (old new : K → Option (Member K)) (
               let a : r.next ≡ Some j = sym h.2 ∙ some in
               let n = linked.ahead key j r p.there a in
               let side = next_of_before linked p.there k w.0 h.0 w.1 in
-              (record n.0 { before = r.before }, p.next j n.0 a n.1, n.2 ∙ sym side.1 ∙ sym w.2.list_same, h.0)
+              let here : r.list ≡ m.list = sym side.1 ∙ sym w.2.list_same in
+              (record n.0 { before = r.before }, p.next j n.0 a n.1, n.2 ∙ here, h.0)
           | inr h ↦
               let n = linked.ahead k j w.0 w.1 (sym h.0 ∙ some) in
               let nj : j ≢ key = λ same. h.1 (sym h.0 ∙ some ∙ ap Some same) in
