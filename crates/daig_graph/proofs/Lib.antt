@@ -4,3 +4,4 @@ pub mod Filtering
 pub mod Pushing
 pub mod Removing
 pub mod Walking
+pub mod Owning

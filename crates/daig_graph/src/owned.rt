@@ -189,6 +189,7 @@ impl Owned {
 /// Another cell, or none, comes before that of a link, if there is one.
 #[inline]
 fn set_before(members: &mut Vec<Option<OwnedCell>>, link: CellLink, before: CellLink)
+    requires there { (n : ℕ) → link ≡ Some n → n < length members.old.items }
     ensures set { (n : ℕ) (m : _) → link ≡ Some n → owned_at members.old.items n ≡ Some m →
         owned_at members.new.items n ≡ Some (record m { before = before }) }
     ensures others { (n : ℕ) → (link ≡ Some n → owned_at members.old.items n ≡ None) →
@@ -196,7 +197,7 @@ fn set_before(members: &mut Vec<Option<OwnedCell>>, link: CellLink, before: Cell
     ensures places { length members.new.items ≡ length members.old.items }
 {
     if let Some(cell) = link.cell() {
-        if let Some(Some(member)) = members.get_mut(cell) {
+        if let Some(member) = &mut members[cell] {
             member.before = before;
         }
     }
@@ -205,6 +206,7 @@ fn set_before(members: &mut Vec<Option<OwnedCell>>, link: CellLink, before: Cell
 /// Another cell, or none, comes after that of a link, if there is one.
 #[inline]
 fn set_next(members: &mut Vec<Option<OwnedCell>>, link: CellLink, next: CellLink)
+    requires there { (n : ℕ) → link ≡ Some n → n < length members.old.items }
     ensures set { (n : ℕ) (m : _) → link ≡ Some n → owned_at members.old.items n ≡ Some m →
         owned_at members.new.items n ≡ Some (record m { next = next }) }
     ensures others { (n : ℕ) → (link ≡ Some n → owned_at members.old.items n ≡ None) →
@@ -212,7 +214,7 @@ fn set_next(members: &mut Vec<Option<OwnedCell>>, link: CellLink, next: CellLink
     ensures places { length members.new.items ≡ length members.old.items }
 {
     if let Some(cell) = link.cell() {
-        if let Some(Some(member)) = members.get_mut(cell) {
+        if let Some(member) = &mut members[cell] {
             member.next = next;
         }
     }
