@@ -3,5 +3,7 @@ pub mod Maps
 pub mod Filtering
 pub mod Pushing
 pub mod Removing
+pub mod Linking
 pub mod Walking
 pub mod Owning
+pub mod OwnedWalk

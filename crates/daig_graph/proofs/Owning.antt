@@ -1,15 +1,16 @@
 -- Cells on the lists of their owners: what is read of them after a change.
-use Rattle.std.proofs.Common.{◌≡◌, ◌≢◌, ℕ, zero, suc, ◌<◌, ◌≤◌, List, [], ◌∷◌, length, map, Option, Some, None, option_map, slice_set, slice_index_or, refl, sym, ap, ◌∙◌, subst, arith, ◌⊎◌, inl, inr}
+use Rattle.std.proofs.Common.{◌≡◌, ◌≢◌, ℕ, zero, suc, ◌<◌, ◌≤◌, List, [], ◌∷◌, ◌++◌, take, length, map, Option, Some, None, option_map, slice_set, slice_index_or, refl, sym, ap, ◌∙◌, subst, arith, ◌⊎◌, inl, inr}
 use Rattle.daig_graph.specs.declared.owned.OwnedCell.{OwnedCell}
 use Rattle.daig_graph.specs.Buckets.{bucket_of}
 use Rattle.daig_graph.specs.Linked.{Member, AreLinked}
 use Rattle.daig_graph.specs.Owners.{Owners, owned_at, owner_at, owned_member, first_owned, AreOwned}
 use Rattle.daig_graph.proofs.Cases.{none-some, has_item, numbers_differ}
+use Rattle.daig_graph.proofs.Linking.{linked-along}
 use Rattle.daig_graph.proofs.Pushing.{Pushed, linked-push}
 use Rattle.daig_graph.proofs.Removing.{Removed, linked-remove, sides_apart, before_apart, next_apart}
 use Rattle.std.proofs.lemmas.Option.{same_Some}
 use Rattle.std.proofs.lemmas.Bool.{cases_eq}
-use Rattle.std.proofs.lemmas.List.{get_or-set_same, get_or-set_other, ext_get_or, length-set, length-map, get_or-map, get_or_past}
+use Rattle.std.proofs.lemmas.List.{get_or-set_same, get_or-set_other, ext_get_or, length-set, length-map, get_or_default}
 
 abbrev pub owner_of : Option OwnedCell → Option ℕ
 owner_of o = option_map (λ (c : OwnedCell). c.owner) o
@@ -104,6 +105,14 @@ place_of [] n o e = none-some e
 place_of (c ∷ cells) zero o e = omega arith
 place_of (c ∷ cells) (suc n) o e = let h = place_of cells n o e in omega (arith, h)
 
+-- owners and cells have the same places
+pub owned_place : (cells : List (Option OwnedCell)) (of : List (Option ℕ)) (n : ℕ) → owners cells ≡ of → n < length of → n < length cells
+owned_place cells of n e h = let same = ap length e in let long = length-map cells owner_of in omega (arith, h, same, long)
+
+-- what is read at a place
+pub owned_read : (cells : List (Option OwnedCell)) (n : ℕ) (o : Option OwnedCell) → n < length cells → o ≡ slice_index_or cells n o → owned_at cells n ≡ o
+owned_read cells n o h e = get_or_default cells n None o h ∙ sym e
+
 -- a place stays where an item is set
 pub set_place : {A : Type 0} (xs : List A) (i : ℕ) (x : A) (n : ℕ) → n < length xs → n < length (slice_set xs i x)
 set_place xs i x n h = let long = length-set xs i x in omega (arith, long, h)
@@ -133,6 +142,56 @@ put_sets old new cell owner start start2 next next2 link link2 a b d s =
     let Q : Option ℕ → Type 0 = λ o. Sets (slice_set old cell (Some (record { owner = owner; before = start2; next = o }))) new o (λ (m : OwnedCell). record m { before = link }) in
     let R : Option ℕ → Type 0 = λ o. Sets (slice_set old cell (Some (record { owner = owner; before = start2; next = next2 }))) new next2 (λ (m : OwnedCell). record m { before = o }) in
     subst R d (subst Q b (subst P a s))
+
+-- nothing is as good as a place with nothing
+pub push-none : {A : Type 0} (xs : List (Option A)) (n : ℕ) → slice_index_or (xs ++ None ∷ []) n None ≡ slice_index_or xs n None
+push-none [] zero = refl
+push-none [] (suc n) = refl
+push-none (x ∷ xs) zero = refl
+push-none (x ∷ xs) (suc n) = push-none xs n
+
+-- nothing is lost where nothing is beyond
+pub take-none : {A : Type 0} (xs : List (Option A)) (room : ℕ) → ((n : ℕ) → room ≤ n → slice_index_or xs n None ≡ None) → (n : ℕ) → slice_index_or (take room xs) n None ≡ slice_index_or xs n None
+take-none [] zero h n = refl
+take-none [] (suc room) h n = refl
+take-none (x ∷ xs) zero h n = sym (h n (omega arith))
+take-none (x ∷ xs) (suc room) h zero = refl
+take-none (x ∷ xs) (suc room) h (suc n) = take-none xs room (λ i l. h (suc i) (omega (arith, l))) n
+
+pub owners-take : (cells : List (Option OwnedCell)) (room : ℕ) → owners (take room cells) ≡ take room (owners cells)
+owners-take [] zero = refl
+owners-take [] (suc room) = refl
+owners-take (c ∷ cells) zero = refl
+owners-take (c ∷ cells) (suc room) = ap (λ r. owner_of c ∷ r) (owners-take cells room)
+
+-- the same cells have the same owners
+pub owners-along : (old new : List (Option OwnedCell)) → ((n : ℕ) → owned_at new n ≡ owned_at old n) → (n : ℕ) → owner_at (owners new) n ≡ owner_at (owners old) n
+owners-along old new same n = owner-at new n ∙ ap owner_of (same n) ∙ sym (owner-at old n)
+
+pub owned-along : (old new : List (Option OwnedCell)) (firsts new_firsts : List (Option ℕ)) → ((n : ℕ) → owned_at new n ≡ owned_at old n) → ((l : ℕ) → first_owned new_firsts l ≡ first_owned firsts l)
+    → length firsts ≤ length new_firsts → AreOwned old firsts → AreOwned new new_firsts
+owned-along old new firsts new_firsts same same_first more inv = record {
+  linked = linked-along (owned_member old) (owned_member new) (first_owned firsts) (first_owned new_firsts) (λ n. ap (option_map as_member) (same n)) same_first inv.linked;
+  listed = λ n o e. let h = inv.listed n o (sym (same n) ∙ e) in omega (arith, h, more);
+}
+
+pub owned-none : (cells : List (Option OwnedCell)) (firsts : List (Option ℕ)) → cells ≡ [] → firsts ≡ [] → AreOwned cells firsts
+owned-none cells firsts e f =
+    let no_cell : (n : ℕ) → owned_member cells n ≡ None = λ n. ap (λ s. owned_member s n) e in
+    let no_first : (l : ℕ) → first_owned firsts l ≡ None = λ l. ap (λ s. first_owned s l) f in
+    record {
+      linked = record {
+        first = λ l k h. none-some (sym (no_first l) ∙ h);
+        front = λ k m h n. none-some (sym (no_cell k) ∙ h);
+        back = λ k j m h n. none-some (sym (no_cell k) ∙ h);
+        ahead = λ k j m h n. none-some (sym (no_cell k) ∙ h);
+        rank = λ k. 0;
+        peak = 0;
+        falls = λ k j m h n. none-some (sym (no_cell k) ∙ h);
+        low = λ k m h. none-some (sym (no_cell k) ∙ h);
+      };
+      listed = λ n o h. none-some (sym (ap (λ s. owned_at s n) e) ∙ h);
+    }
 
 module _ (old new : List (Option OwnedCell)) (firsts : List (Option ℕ)) (cell owner : ℕ) where
   abbrev pub put_cell : OwnedCell
@@ -184,3 +243,87 @@ module _ (old new : List (Option OwnedCell)) (firsts : List (Option ℕ)) (cell 
 
     pub owners-put : owners new ≡ slice_set (owners old) cell (Some owner)
     owners-put = sets-owners (slice_set old cell (Some put_cell)) new (first_owned firsts (bucket_of owner)) (λ m. record m { before = Some cell }) (λ m. refl) s ∙ owners-set old cell (Some put_cell)
+
+-- the cells beside one have a place
+module _ (old : List (Option OwnedCell)) (firsts : List (Option ℕ)) (cell : ℕ) (r : OwnedCell) (inv : AreOwned old firsts) (there : owned_at old cell ≡ Some r) where
+  pub next_place : (n : ℕ) → r.next ≡ Some n → n < length old
+  next_place n e =
+      let m = inv.linked.ahead cell n (as_member r) (member_there old cell r there) e in
+      let o = of_member old n m.0 m.1 in
+      place_of old n o.0 o.1
+
+  pub before_place : (n : ℕ) → r.before ≡ Some n → n < length old
+  before_place n e =
+      let m = inv.linked.back cell n (as_member r) (member_there old cell r there) e in
+      let o = of_member old n m.0 m.1 in
+      place_of old n o.0 o.1
+
+module _ (old mid new : List (Option OwnedCell)) (firsts new_firsts : List (Option ℕ)) (cell : ℕ) (r : OwnedCell) (inv : AreOwned old firsts) (there : owned_at old cell ≡ Some r) where
+  module _ (s : Sets (slice_set old cell None) mid r.next (λ m. record m { before = r.before })) (t : Sets mid new r.before (λ m. record m { next = r.next }))
+      (head : r.before ≡ None → new_firsts ≡ slice_set firsts (bucket_of r.owner) r.next) (heads : (j : ℕ) → r.before ≡ Some j → new_firsts ≡ firsts) where
+    own_place : cell < length old
+    own_place = place_of old cell r there
+
+    left-other : (n : ℕ) → n ≢ cell → owned_at (slice_set old cell None) n ≡ owned_at old n
+    left-other n ne = get_or-set_other old cell n None None ne
+
+    not_before : r.before ≢ Some cell
+    not_before b = before_apart numbers_differ (owned_member old) (owned_member new) (first_owned firsts) (first_owned new_firsts) cell (as_member r) inv.linked (member_there old cell r there) cell b refl
+
+    not_next : r.next ≢ Some cell
+    not_next a = next_apart numbers_differ (owned_member old) (owned_member new) (first_owned firsts) (first_owned new_firsts) cell (as_member r) inv.linked (member_there old cell r there) cell a refl
+
+    one_side : (k : ℕ) {P : Type 0} → r.before ≡ Some k → r.next ≡ Some k → P
+    one_side k b a = sides_apart numbers_differ (owned_member old) (owned_member new) (first_owned firsts) (first_owned new_firsts) cell (as_member r) inv.linked (member_there old cell r there) k b a
+
+    other : (k : ℕ) (o : Option ℕ) → o ≢ Some cell → o ≡ Some k → k ≢ cell
+    other k o ne e same = ne (e ∙ ap Some same)
+
+    removed : Removed numbers_differ (owned_member old) (owned_member new) (first_owned firsts) (first_owned new_firsts) cell (as_member r)
+    removed = record {
+      there = member_there old cell r there;
+      gone = ap (option_map as_member) (t.others cell (λ b. absurd (not_before b)) ∙ s.others cell (λ a. absurd (not_next a)) ∙ get_or-set_same old cell None None own_place);
+      before = λ k m b e.
+          let o = of_member old k m e in
+          let was : owned_at mid k ≡ Some o.0 = s.others k (λ a. one_side k b a) ∙ left-other k (other k r.before not_before b) ∙ o.1 in
+          ap (option_map as_member) (t.set k o.0 b was) ∙ ap (λ (n : Member ℕ). Some (record n { next = r.next })) (sym o.2);
+      next = λ k m a e.
+          let o = of_member old k m e in
+          let was : owned_at mid k ≡ Some (record o.0 { before = r.before }) = s.set k o.0 a (left-other k (other k r.next not_next a) ∙ o.1) in
+          ap (option_map as_member) (t.others k (λ b. one_side k b a) ∙ was) ∙ ap (λ (n : Member ℕ). Some (record n { before = r.before })) (sym o.2);
+      others = λ k ne b a. ap (option_map as_member) (t.others k (λ h. absurd (b h)) ∙ s.others k (λ h. absurd (a h)) ∙ left-other k ne);
+      head = λ none. ap (λ f. first_owned f (bucket_of r.owner)) (head none) ∙ get_or-set_same firsts (bucket_of r.owner) r.next None (inv.listed cell r there);
+      heads = λ q ne. by q ne r.before refl;
+    }
+      where
+        by : (q : ℕ) → (r.before ≡ None → q ≢ bucket_of r.owner) → (o : Option ℕ) → r.before ≡ o → first_owned new_firsts q ≡ first_owned firsts q
+        by q ne None e = ap (λ f. first_owned f q) (head e) ∙ get_or-set_other firsts (bucket_of r.owner) q r.next None (ne e)
+        by q ne (Some j) e = ap (λ f. first_owned f q) (heads j e)
+
+    taken-owner : (n : ℕ) → owner_of (owned_at new n) ≡ owner_of (owned_at (slice_set old cell None) n)
+    taken-owner n =
+        sets-owner mid new r.before (λ m. record m { next = r.next }) (λ m. refl) t n
+        ∙ sets-owner (slice_set old cell None) mid r.next (λ m. record m { before = r.before }) (λ m. refl) s n
+
+    pub lists-taken : length new_firsts ≡ length firsts
+    lists-taken = by r.before refl
+      where
+        by : (o : Option ℕ) → r.before ≡ o → length new_firsts ≡ length firsts
+        by None e = ap length (head e) ∙ length-set firsts (bucket_of r.owner) r.next
+        by (Some j) e = ap length (heads j e)
+
+    pub owned-taken : AreOwned new new_firsts
+    owned-taken = record {
+      linked = linked-remove numbers_differ (owned_member old) (owned_member new) (first_owned firsts) (first_owned new_firsts) cell (as_member r) inv.linked removed;
+      listed = listed-along old new (length firsts) (length new_firsts) (let l = lists-taken in omega (arith, l))
+          (λ n x e. elim (cases_eq n cell) [
+            | inl same ↦ none-some (sym (ap owner_of (ap (owned_at (slice_set old cell None)) same ∙ get_or-set_same old cell None None own_place)) ∙ sym (taken-owner n) ∙ e)
+            | inr ne ↦ inl (sym (ap owner_of (left-other n ne)) ∙ sym (taken-owner n) ∙ e)
+          ]) inv.listed;
+    }
+
+    pub owners-taken : owners new ≡ slice_set (owners old) cell None
+    owners-taken =
+        sets-owners mid new r.before (λ m. record m { next = r.next }) (λ m. refl) t
+        ∙ sets-owners (slice_set old cell None) mid r.next (λ m. record m { before = r.before }) (λ m. refl) s
+        ∙ owners-set old cell None

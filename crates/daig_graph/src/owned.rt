@@ -3,7 +3,7 @@ ghost use Rattle.std.specs.Prelude.{◌≡◌, ◌≢◌, ℕ, ◌<◌, ◌≤�
 ghost use Rattle.std.specs.Iterator.{YieldsFirst, item_count};
 ghost use Rattle.daig_graph.specs.Buckets.{bucket_of};
 ghost use Rattle.daig_graph.specs.Held.{IsIn, IsOnce};
-ghost use Rattle.daig_graph.specs.Owners.{owned_at, next_owned, owner_at, IsListed};
+ghost use Rattle.daig_graph.specs.Owners.{first_owned, owned_at, next_owned, owner_at, IsListed};
 
 use crate::graph::Graph;
 use crate::links::CellLink;
@@ -175,14 +175,21 @@ impl Owned {
         ensures once { IsOnce result }
         ensures items { (x : ℕ) → IsIn result x ↔ IsListed self.now.of list x }
     {
-        let next = match self.firsts.get(list) {
-            Some(first) => *first,
-            None => CellLink::none(),
-        };
         Shared {
             members: self.members.as_slice(),
-            next,
+            next: first_cell(self.firsts.as_slice(), list),
         }
+    }
+}
+
+/// The first cell of a list, or none.
+#[inline]
+fn first_cell(firsts: &[CellLink], list: usize) -> CellLink
+    ensures first { result ≡ first_owned firsts.now list }
+{
+    match firsts.get(list) {
+        Some(first) => *first,
+        None => CellLink::none(),
     }
 }
 

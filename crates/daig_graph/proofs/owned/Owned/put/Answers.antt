@@ -2,8 +2,8 @@ use Rattle.std.proofs.Common.{◌≡◌, ℕ, ◌<◌, List, length, None, Optio
 use Rattle.daig_graph.specs.declared.owned.OwnedCell.{OwnedCell}
 use Rattle.daig_graph.specs.Buckets.{bucket_of}
 use Rattle.daig_graph.specs.Owners.{Owners, first_owned, owned_at, AreOwned}
-use Rattle.daig_graph.proofs.Owning.{Sets, owner_of, owned-put, owners, owners-put, owners-are, put_sets, set_place, not_there, owner-at, first_place}
-use Rattle.std.proofs.lemmas.List.{get_or_default, length-map, length-set}
+use Rattle.daig_graph.proofs.Owning.{Sets, owned-put, owners, owners-put, owners-are, put_sets, owned_place, set_place, not_there, owner-at, first_place}
+use Rattle.std.proofs.lemmas.List.{get_or_default, length-set}
 use Rattle.daig_graph.proofs.owned.Owned.put.Goals.{After-index-next}
 use Rattle.daig_graph.proofs.owned.Owned.put.Goals as goal
 
@@ -19,10 +19,7 @@ cells-are : (c : After-index-next) → owners c.self.inside.members.items ≡ c.
 cells-are c = ap (λ v. v.of) c.self.view_is
 
 place : (c : After-index-next) → c.args.cell < length c.self.inside.members.items
-place c =
-    let cells = ap length (cells-are c) in
-    let long = length-map c.self.inside.members.items owner_of in
-    omega (arith, c.requires.place, cells, long)
+place c = owned_place c.self.inside.members.items c.args.self.now.of c.args.cell (cells-are c) c.requires.place
 
 none : (c : After-index-next) → owned_at c.self.inside.members.items c.args.cell ≡ None
 none c =
