@@ -7,3 +7,4 @@ pub mod Linking
 pub mod Walking
 pub mod Owning
 pub mod OwnedWalk
+pub mod UseWalk

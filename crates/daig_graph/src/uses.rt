@@ -77,13 +77,9 @@ impl Uses {
         ensures uses { (u : Use) → IsIn result u ↔
             (slice_get (inputs_at self.now u.cell) u.place ≡ Some cell) }
     {
-        let next = match self.links.get(cell) {
-            Some(links) => links.first,
-            None => UseLink::none(),
-        };
         Dependents {
             links: self.links.as_slice(),
-            next,
+            next: first_use(self.links.as_slice(), cell),
         }
     }
 
@@ -141,6 +137,17 @@ impl Uses {
         self.links.truncate(room);
         self.inputs.shrink_to_fit();
         self.links.shrink_to_fit();
+    }
+}
+
+/// The first use of a number, or none.
+#[inline]
+fn first_use(links: &[Links], cell: usize) -> UseLink
+    ensures first { result ≡ first_at links.now cell }
+{
+    match links.get(cell) {
+        Some(links) => links.first,
+        None => UseLink::none(),
     }
 }
 
