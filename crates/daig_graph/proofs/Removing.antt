@@ -164,22 +164,24 @@ module _ {K : Type 0} (decide : Decides K) (old new : K → Option (Member K)) (
           ],
         )
 
-    next_back : (k j : K) (m : Member K) → new k ≡ Some m → m.before ≡ Some j → (n : Member K) × (new j ≡ Some n) × (n.list ≡ m.list) × (n.next ≡ Some k)
-    next_back k j m e some =
-        let w = was_there k m e (old k) refl in
-        elim w.2.before_is [
+    back_from : (k j : K) (m was : Member K) → old k ≡ Some was → Became k was m → k ≢ key → m.before ≡ Some j → (n : Member K) × (new j ≡ Some n) × (n.list ≡ m.list) × (n.next ≡ Some k)
+    back_from k j m was at b ne some =
+        elim b.before_is [
           | inl h ↦
-              let b : r.before ≡ Some j = sym h.2 ∙ some in
-              let n = linked.back key j r p.there b in
-              let side = before_of_next linked p.there k w.0 h.0 w.1 in
-              let here : r.list ≡ m.list = sym side.1 ∙ sym w.2.list_same in
-              (record n.0 { next = r.next }, p.before j n.0 b n.1, n.2 ∙ here, h.0)
+              let f : r.before ≡ Some j = sym h.2 ∙ some in
+              let n = linked.back key j r p.there f in
+              let side = before_of_next linked p.there k was h.0 at in
+              let here : r.list ≡ m.list = sym side.1 ∙ sym b.list_same in
+              (record n.0 { next = r.next }, p.before j n.0 f n.1, n.2 ∙ here, h.0)
           | inr h ↦
-              let n = linked.back k j w.0 w.1 (sym h.0 ∙ some) in
+              let n = linked.back k j was at (sym h.0 ∙ some) in
               let nj : j ≢ key = λ same. h.1 (sym h.0 ∙ some ∙ ap Some same) in
-              let f = facing k j n.0 nj (left k m e) n.1 n.3 in
-              (f.0, f.1, f.2 ∙ n.2 ∙ sym w.2.list_same, f.3)
+              let f = facing k j n.0 nj ne n.1 n.3 in
+              (f.0, f.1, f.2 ∙ n.2 ∙ sym b.list_same, f.3)
         ]
+
+    next_back : (k j : K) (m : Member K) → new k ≡ Some m → m.before ≡ Some j → (n : Member K) × (new j ≡ Some n) × (n.list ≡ m.list) × (n.next ≡ Some k)
+    next_back k j m e some = let w = was_there k m e (old k) refl in back_from k j m w.0 w.1 w.2 (left k m e) some
 
     backing : (k j : K) (n : Member K) → j ≢ key → k ≢ key → old j ≡ Some n → n.before ≡ Some k → (to : Member K) × (new j ≡ Some to) × (to.list ≡ n.list) × (to.before ≡ Some k)
     backing k j n nj nk e a =
@@ -193,22 +195,24 @@ module _ {K : Type 0} (decide : Decides K) (old new : K → Option (Member K)) (
           ],
         )
 
-    next_ahead : (k j : K) (m : Member K) → new k ≡ Some m → m.next ≡ Some j → (n : Member K) × (new j ≡ Some n) × (n.list ≡ m.list) × (n.before ≡ Some k)
-    next_ahead k j m e some =
-        let w = was_there k m e (old k) refl in
-        elim w.2.next_is [
+    ahead_from : (k j : K) (m was : Member K) → old k ≡ Some was → Became k was m → k ≢ key → m.next ≡ Some j → (n : Member K) × (new j ≡ Some n) × (n.list ≡ m.list) × (n.before ≡ Some k)
+    ahead_from k j m was at b ne some =
+        elim b.next_is [
           | inl h ↦
               let a : r.next ≡ Some j = sym h.2 ∙ some in
               let n = linked.ahead key j r p.there a in
-              let side = next_of_before linked p.there k w.0 h.0 w.1 in
-              let here : r.list ≡ m.list = sym side.1 ∙ sym w.2.list_same in
+              let side = next_of_before linked p.there k was h.0 at in
+              let here : r.list ≡ m.list = sym side.1 ∙ sym b.list_same in
               (record n.0 { before = r.before }, p.next j n.0 a n.1, n.2 ∙ here, h.0)
           | inr h ↦
-              let n = linked.ahead k j w.0 w.1 (sym h.0 ∙ some) in
+              let n = linked.ahead k j was at (sym h.0 ∙ some) in
               let nj : j ≢ key = λ same. h.1 (sym h.0 ∙ some ∙ ap Some same) in
-              let f = backing k j n.0 nj (left k m e) n.1 n.3 in
-              (f.0, f.1, f.2 ∙ n.2 ∙ sym w.2.list_same, f.3)
+              let f = backing k j n.0 nj ne n.1 n.3 in
+              (f.0, f.1, f.2 ∙ n.2 ∙ sym b.list_same, f.3)
         ]
+
+    next_ahead : (k j : K) (m : Member K) → new k ≡ Some m → m.next ≡ Some j → (n : Member K) × (new j ≡ Some n) × (n.list ≡ m.list) × (n.before ≡ Some k)
+    next_ahead k j m e some = let w = was_there k m e (old k) refl in ahead_from k j m w.0 w.1 w.2 (left k m e) some
 
     next_falls : (k j : K) (m : Member K) → new k ≡ Some m → m.next ≡ Some j → linked.rank j < linked.rank k
     next_falls k j m e some =
