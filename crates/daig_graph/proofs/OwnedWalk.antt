@@ -4,7 +4,7 @@ use Rattle.daig_graph.specs.declared.owned.OwnedCell.{OwnedCell}
 use Rattle.daig_graph.specs.Buckets.{bucket_of}
 use Rattle.daig_graph.specs.Held.{IsIn, IsOnce}
 use Rattle.daig_graph.specs.Linked.{Member}
-use Rattle.daig_graph.specs.Owners.{owned_at, owner_at, owned_member, first_owned, next_owned, after_owned, owned_from, AreOwned, IsListed}
+use Rattle.daig_graph.specs.Owners.{owned_member, first_owned, next_owned, after_owned, owned_from, AreOwned, IsListed}
 use Rattle.daig_graph.specs.Walks.{IsWalk}
 use Rattle.daig_graph.proofs.Owning.{owners, owner-at, owner_there, of_member, of_owner, member_there, place_of}
 use Rattle.daig_graph.proofs.Walking.{whole-list, once-list, items-list}
@@ -26,12 +26,12 @@ module _ (cells : List (Option OwnedCell)) (firsts : List (Option ℕ)) (inv : A
   items x =
       let h = items-list (next_owned cells) (owned_member cells) (first_owned firsts) inv.linked after (λ n. n) (length cells) within (λ j k m n e f same. same) list x in (
         λ i.
-        let m = h.0 i in
-        let o = of_member cells x m.0 m.1 in
-        (o.0.owner, owner-at cells x ∙ owner_there cells x o.0 o.1, sym (ap (λ (n : Member ℕ). n.list) o.2) ∙ m.2),
+            let m = h.0 i in
+            let o = of_member cells x m.0 m.1 in
+            (o.0.owner, owner-at cells x ∙ owner_there cells x o.0 o.1, sym (ap (λ (n : Member ℕ). n.list) o.2) ∙ m.2),
         λ l.
-        let o = of_owner cells x l.0 (sym (owner-at cells x) ∙ l.1) in
-        h.1 (_, member_there cells x o.0 o.1, ap bucket_of o.2 ∙ l.2),
+            let o = of_owner cells x l.0 (sym (owner-at cells x) ∙ l.1) in
+            h.1 (_, member_there cells x o.0 o.1, ap bucket_of o.2 ∙ l.2),
       )
 
   module _ (members : List (Option OwnedCell)) (next : Option ℕ) (members_are : members ≡ cells) (next_is : next ≡ first_owned firsts list) where

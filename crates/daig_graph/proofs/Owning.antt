@@ -1,8 +1,8 @@
 -- Cells on the lists of their owners: what is read of them after a change.
-use Rattle.std.proofs.Common.{◌≡◌, ◌≢◌, ℕ, zero, suc, ◌<◌, ◌≤◌, List, [], ◌∷◌, ◌++◌, take, length, map, Option, Some, None, option_map, slice_set, slice_index_or, refl, sym, ap, ◌∙◌, subst, arith, ◌⊎◌, inl, inr}
+use Rattle.std.proofs.Common.{◌≡◌, ◌≢◌, ℕ, zero, suc, ◌+◌, ◌<◌, ◌≤◌, List, [], ◌∷◌, ◌++◌, take, length, map, Option, Some, None, option_map, slice_set, slice_index_or, refl, sym, ap, ◌∙◌, subst, arith, ◌⊎◌, inl, inr}
 use Rattle.daig_graph.specs.declared.owned.OwnedCell.{OwnedCell}
 use Rattle.daig_graph.specs.Buckets.{bucket_of}
-use Rattle.daig_graph.specs.Linked.{Member, AreLinked}
+use Rattle.daig_graph.specs.Linked.{Member}
 use Rattle.daig_graph.specs.Owners.{Owners, owned_at, owner_at, owned_member, first_owned, AreOwned}
 use Rattle.daig_graph.proofs.Cases.{none-some, has_item, numbers_differ}
 use Rattle.daig_graph.proofs.Linking.{linked-along}
@@ -10,7 +10,7 @@ use Rattle.daig_graph.proofs.Pushing.{Pushed, linked-push}
 use Rattle.daig_graph.proofs.Removing.{Removed, linked-remove, sides_apart, before_apart, next_apart}
 use Rattle.std.proofs.lemmas.Option.{same_Some}
 use Rattle.std.proofs.lemmas.Bool.{cases_eq}
-use Rattle.std.proofs.lemmas.List.{get_or-set_same, get_or-set_other, ext_get_or, length-set, length-map, get_or_default}
+use Rattle.std.proofs.lemmas.List.{get_or-set_same, get_or-set_other, ext_get_or, length-append, length-set, length-map, get_or_default}
 
 abbrev pub owner_of : Option OwnedCell → Option ℕ
 owner_of o = option_map (λ (c : OwnedCell). c.owner) o
@@ -142,6 +142,9 @@ put_sets old new cell owner start start2 next next2 link link2 a b d s =
     let Q : Option ℕ → Type 0 = λ o. Sets (slice_set old cell (Some (record { owner = owner; before = start2; next = o }))) new o (λ (m : OwnedCell). record m { before = link }) in
     let R : Option ℕ → Type 0 = λ o. Sets (slice_set old cell (Some (record { owner = owner; before = start2; next = next2 }))) new next2 (λ (m : OwnedCell). record m { before = o }) in
     subst R d (subst Q b (subst P a s))
+
+pub push_length : {A : Type 0} (xs : List A) (x : A) (ys : List A) → ys ≡ xs ++ x ∷ [] → length ys ≡ length xs + 1
+push_length xs x ys e = ap length e ∙ length-append xs (x ∷ [])
 
 -- nothing is as good as a place with nothing
 pub push-none : {A : Type 0} (xs : List (Option A)) (n : ℕ) → slice_index_or (xs ++ None ∷ []) n None ≡ slice_index_or xs n None

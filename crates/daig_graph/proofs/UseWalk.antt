@@ -1,5 +1,5 @@
 -- A walk over the uses of a number.
-use Rattle.std.proofs.Common.{◌≡◌, ℕ, zero, suc, ◌+◌, ◌<◌, ◌≤◌, ◌↔◌, List, [], ◌∷◌, length, Option, Some, None, slice_get, refl, sym, ap, ◌∙◌, subst, arith, ◌⊎◌, inl, inr}
+use Rattle.std.proofs.Common.{◌≡◌, ℕ, zero, suc, ◌+◌, ◌<◌, ◌↔◌, List, [], ◌∷◌, length, Option, Some, None, slice_get, refl, sym, ap, ◌∙◌, subst, arith}
 use Rattle.daig_graph.specs.declared.graph.Use.{Use}
 use Rattle.daig_graph.specs.declared.links.Beside.{Beside}
 use Rattle.daig_graph.specs.declared.links.Links.{Links}
@@ -91,13 +91,13 @@ module _ (inputs : List (List ℕ)) (links : List Links) (inv : AreThreaded inpu
   items u =
       let h = items-list (next_at links) (use_member inputs links) (first_at links) inv.linked after code (use_count links) within apart cell u in (
         λ i.
-        let m = h.0 i in
-        (is_used inputs links u m.0 m.1).input ∙ ap Some m.2,
+            let m = h.0 i in
+            (is_used inputs links u m.0 m.1).input ∙ ap Some m.2,
         λ e.
-        let place = slice_get_within (inputs_at inputs u.cell) u.place cell e in
-        let many = inv.as_many u.cell in
-        let b = item_there (besides links u.cell) u.place (omega (arith, place, many)) in
-        h.1 (record { list = cell; before = b.0.before; next = b.0.next }, ap (λ o. member_of o (beside_at links u)) e ∙ ap (member_of (Some cell)) b.1, refl),
+            let place = slice_get_within (inputs_at inputs u.cell) u.place cell e in
+            let many = inv.as_many u.cell in
+            let b = item_there (besides links u.cell) u.place (omega (arith, place, many)) in
+            h.1 (record { list = cell; before = b.0.before; next = b.0.next }, ap (λ o. member_of o (beside_at links u)) e ∙ ap (member_of (Some cell)) b.1, refl),
       )
 
   module _ (now : List Links) (next : Option Use) (now_is : now ≡ links) (next_is : next ≡ first_at links cell) where

@@ -126,9 +126,9 @@ module _ {K : Type 0} (next : K → Option K) where
     walk-distinct at [] w h = tt
     walk-distinct at (q ∷ ks) w h = (
       others ks (λ i k e same.
-      let own = h q w.0 in
-      let low = lower q ks own w.1 i k e in
-      absurd (omega (arith, low.1, ap linked.rank (apart q k own.0 low.0.0 own.1 low.0.1 same)))),
+          let own = h q w.0 in
+          let low = lower q ks own w.1 i k e in
+          absurd (omega (arith, low.1, ap linked.rank (apart q k own.0 low.0.0 own.1 low.0.1 same)))),
       walk-distinct (next q) ks w.1 (rest_listed q (h q w.0)),
     )
       where

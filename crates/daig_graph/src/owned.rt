@@ -153,7 +153,8 @@ impl Owned {
         requires to { to ≤ cell }
         requires none { to ≢ cell → owner_at self.old.of to ≡ None }
         ensures moved { self.new ≡ record self.old {
-            of = slice_set (slice_set self.old.of cell None) to (owner_at self.old.of cell) } }
+          of = slice_set (slice_set self.old.of cell None) to (owner_at self.old.of cell);
+        } }
     {
         if let Some(owner) = self.take(cell) {
             self.put(to, owner);

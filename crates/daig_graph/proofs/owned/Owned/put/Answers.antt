@@ -1,7 +1,7 @@
-use Rattle.std.proofs.Common.{◌≡◌, ℕ, ◌<◌, List, length, None, Option, Some, slice_set, slice_index_or, sym, ap, ◌∙◌, subst, refl, arith}
+use Rattle.std.proofs.Common.{◌≡◌, ℕ, ◌<◌, length, None, Option, Some, slice_set, slice_index_or, sym, ap, ◌∙◌, subst, arith}
 use Rattle.daig_graph.specs.declared.owned.OwnedCell.{OwnedCell}
 use Rattle.daig_graph.specs.Buckets.{bucket_of}
-use Rattle.daig_graph.specs.Owners.{Owners, first_owned, owned_at, AreOwned}
+use Rattle.daig_graph.specs.Owners.{first_owned, owned_at, AreOwned}
 use Rattle.daig_graph.proofs.Owning.{Sets, owned-put, owners, owners-put, owners-are, put_sets, owned_place, set_place, not_there, owner-at, first_place}
 use Rattle.std.proofs.lemmas.List.{get_or_default, length-set}
 use Rattle.daig_graph.proofs.owned.Owned.put.Goals.{After-index-next}

@@ -1,8 +1,7 @@
-use Rattle.std.proofs.Common.{◌≡◌, ℕ, List, ◌∷◌, [], ◌++◌, Option, None, refl, sym, ap, ◌∙◌, arith, length}
-use Rattle.std.proofs.lemmas.List.{length-append}
+use Rattle.std.proofs.Common.{◌≡◌, ℕ, List, ◌∷◌, [], ◌++◌, Option, None, refl, ap, ◌∙◌, arith}
 use Rattle.daig_graph.specs.declared.owned.OwnedCell.{OwnedCell}
 use Rattle.daig_graph.specs.Owners.{owned_at, owner_at, first_owned}
-use Rattle.daig_graph.proofs.Owning.{owners, owned-along, owners-along, push-none}
+use Rattle.daig_graph.proofs.Owning.{owners, owned-along, owners-along, push-none, push_length}
 use Rattle.daig_graph.proofs.owned.Owned.reserve.Goals.{After-loop-self, In_ok-push}
 use Rattle.daig_graph.proofs.owned.Owned.reserve.Goals as goal
 
@@ -16,7 +15,7 @@ loop-same c n = owners-along c.self.inside.members.items c.loop-self.self-inside
 pub loop-self-preserved : goal.loop-self-preserved
 loop-self-preserved c =
     let old : List (Option OwnedCell) = c.loop-self.self-inside.members.items in
-    let long = ap length c.in_ok-push.ensures.items ∙ length-append old (None ∷ []) in
+    let long = push_length old None c.push.new.self.items c.in_ok-push.ensures.items in
     record {
       inv = owned-along old c.push.new.self.items c.loop-self.self-inside.firsts.items c.loop-self.self-inside.firsts.items (pushed-same c) (λ l. refl) (omega arith) c.loop-self.invariant.inv;
       same = λ n. pushed-same c n ∙ c.loop-self.invariant.same n;
@@ -31,11 +30,12 @@ returns-in_err-push-clause-same c n = ap (λ s. owner_at (owners s) n) c.in_err-
 pub loop-self-2-preserved : goal.loop-self-2-preserved
 loop-self-2-preserved c =
     let old : List (Option ℕ) = c.loop-self-2.self-inside.firsts.items in
-    let is = c.in_ok-push-2.ensures.items ∙ ap (λ o. old ++ o ∷ []) c.none.ensures.none in
-    let long = ap length is ∙ length-append old (None ∷ []) in
+    let new : List (Option ℕ) = c.push-in-loop-self-2.new.self.items in
+    let is : new ≡ old ++ None ∷ [] = c.in_ok-push-2.ensures.items ∙ ap (λ o. old ++ o ∷ []) c.none.ensures.none in
+    let long = push_length old None new is in
     let members = c.loop-self-2.self-inside.members.items in
     record {
-      inv = owned-along members members old c.push-in-loop-self-2.new.self.items (λ n. refl) (λ l. ap (λ s. first_owned s l) is ∙ push-none old l) (omega (arith, long)) c.loop-self-2.invariant.inv;
+      inv = owned-along members members old new (λ n. refl) (λ l. ap (λ s. first_owned s l) is ∙ push-none old l) (omega (arith, long)) c.loop-self-2.invariant.inv;
       members = c.loop-self-2.invariant.members;
     }
 

@@ -1,5 +1,5 @@
-use Rattle.std.proofs.Common.{◌≡◌, ℕ, ◌<◌, ◌≤◌, length, max, suc, ◌-◌, List, Option}
-use Rattle.daig_graph.specs.Owners.{owned_at, first_owned, AreOwned}
+use Rattle.std.proofs.Common.{◌≡◌, ℕ, ◌≤◌, length, max, suc, ◌-◌}
+use Rattle.daig_graph.specs.Owners.{owned_at, AreOwned}
 use Rattle.daig_graph.proofs.owned.Owned.reserve.Given as goal
 
 abbrev pub invariant-loop-self : goal.invariant-loop-self

@@ -1,4 +1,4 @@
-use Rattle.std.proofs.Common.{◌≡◌, ◌<◌, ℕ, List, length, Option, None, Some, slice_set, refl, sym, ap, ◌∙◌, arith}
+use Rattle.std.proofs.Common.{◌≡◌, ℕ, List, length, Option, None, Some, slice_set, refl, sym, ap, ◌∙◌, arith}
 use Rattle.std.proofs.lemmas.List.{set-get_or}
 use Rattle.daig_graph.specs.declared.owned.OwnedCell.{OwnedCell}
 use Rattle.daig_graph.specs.Buckets.{bucket_of}
@@ -20,8 +20,8 @@ returns-in_err-owner-clause-taken c =
     let members : List (Option OwnedCell) = c.self.inside.members.items in
     let of_is : owners members ≡ of = ap (λ v. v.of) c.self.view_is in
     let none : owner_at of c.args.cell ≡ None =
-        sym (ap (λ s. owner_at s c.args.cell) of_is) ∙ owner-at members c.args.cell
-        ∙ ap owner_of (owned_read members c.args.cell c.index.result.now (owned_place members of c.args.cell of_is c.requires.place) c.index.ensures ∙ c.in_err-owner.was) in
+    sym (ap (λ s. owner_at s c.args.cell) of_is) ∙ owner-at members c.args.cell
+    ∙ ap owner_of (owned_read members c.args.cell c.index.result.now (owned_place members of c.args.cell of_is c.requires.place) c.index.ensures ∙ c.in_err-owner.was) in
     ap (λ s. record c.args.self.now { of = s }) (sym (ap (slice_set of c.args.cell) (sym none) ∙ set-get_or of c.args.cell None))
 
 pub set_before-requires : goal.set_before-requires

@@ -1,4 +1,4 @@
-use Rattle.std.proofs.Common.{◌≡◌, ℕ, List, ◌∷◌, length, Option, Some, sym, ap, ◌∙◌, subst, arith}
+use Rattle.std.proofs.Common.{◌≡◌, ℕ, ◌∷◌, length, Option, Some, sym, ap, ◌∙◌, subst, arith}
 use Rattle.daig_graph.specs.Owners.{next_owned}
 use Rattle.daig_graph.specs.Walks.{IsWalk, walk}
 use Rattle.daig_graph.proofs.Walking.{walk-step}
