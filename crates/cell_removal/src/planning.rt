@@ -9,7 +9,7 @@ ghost use Rattle.cell_removal.specs.Turns.{IsOpened, Turns};
 
 use crate::bit_set::BitSet;
 use base_values::Memory;
-use daig_graph::{Graph, Iter, Use};
+use daig_graph::{Dependents, Graph};
 use std::alloc::Global;
 use std::marker::Model;
 
@@ -41,13 +41,13 @@ impl RemovalOrder {
 #[derive(Drop)]
 struct Open<'a> {
     cell: usize,
-    users: Iter<'a, Use>,
+    users: Dependents<'a>,
 }
 
 /// The next user that is not marked yet.
 #[tactic(auto, using(crate::proofs::Users::behind_first, crate::proofs::Users::behind_next, crate::proofs::Users::behind_found, crate::proofs::Users::behind_all))]
 #[inline]
-fn next_user(users: &mut Iter<'_, Use>, marks: &BitSet) -> Option<usize>
+fn next_user(users: &mut Dependents<'_>, marks: &BitSet) -> Option<usize>
     ensures next { IsNext (HasMark marks.now) users.old users.new result }
 {
     'users: while let Some(user) = users.next() {

@@ -1,9 +1,8 @@
--- Linked lists with the same members and first keys.
+-- Linked lists with the same members and first items.
 use Rattle.std.proofs.Common.{◌≡◌, ℕ, Option, sym, ◌∙◌}
-use Rattle.daig_graph.specs.declared.pool.Member.{Member}
-use Rattle.daig_graph.specs.Linked.{AreLinked}
+use Rattle.daig_graph.specs.Linked.{Member, AreLinked}
 
-pub linked-along : {T : Type 0} (old new : ℕ → Option (Member T)) (firsts new_firsts : ℕ → Option ℕ) → ((k : ℕ) → new k ≡ old k) → ((l : ℕ) → new_firsts l ≡ firsts l) → AreLinked old firsts → AreLinked new new_firsts
+pub linked-along : {K : Type 0} (old new : K → Option (Member K)) (firsts new_firsts : ℕ → Option K) → ((k : K) → new k ≡ old k) → ((l : ℕ) → new_firsts l ≡ firsts l) → AreLinked old firsts → AreLinked new new_firsts
 linked-along old new firsts new_firsts same same_first linked = record {
   first = λ l k e. let h = linked.first l k (sym (same_first l) ∙ e) in (h.0, same k ∙ h.1, h.2, h.3);
   front = λ k m e n. same_first m.list ∙ linked.front k m (sym (same k) ∙ e) n;

@@ -1,64 +1,62 @@
--- An item is put before its list.
-use Rattle.std.proofs.Common.{◌≡◌, ◌≢◌, ℕ, suc, ◌<◌, cond, Option, Some, None, nat_eq, refl, sym, ap, ◌∙◌, arith, ◌⊎◌, inl, inr}
-use Rattle.daig_graph.specs.declared.pool.Member.{Member}
-use Rattle.daig_graph.specs.Linked.{AreLinked, held_at}
-use Rattle.daig_graph.proofs.Cases.{has_number, nat_eq-false, none-some}
+-- An item is put before a list.
+use Rattle.std.proofs.Common.{◌≡◌, ◌≢◌, ℕ, suc, ◌<◌, Option, Some, None, refl, sym, ap, ◌∙◌, arith, ◌⊎◌, inl, inr}
+use Rattle.daig_graph.specs.Linked.{Member, AreLinked}
+use Rattle.daig_graph.proofs.Cases.{Decides, has_item, none-some}
 use Rattle.std.proofs.lemmas.Option.{same_Some}
 use Rattle.std.proofs.lemmas.Bool.{cases_eq}
-use Rattle.base_values.proofs.Cases.{equal_test}
 
-module _ {T : Type 0} (old new : ℕ → Option (Member T)) (firsts new_firsts : ℕ → Option ℕ) (list key : ℕ) (item : T) where
-  abbrev pub put_member : Member T
-  put_member = record { list = list; item = item; before = None; next = firsts list }
+module _ {K : Type 0} (decide : Decides K) (old new : K → Option (Member K)) (firsts new_firsts : ℕ → Option K) (list : ℕ) (key : K) where
+  abbrev pub put_member : Member K
+  put_member = record { list = list; before = None; next = firsts list }
 
   pub record Pushed : Type 0 where
     pub fresh : old key ≡ None
     pub here : new key ≡ Some put_member
-    pub after : (k : ℕ) (m : Member T) → firsts list ≡ Some k → old k ≡ Some m → new k ≡ Some (record m { before = Some key })
-    pub others : (k : ℕ) → k ≢ key → firsts list ≢ Some k → new k ≡ old k
+    pub after : (k : K) (m : Member K) → firsts list ≡ Some k → old k ≡ Some m → new k ≡ Some (record m { before = Some key })
+    pub others : (k : K) → k ≢ key → firsts list ≢ Some k → new k ≡ old k
     pub head : new_firsts list ≡ Some key
     pub heads : (q : ℕ) → q ≢ list → new_firsts q ≡ firsts q
 
   module _ (linked : AreLinked old firsts) (p : Pushed) where
-    known : (k : ℕ) (m : Member T) → old k ≡ Some m → k ≢ key
+    known : (k : K) (m : Member K) → old k ≡ Some m → k ≢ key
     known k m e same = none-some (sym p.fresh ∙ ap old (sym same) ∙ e)
 
     -- what a member became
-    record Became (k : ℕ) (m : Member T) : Type 0 where
-      to : Member T
+    record Became (k : K) (m : Member K) : Type 0 where
+      to : Member K
       at : new k ≡ Some to
       list_same : to.list ≡ m.list
       next_same : to.next ≡ m.next
       before_is : (to.before ≡ m.before) ⊎ ((firsts list ≡ Some k) × (to.before ≡ Some key))
 
-    became : (k : ℕ) (m : Member T) → old k ≡ Some m → Became k m
-    became k m e = elim (has_number (firsts list) k) [
+    became : (k : K) (m : Member K) → old k ≡ Some m → Became k m
+    became k m e = elim (has_item decide (firsts list) k) [
       | inl f ↦ record { to = record m { before = Some key }; at = p.after k m f e; list_same = refl; next_same = refl; before_is = inr (f, refl) }
       | inr f ↦ record { to = m; at = p.others k (known k m e) f ∙ e; list_same = refl; next_same = refl; before_is = inl refl }
     ]
 
     -- what a member was: new, the first of the list, or the same
-    record WasFirst (k : ℕ) (m : Member T) : Type 0 where
-      was : Member T
+    record WasFirst (k : K) (m : Member K) : Type 0 where
+      was : Member K
       at : old k ≡ Some was
       first : firsts list ≡ Some k
       is : m ≡ record was { before = Some key }
 
-    Was : (k : ℕ) (m : Member T) → Type 0
+    Was : (k : K) (m : Member K) → Type 0
     Was k m = ((k ≡ key) × (m ≡ put_member)) ⊎ (WasFirst k m ⊎ ((old k ≡ Some m) × (firsts list ≢ Some k)))
 
-    was : (k : ℕ) (m : Member T) → new k ≡ Some m → Was k m
+    was : (k : K) (m : Member K) → new k ≡ Some m → Was k m
     unfolding Was
-    was k m e = elim (cases_eq k key) [
+    was k m e = elim (decide k key) [
       | inl same ↦ inl (same, same_Some _ _ (sym e ∙ ap new same ∙ p.here))
-      | inr ne ↦ elim (has_number (firsts list) k) [
+      | inr ne ↦ elim (has_item decide (firsts list) k) [
         | inl f ↦ let there = linked.first list k f in
             inr (inl (record { was = there.0; at = there.1; first = f; is = same_Some _ _ (sym e ∙ p.after k there.0 f there.1) }))
         | inr f ↦ inr (inr (sym (p.others k ne f) ∙ e, f))
       ]
     ]
 
-    next_first : (l k : ℕ) → new_firsts l ≡ Some k → (m : Member T) × (new k ≡ Some m) × (m.list ≡ l) × (m.before ≡ None)
+    next_first : (l : ℕ) (k : K) → new_firsts l ≡ Some k → (m : Member K) × (new k ≡ Some m) × (m.list ≡ l) × (m.before ≡ None)
     next_first l k e = elim (cases_eq l list) [
       | inl same ↦ let k_is : key ≡ k = same_Some _ _ (sym p.head ∙ ap new_firsts (sym same) ∙ e) in (put_member, ap new (sym k_is) ∙ p.here, sym same, refl)
       | inr ne ↦
@@ -75,7 +73,7 @@ module _ {T : Type 0} (old new : ℕ → Option (Member T)) (firsts new_firsts :
           )
     ]
 
-    next_front : (k : ℕ) (m : Member T) → new k ≡ Some m → m.before ≡ None → new_firsts m.list ≡ Some k
+    next_front : (k : K) (m : Member K) → new k ≡ Some m → m.before ≡ None → new_firsts m.list ≡ Some k
     unfolding Was
     next_front k m e none = elim (was k m e) [
       | inl h ↦ ap (λ o. new_firsts o.list) h.1 ∙ p.head ∙ ap Some (sym h.0)
@@ -85,7 +83,7 @@ module _ {T : Type 0} (old new : ℕ → Option (Member T)) (firsts new_firsts :
           p.heads m.list (λ same. h.1 (ap firsts (sym same) ∙ there)) ∙ there
     ]
 
-    next_back : (k j : ℕ) (m : Member T) → new k ≡ Some m → m.before ≡ Some j → (n : Member T) × (new j ≡ Some n) × (n.list ≡ m.list) × (n.next ≡ Some k)
+    next_back : (k j : K) (m : Member K) → new k ≡ Some m → m.before ≡ Some j → (n : Member K) × (new j ≡ Some n) × (n.list ≡ m.list) × (n.next ≡ Some k)
     unfolding Was
     next_back k j m e some = elim (was k m e) [
       | inl h ↦ none-some (sym (ap (λ o. o.before) h.1) ∙ some)
@@ -100,19 +98,19 @@ module _ {T : Type 0} (old new : ℕ → Option (Member T)) (firsts new_firsts :
     ]
 
     -- a member with another before it keeps that
-    kept_before : (k j : ℕ) (m : Member T) (e : old j ≡ Some m) → m.before ≡ Some k → (became j m e).to.before ≡ Some k
+    kept_before : (k j : K) (m : Member K) (e : old j ≡ Some m) → m.before ≡ Some k → (became j m e).to.before ≡ Some k
     kept_before k j m e some = elim (became j m e).before_is [
       | inl h ↦ h ∙ some
       | inr h ↦ let own = linked.first list j h.0 in none-some (sym own.3 ∙ ap (λ o. o.before) (same_Some _ _ (sym own.1 ∙ e)) ∙ some)
     ]
 
-    behind : (k j : ℕ) (m m2 : Member T) → old k ≡ Some m → m2.list ≡ m.list → m.next ≡ Some j → (n : Member T) × (new j ≡ Some n) × (n.list ≡ m2.list) × (n.before ≡ Some k)
+    behind : (k j : K) (m m2 : Member K) → old k ≡ Some m → m2.list ≡ m.list → m.next ≡ Some j → (n : Member K) × (new j ≡ Some n) × (n.list ≡ m2.list) × (n.before ≡ Some k)
     behind k j m m2 e l some =
         let n = linked.ahead k j m e some in
         let b = became j n.0 n.1 in
         (b.to, b.at, b.list_same ∙ n.2 ∙ sym l, kept_before k j n.0 n.1 n.3)
 
-    next_ahead : (k j : ℕ) (m : Member T) → new k ≡ Some m → m.next ≡ Some j → (n : Member T) × (new j ≡ Some n) × (n.list ≡ m.list) × (n.before ≡ Some k)
+    next_ahead : (k j : K) (m : Member K) → new k ≡ Some m → m.next ≡ Some j → (n : Member K) × (new j ≡ Some n) × (n.list ≡ m.list) × (n.before ≡ Some k)
     unfolding Was
     next_ahead k j m e some = elim (was k m e) [
       | inl h ↦
@@ -123,23 +121,37 @@ module _ {T : Type 0} (old new : ℕ → Option (Member T)) (firsts new_firsts :
       | inr (inr h) ↦ behind k j m m h.0 refl some
     ]
 
-    next_rank : ℕ → ℕ
-    next_rank k = cond (nat_eq k key) linked.peak (linked.rank k)
+    rank_by : (k : K) → (k ≡ key) ⊎ (k ≢ key) → ℕ
+    rank_by k (inl e) = linked.peak
+    rank_by k (inr e) = linked.rank k
 
-    rank-new : (k : ℕ) → k ≡ key → next_rank k ≡ linked.peak
+    next_rank : K → ℕ
+    next_rank k = rank_by k (decide k key)
+
+    rank_by-new : (k : K) (d : (k ≡ key) ⊎ (k ≢ key)) → k ≡ key → rank_by k d ≡ linked.peak
+    unfolding rank_by
+    rank_by-new k (inl f) e = refl
+    rank_by-new k (inr f) e = absurd (f e)
+
+    rank_by-old : (k : K) (d : (k ≡ key) ⊎ (k ≢ key)) → k ≢ key → rank_by k d ≡ linked.rank k
+    unfolding rank_by
+    rank_by-old k (inl f) e = absurd (e f)
+    rank_by-old k (inr f) e = refl
+
+    rank-new : (k : K) → k ≡ key → next_rank k ≡ linked.peak
     unfolding next_rank
-    rank-new k e = ap (λ b. cond b linked.peak (linked.rank k)) (equal_test k key e)
+    rank-new k e = rank_by-new k (decide k key) e
 
-    rank-old : (k : ℕ) → k ≢ key → next_rank k ≡ linked.rank k
+    rank-old : (k : K) → k ≢ key → next_rank k ≡ linked.rank k
     unfolding next_rank
-    rank-old k e = ap (λ b. cond b linked.peak (linked.rank k)) (nat_eq-false k key e)
+    rank-old k e = rank_by-old k (decide k key) e
 
-    falls_from : (k j : ℕ) (m : Member T) → old k ≡ Some m → m.next ≡ Some j → next_rank j < next_rank k
+    falls_from : (k j : K) (m : Member K) → old k ≡ Some m → m.next ≡ Some j → next_rank j < next_rank k
     falls_from k j m e some =
         let n = linked.ahead k j m e some in
         rw (rank-old k (known k m e), rank-old j (known j n.0 n.1)) (linked.falls k j m e some)
 
-    next_falls : (k j : ℕ) (m : Member T) → new k ≡ Some m → m.next ≡ Some j → next_rank j < next_rank k
+    next_falls : (k j : K) (m : Member K) → new k ≡ Some m → m.next ≡ Some j → next_rank j < next_rank k
     unfolding Was
     next_falls k j m e some = elim (was k m e) [
       | inl h ↦
@@ -149,10 +161,10 @@ module _ {T : Type 0} (old new : ℕ → Option (Member T)) (firsts new_firsts :
       | inr (inr h) ↦ falls_from k j m h.0 some
     ]
 
-    low_from : (k : ℕ) (m : Member T) → old k ≡ Some m → next_rank k < suc linked.peak
+    low_from : (k : K) (m : Member K) → old k ≡ Some m → next_rank k < suc linked.peak
     low_from k m e = let h = linked.low k m e in let r = rank-old k (known k m e) in omega arith
 
-    next_low : (k : ℕ) (m : Member T) → new k ≡ Some m → next_rank k < suc linked.peak
+    next_low : (k : K) (m : Member K) → new k ≡ Some m → next_rank k < suc linked.peak
     unfolding Was
     next_low k m e = elim (was k m e) [
       | inl h ↦ let r = rank-new k h.0 in omega arith
@@ -162,10 +174,3 @@ module _ {T : Type 0} (old new : ℕ → Option (Member T)) (firsts new_firsts :
 
     pub linked-push : AreLinked new new_firsts
     linked-push = record { first = next_first; front = next_front; back = next_back; ahead = next_ahead; rank = next_rank; peak = suc linked.peak; falls = next_falls; low = next_low }
-
-    -- the other keys hold what they held
-    pub held_same : (k : ℕ) → k ≢ key → held_at (new k) ≡ held_at (old k)
-    held_same k ne = elim (has_number (firsts list) k) [
-      | inl f ↦ let there = linked.first list k f in ap held_at (p.after k there.0 f there.1) ∙ sym (ap held_at there.1)
-      | inr f ↦ ap held_at (p.others k ne f)
-    ]

@@ -1,161 +1,168 @@
--- A walk from the first member of a list meets each of its members once.
-use Rattle.std.proofs.Common.{◌≡◌, ◌≢◌, ℕ, zero, suc, ◌+◌, ◌<◌, ◌≤◌, List, [], ◌∷◌, Option, Some, None, slice_get, refl, sym, ap, ◌∙◌, subst, arith, inl, inr, true, false, map, length, eqb}
-use Rattle.daig_graph.specs.declared.pool.Member.{Member}
-use Rattle.daig_graph.specs.Linked.{AreLinked}
-use Rattle.daig_graph.specs.Walks.{IsWalk, walk, at_member}
-use Rattle.daig_graph.specs.Held.{IsIn}
+-- From the first item of a list, a walk meets each of its items once.
+use Rattle.std.proofs.Common.{◌≡◌, ◌≢◌, ℕ, zero, suc, ◌+◌, ◌<◌, ◌≤◌, ◌↔◌, List, [], ◌∷◌, Option, Some, None, slice_get, refl, sym, ap, ◌∙◌, subst, arith, inl, inr, true, false, map, length, eqb}
+use Rattle.daig_graph.specs.Linked.{Member, AreLinked}
+use Rattle.daig_graph.specs.Walks.{IsWalk, walk}
+use Rattle.daig_graph.specs.Held.{IsIn, IsOnce}
+use Rattle.daig_graph.proofs.Cases.{none-some, nat_eq-false}
 use Rattle.std.specs.List.{IsDistinct, AllByRecursion, list_any}
 use Rattle.std.proofs.lemmas.List.{length-map}
 use Rattle.std.proofs.lemmas.Map.Steps.{length-le_from_distinct_below}
-use Rattle.daig_graph.proofs.Cases.{none-some, nat_eq-false}
 use Rattle.std.proofs.lemmas.Option.{same_Some}
 use Rattle.std.proofs.lemmas.Bool.{cases_eq}
 
-module _ {T : Type 0} (members : ℕ → Option (Member T)) where
-  pub walk-at : (at : Option ℕ) (es : List (ℕ × T)) → IsWalk members at es → (i : ℕ) (p : ℕ × T) → slice_get es i ≡ Some p → (m : Member T) × (members p.0 ≡ Some m) × (m.item ≡ p.1)
-  walk-at at [] w i p e = cc
-  walk-at at (q ∷ es) w zero p e = let same : q ≡ p = cc in (w.0, ap (λ r. members r.0) (sym same) ∙ w.2, w.3 ∙ ap (λ r. r.1) same)
-  walk-at at (q ∷ es) w (suc i) p e = walk-at w.0.next es w.4 i p e
-
-  -- the walk goes on after each member
-  pub walk-next : (at : Option ℕ) (es : List (ℕ × T)) → IsWalk members at es → (i : ℕ) (p : ℕ × T) → slice_get es i ≡ Some p → (m : Member T) → members p.0 ≡ Some m → (j : ℕ) → m.next ≡ Some j → (x : T) × (slice_get es (suc i) ≡ Some (j, x))
-  walk-next at [] w i p e m h j n = cc
-  walk-next at (q ∷ es) w zero p e m h j n =
-      let same : q ≡ p = cc in
-      let is : w.0 ≡ m = same_Some _ _ (sym w.2 ∙ ap (λ r. members r.0) same ∙ h) in
-      starts es (ap (λ o. o.next) is ∙ n) w.4
-    where
-      starts : (es : List (ℕ × T)) {o : Option ℕ} → o ≡ Some j → IsWalk members o es → (x : T) × (slice_get es zero ≡ Some (j, x))
-      starts [] e v = none-some (sym v ∙ e)
-      starts (r ∷ rest) e v = let key : r.0 ≡ j = same_Some _ _ (sym v.1 ∙ e) in (r.1, ap (λ k. Some (k, r.1)) key)
-  walk-next at (q ∷ es) w (suc i) p e m h j n = walk-next w.0.next es w.4 i p e m h j n
-
-  module _ {firsts : ℕ → Option ℕ} (linked : AreLinked members firsts) where
-    -- from a member on, where it is known of those with lower ranks
-    walk_behind : (k : ℕ) (m : Member T) → members k ≡ Some m → ((j : ℕ) (n : Member T) → members j ≡ Some n → linked.rank j < linked.rank k → (es : List (ℕ × T)) × IsWalk members (Some j) es)
-        → (o : Option ℕ) → m.next ≡ o → (es : List (ℕ × T)) × IsWalk members o es
-    walk_behind k m e lower None h = ([], refl)
-    walk_behind k m e lower (Some j) h =
-        let a = linked.ahead k j m e h in
-        lower j a.0 a.1 (linked.falls k j m e h)
-
-    walk_from : (n k : ℕ) (m : Member T) → members k ≡ Some m → linked.rank k < n → (es : List (ℕ × T)) × IsWalk members (Some k) es
-    walk_from zero k m e low = absurd (omega (arith, low))
-    walk_from (suc n) k m e low =
-        let rest = walk_behind k m e (λ j o f l. walk_from n j o f (omega (arith, l, low))) m.next refl in
-        ((k, m.item) ∷ rest.0, (m, refl, e, refl, rest.1))
-
-    pub walk_of : (o : Option ℕ) → ((k : ℕ) → o ≡ Some k → (m : Member T) × (members k ≡ Some m)) → (es : List (ℕ × T)) × IsWalk members o es
-    walk_of None h = ([], refl)
-    walk_of (Some k) h = let m = h k refl in walk_from (suc (linked.rank k)) k m.0 m.1 (omega arith)
-
-    -- all of the list of the first
-    pub walk-list : (l : ℕ) (at : Option ℕ) (es : List (ℕ × T)) → IsWalk members at es → ((k : ℕ) (m : Member T) → at ≡ Some k → members k ≡ Some m → m.list ≡ l)
-        → (i : ℕ) (p : ℕ × T) → slice_get es i ≡ Some p → (m : Member T) → members p.0 ≡ Some m → m.list ≡ l
-    walk-list l at [] w h i p e m s = cc
-    walk-list l at (q ∷ es) w h zero p e m s = let same : q ≡ p = cc in h p.0 m (w.1 ∙ ap (λ r. Some r.0) same) s
-    walk-list l at (q ∷ es) w h (suc i) p e m s =
-        walk-list l w.0.next es w.4
-        (λ k n a b. let f = linked.ahead q.0 k w.0 w.2 a in ap (λ o. o.list) (same_Some _ _ (sym b ∙ f.1)) ∙ f.2 ∙ h q.0 w.0 w.1 w.2)
-        i p e m s
-
-    -- ranks fall along it
-    pub walk-rank : (at : Option ℕ) (es : List (ℕ × T)) → IsWalk members at es → (n : ℕ) → ((k : ℕ) → at ≡ Some k → linked.rank k < n) → (i : ℕ) (p : ℕ × T) → slice_get es i ≡ Some p → linked.rank p.0 < n
-    walk-rank at [] w n h i p e = cc
-    walk-rank at (q ∷ es) w n h zero p e = let same : q ≡ p = cc in h p.0 (w.1 ∙ ap (λ r. Some r.0) same)
-    walk-rank at (q ∷ es) w n h (suc i) p e =
-        let below = h q.0 w.1 in
-        walk-rank w.0.next es w.4 n (λ k a. let f = linked.falls q.0 k w.0 w.2 a in omega (arith, f, below)) i p e
-
-    behind_lower : (q : ℕ × T) (at : Option ℕ) (es : List (ℕ × T)) → (w : IsWalk members at (q ∷ es)) → (i : ℕ) (p : ℕ × T) → slice_get es i ≡ Some p → linked.rank p.0 < linked.rank q.0
-    behind_lower q at es w i p e = walk-rank w.0.next es w.4 (linked.rank q.0) (λ k a. linked.falls q.0 k w.0 w.2 a) i p e
-
-    pub walk-once : (at : Option ℕ) (es : List (ℕ × T)) → IsWalk members at es → (i j k : ℕ) (x y : T) → slice_get es i ≡ Some (k, x) → slice_get es j ≡ Some (k, y) → i ≡ j
-    walk-once at [] w i j k x y e f = cc
-    walk-once at (q ∷ es) w zero zero k x y e f = refl
-    walk-once at (q ∷ es) w zero (suc j) k x y e f =
-        let same : q ≡ (k, x) = cc in
-        let low = behind_lower q at es w j (k, y) f in
-        absurd (omega (arith, low, ap (λ r. linked.rank r.0) same))
-    walk-once at (q ∷ es) w (suc i) zero k x y e f =
-        let same : q ≡ (k, y) = cc in
-        let low = behind_lower q at es w i (k, x) e in
-        absurd (omega (arith, low, ap (λ r. linked.rank r.0) same))
-    walk-once at (q ∷ es) w (suc i) (suc j) k x y e f = ap suc (walk-once w.0.next es w.4 i j k x y e f)
-
-    -- each member of the list is met
-    walk_up : (l : ℕ) (es : List (ℕ × T)) → IsWalk members (firsts l) es → (k : ℕ) (m : Member T) → members k ≡ Some m → m.list ≡ l
-        → ((j : ℕ) (n : Member T) → members j ≡ Some n → n.list ≡ l → linked.rank k < linked.rank j → (x : T) × IsIn es (j, x)) → (o : Option ℕ) → m.before ≡ o → (x : T) × IsIn es (k, x)
-    walk_up l es w k m e s higher None b = starts es (ap firsts (sym s) ∙ linked.front k m e b) w
-      where
-        starts : (es : List (ℕ × T)) {o : Option ℕ} → o ≡ Some k → IsWalk members o es → (x : T) × IsIn es (k, x)
-        starts [] f v = none-some (sym v ∙ f)
-        starts (r ∷ rest) f v = let key : r.0 ≡ k = same_Some _ _ (sym v.1 ∙ f) in (r.1, (zero, ap (λ a. Some (a, r.1)) key))
-    walk_up l es w k m e s higher (Some j) b =
-        let up = linked.back k j m e b in
-        let met = higher j up.0 up.1 (up.2 ∙ s) (linked.falls j k up.0 up.1 up.3) in
-        let on = walk-next (firsts l) es w met.1.0 (j, met.0) met.1.1 up.0 up.1 k up.3 in
-        (on.0, (suc met.1.0, on.1))
-
-    pub walk-all : (l : ℕ) (es : List (ℕ × T)) → IsWalk members (firsts l) es → (n k : ℕ) (m : Member T) → members k ≡ Some m → m.list ≡ l → linked.peak < linked.rank k + n → (x : T) × IsIn es (k, x)
-    walk-all l es w zero k m e s h = absurd (omega (arith, h, linked.low k m e))
-    walk-all l es w (suc n) k m e s h = walk_up l es w k m e s (λ j o f t up. walk-all l es w n j o f t (omega (arith, h, up))) m.before refl
-
-    -- no key comes twice
-    pub walk-distinct : (at : Option ℕ) (es : List (ℕ × T)) → IsWalk members at es → IsDistinct eqb (map (λ p. p.0) es)
-    unfolding IsDistinct
-    walk-distinct at [] w = tt
-    walk-distinct at (q ∷ es) w = (apart es (λ i p e. let low = behind_lower q at es w i p e in λ same. absurd (omega (arith, low, ap linked.rank same))), walk-distinct w.0.next es w.4)
-      where
-        apart : (es : List (ℕ × T)) → ((i : ℕ) (p : ℕ × T) → slice_get es i ≡ Some p → q.0 ≢ p.0) → AllByRecursion (λ y. eqb q.0 y ≡ false) (map (λ p. p.0) es)
-        apart [] h = tt
-        apart (p ∷ es) h = (nat_eq-false q.0 p.0 (h zero p refl), apart es (λ i r e. h (suc i) r e))
-
-    -- there are at most as many as slots
-    pub walk-length : (n : ℕ) → ((k : ℕ) (m : Member T) → members k ≡ Some m → k < n) → (at : Option ℕ) (es : List (ℕ × T)) → IsWalk members at es → length es ≤ n
-    walk-length n within at es w =
-        let below = length-le_from_distinct_below (map (λ p. p.0) es) n (walk-distinct at es w) (keys_below at es w) in
-        omega (arith, below, length-map {A = ℕ × T} {B = ℕ} es (λ p. p.0))
-      where
-        keys_below : (at : Option ℕ) (es : List (ℕ × T)) → IsWalk members at es → (q : ℕ) → list_any (eqb q) (map (λ p. p.0) es) ≡ true → q < n
-        keys_below at [] w q h = absurd (cc)
-        keys_below at (p ∷ es) w q h = elim (cases_eq q p.0) [
-          | inl same ↦ omega (arith, within p.0 w.0 w.2, same)
-          | inr ne ↦ keys_below w.0.next es w.4 q (rw (nat_eq-false q p.0 ne) at h)
-        ]
-
-  pub length-walk : (n : ℕ) (at : Option ℕ) → length (walk n members at) ≤ n
+module _ {K : Type 0} (next : K → Option K) where
+  length-walk : (n : ℕ) (at : Option K) → length (walk next n at) ≤ n
   length-walk zero at = omega arith
   length-walk (suc n) None = omega arith
-  length-walk (suc n) (Some k) = by (members k) (λ o. length-walk n o)
-    where
-      by : (o : Option (Member T)) → ((a : Option ℕ) → length (walk n members a) ≤ n) → length (at_member k o (walk n members)) ≤ suc n
-      by None h = omega arith
-      by (Some m) h = omega (arith, h m.next)
+  length-walk (suc n) (Some k) = let h = length-walk n (next k) in omega (arith, h)
 
-  pub walk-is : (n : ℕ) (at : Option ℕ) (es : List (ℕ × T)) → IsWalk members at es → length es ≤ n → walk n members at ≡ es
+  walk-is : (n : ℕ) (at : Option K) (ks : List K) → IsWalk next at ks → length ks ≤ n → walk next n at ≡ ks
   walk-is zero at [] w l = refl
-  walk-is zero at (p ∷ es) w l = absurd (omega (arith, l))
+  walk-is zero at (k ∷ ks) w l = absurd (omega (arith, l))
   walk-is (suc n) None [] w l = refl
-  walk-is (suc n) None (p ∷ es) w l = none-some w.1
+  walk-is (suc n) None (k ∷ ks) w l = none-some w.0
   walk-is (suc n) (Some k) [] w l = none-some (sym w)
-  walk-is (suc n) (Some k) (p ∷ es) w l =
-      let key : k ≡ p.0 = same_Some _ _ w.1 in
-      ap (λ o. at_member k o (walk n members)) (ap members key ∙ w.2)
-      ∙ ap (λ r. (k, w.0.item) ∷ r) (walk-is n w.0.next es w.4 (omega (arith, l)))
-      ∙ ap (λ a. (a, w.0.item) ∷ es) key
-      ∙ ap (λ x. (p.0, x) ∷ es) w.3
+  walk-is (suc n) (Some k) (j ∷ ks) w l =
+      let same : k ≡ j = same_Some _ _ w.0 in
+      ap (λ i. i ∷ walk next n (next i)) same ∙ ap (λ r. j ∷ r) (walk-is n (next j) ks w.1 (omega (arith, l)))
 
-  -- one member on
-  pub walk-step : (n k : ℕ) (m : Member T) → members k ≡ Some m → IsWalk members (Some k) (walk n members (Some k)) → (walk n members (Some k) ≡ (k, m.item) ∷ walk n members m.next) × IsWalk members m.next (walk n members m.next)
-  walk-step zero k m h w = none-some (sym w)
-  walk-step (suc n) k m h w =
-      let here : walk (suc n) members (Some k) ≡ (k, m.item) ∷ walk n members m.next = ap (λ o. at_member k o (walk n members)) h in
-      let P : List (ℕ × T) → Type 0 = IsWalk members (Some k) in
-      let v = subst P here w in
-      let is : v.0 ≡ m = same_Some _ _ (sym v.2 ∙ h) in
-      let Q : Member T → Type 0 = λ o. IsWalk members o.next (walk n members m.next) in
-      let on = subst Q is v.4 in
-      let same : walk (suc n) members m.next ≡ walk n members m.next = walk-is (suc n) m.next (walk n members m.next) on (omega (arith, length-walk n m.next)) in
-      let R : List (ℕ × T) → Type 0 = IsWalk members m.next in
-      (here ∙ ap (λ r. (k, m.item) ∷ r) (sym same), subst R (sym same) on)
+  -- one item on
+  pub walk-step : (n : ℕ) (k : K) → IsWalk next (Some k) (walk next n (Some k)) → (walk next n (Some k) ≡ k ∷ walk next n (next k)) × IsWalk next (next k) (walk next n (next k))
+  walk-step zero k w = none-some (sym w)
+  walk-step (suc n) k w =
+      let l = length-walk n (next k) in
+      let same : walk next (suc n) (next k) ≡ walk next n (next k) = walk-is (suc n) (next k) (walk next n (next k)) w.1 (omega (arith, l)) in
+      let P : List K → Type 0 = IsWalk next (next k) in
+      (ap (λ r. k ∷ r) (sym same), subst P (sym same) w.1)
+
+  -- the walk goes on after each item
+  walk-next : (at : Option K) (ks : List K) → IsWalk next at ks → (i : ℕ) (k : K) → slice_get ks i ≡ Some k → (j : K) → next k ≡ Some j → slice_get ks (suc i) ≡ Some j
+  walk-next at [] w i k e j h = cc
+  walk-next at (q ∷ ks) w zero k e j h = starts ks (ap next (same_Some q k e) ∙ h) w.1
+    where
+      starts : (ks : List K) {o : Option K} → o ≡ Some j → IsWalk next o ks → slice_get ks zero ≡ Some j
+      starts [] e v = none-some (sym v ∙ e)
+      starts (r ∷ rest) e v = sym v.0 ∙ e
+  walk-next at (q ∷ ks) w (suc i) k e j h = walk-next (next q) ks w.1 i k e j h
+
+  module _ (members : K → Option (Member K)) (firsts : ℕ → Option K) (linked : AreLinked members firsts)
+      (after : (k : K) (m : Member K) → members k ≡ Some m → next k ≡ m.next)
+      (code : K → ℕ) (most : ℕ)
+      (within : (k : K) (m : Member K) → members k ≡ Some m → code k < most)
+      (apart : (j k : K) (m n : Member K) → members j ≡ Some m → members k ≡ Some n → code j ≡ code k → j ≡ k)
+      (list : ℕ) where
+    abbrev Listed : K → Type 0
+    Listed k = (m : Member K) × (members k ≡ Some m) × (m.list ≡ list)
+
+    -- from an item, or none, on
+    walk_behind : (o : Option K) → ((j : K) → o ≡ Some j → (ks : List K) × IsWalk next (Some j) ks) → (ks : List K) × IsWalk next o ks
+    walk_behind None h = ([], refl)
+    walk_behind (Some j) h = h j refl
+
+    walk_from : (n : ℕ) (k : K) (m : Member K) → members k ≡ Some m → linked.rank k < n → (ks : List K) × IsWalk next (Some k) ks
+    walk_from zero k m e low = absurd (omega (arith, low))
+    walk_from (suc n) k m e low =
+        let rest = walk_behind (next k) (λ j a.
+        let b = linked.ahead k j m e (sym (after k m e) ∙ a) in
+        let f = linked.falls k j m e (sym (after k m e) ∙ a) in
+        walk_from n j b.0 b.1 (omega (arith, f, low))) in
+        (k ∷ rest.0, (refl, rest.1))
+
+    own_walk : (ks : List K) × IsWalk next (firsts list) ks
+    own_walk = walk_behind (firsts list) (λ k e. let h = linked.first list k e in walk_from (suc (linked.rank k)) k h.0 h.1 (omega arith))
+
+    -- an item after one of the list, which has a lower rank
+    listed_after : (k j : K) → Listed k → next k ≡ Some j → Listed j × (linked.rank j < linked.rank k)
+    listed_after k j h a =
+        let some : h.0.next ≡ Some j = sym (after k h.0 h.1) ∙ a in
+        let n = linked.ahead k j h.0 h.1 some in
+        ((n.0, n.1, n.2 ∙ h.2), linked.falls k j h.0 h.1 some)
+
+    -- all of a walk are of the list, and ranks fall along it
+    walk-below : (n : ℕ) (at : Option K) (ks : List K) → IsWalk next at ks → ((k : K) → at ≡ Some k → Listed k × (linked.rank k < n)) → (i : ℕ) (k : K) → slice_get ks i ≡ Some k → Listed k × (linked.rank k < n)
+    walk-below n at [] w h i k e = cc
+    walk-below n at (q ∷ ks) w h zero k e = h k (w.0 ∙ e)
+    walk-below n at (q ∷ ks) w h (suc i) k e =
+        let here = h q w.0 in
+        walk-below n (next q) ks w.1 (λ j a. let b = listed_after q j here.0 a in (b.0, omega (arith, b.1, here.1))) i k e
+
+    lower : (q : K) (ks : List K) → Listed q → IsWalk next (next q) ks → (i : ℕ) (k : K) → slice_get ks i ≡ Some k → Listed k × (linked.rank k < linked.rank q)
+    lower q ks h w i k e = walk-below (linked.rank q) (next q) ks w (λ j a. listed_after q j h a) i k e
+
+    rest_listed : (q : K) → Listed q → (k : K) → next q ≡ Some k → Listed k
+    rest_listed q h k a = (listed_after q k h a).0
+
+    walk-once : (at : Option K) (ks : List K) → IsWalk next at ks → ((k : K) → at ≡ Some k → Listed k) → (i j : ℕ) (k : K) → slice_get ks i ≡ Some k → slice_get ks j ≡ Some k → i ≡ j
+    walk-once at [] w h i j k e f = cc
+    walk-once at (q ∷ ks) w h zero zero k e f = refl
+    walk-once at (q ∷ ks) w h zero (suc j) k e f =
+        let low = (lower q ks (h q w.0) w.1 j k f).1 in
+        absurd (omega (arith, low, ap linked.rank (same_Some q k e)))
+    walk-once at (q ∷ ks) w h (suc i) zero k e f =
+        let low = (lower q ks (h q w.0) w.1 i k e).1 in
+        absurd (omega (arith, low, ap linked.rank (same_Some q k f)))
+    walk-once at (q ∷ ks) w h (suc i) (suc j) k e f = ap suc (walk-once (next q) ks w.1 (rest_listed q (h q w.0)) i j k e f)
+
+    -- each item of the list is met
+    walk_up : (ks : List K) → IsWalk next (firsts list) ks → (k : K) (m : Member K) → members k ≡ Some m → m.list ≡ list
+        → ((j : K) (n : Member K) → members j ≡ Some n → n.list ≡ list → linked.rank k < linked.rank j → IsIn ks j) → (o : Option K) → m.before ≡ o → IsIn ks k
+    walk_up ks w k m e s higher None b = starts ks (ap firsts (sym s) ∙ linked.front k m e b) w
+      where
+        starts : (ks : List K) {o : Option K} → o ≡ Some k → IsWalk next o ks → IsIn ks k
+        starts [] f v = none-some (sym v ∙ f)
+        starts (r ∷ rest) f v = (zero, sym v.0 ∙ f)
+    walk_up ks w k m e s higher (Some j) b =
+        let up = linked.back k j m e b in
+        let met = higher j up.0 up.1 (up.2 ∙ s) (linked.falls j k up.0 up.1 up.3) in
+        (suc met.0, walk-next (firsts list) ks w met.0 j met.1 k (after j up.0 up.1 ∙ up.3))
+
+    walk-all : (ks : List K) → IsWalk next (firsts list) ks → (n : ℕ) (k : K) (m : Member K) → members k ≡ Some m → m.list ≡ list → linked.peak < linked.rank k + n → IsIn ks k
+    walk-all ks w zero k m e s h = absurd (omega (arith, h, linked.low k m e))
+    walk-all ks w (suc n) k m e s h = walk_up ks w k m e s (λ j o f t up. walk-all ks w n j o f t (omega (arith, h, up))) m.before refl
+
+    -- no code comes twice
+    walk-distinct : (at : Option K) (ks : List K) → IsWalk next at ks → ((k : K) → at ≡ Some k → Listed k) → IsDistinct eqb (map code ks)
+    unfolding IsDistinct
+    walk-distinct at [] w h = tt
+    walk-distinct at (q ∷ ks) w h = (
+      others ks (λ i k e same.
+          let own = h q w.0 in
+          let low = lower q ks own w.1 i k e in
+          absurd (omega (arith, low.1, ap linked.rank (apart q k own.0 low.0.0 own.1 low.0.1 same)))),
+      walk-distinct (next q) ks w.1 (rest_listed q (h q w.0)),
+    )
+      where
+        others : (ks : List K) → ((i : ℕ) (k : K) → slice_get ks i ≡ Some k → code q ≢ code k) → AllByRecursion (λ y. eqb (code q) y ≡ false) (map code ks)
+        others [] h = tt
+        others (k ∷ ks) h = (nat_eq-false (code q) (code k) (h zero k refl), others ks (λ i j e. h (suc i) j e))
+
+    codes_below : (at : Option K) (ks : List K) → IsWalk next at ks → ((k : K) → at ≡ Some k → Listed k) → (n : ℕ) → list_any (eqb n) (map code ks) ≡ true → n < most
+    codes_below at [] w h n t = absurd (cc)
+    codes_below at (q ∷ ks) w h n t = elim (cases_eq n (code q)) [
+      | inl same ↦ let own = h q w.0 in omega (arith, within q own.0 own.1, same)
+      | inr ne ↦ codes_below (next q) ks w.1 (rest_listed q (h q w.0)) n (rw (nat_eq-false n (code q) ne) at t)
+    ]
+
+    first_listed : (k : K) → firsts list ≡ Some k → Listed k
+    first_listed k e = let h = linked.first list k e in (h.0, h.1, h.2)
+
+    own_length : length own_walk.0 ≤ most
+    own_length =
+        let below = length-le_from_distinct_below (map code own_walk.0) most (walk-distinct (firsts list) own_walk.0 own_walk.1 first_listed) (codes_below (firsts list) own_walk.0 own_walk.1 first_listed) in
+        omega (arith, below, length-map own_walk.0 code)
+
+    walk-own : walk next most (firsts list) ≡ own_walk.0
+    walk-own = walk-is most (firsts list) own_walk.0 own_walk.1 own_length
+
+    -- from the first of a list on
+    pub whole-list : IsWalk next (firsts list) (walk next most (firsts list))
+    whole-list = let P : List K → Type 0 = IsWalk next (firsts list) in subst P (sym walk-own) own_walk.1
+
+    pub once-list : IsOnce (walk next most (firsts list))
+    once-list m n k e f = walk-once (firsts list) (walk next most (firsts list)) whole-list first_listed m n k e f
+
+    shown : (k : K) → IsIn (walk next most (firsts list)) k → Listed k
+    shown k h = (walk-below linked.peak (firsts list) (walk next most (firsts list)) whole-list (λ j e. let l = first_listed j e in (l, linked.low j l.0 l.1)) h.0 k h.1).0
+
+    pub items-list : (k : K) → IsIn (walk next most (firsts list)) k ↔ ((m : Member K) × (members k ≡ Some m) × (m.list ≡ list))
+    items-list k = (shown k, λ h. walk-all (walk next most (firsts list)) whole-list (suc linked.peak) k h.0 h.1 h.2 (omega arith))

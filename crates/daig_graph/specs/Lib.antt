@@ -1,10 +1,11 @@
 pub mod Keys
 pub mod Linked
-pub mod Held
 pub mod Walks
-pub mod Cells
+pub mod Held
+pub mod Threads
 pub mod Buckets
+pub mod Owners
+pub mod Cells
 pub mod Agrees
-pub mod Uses
 pub mod Numbers
 pub mod Renumbered

@@ -1,22 +1,15 @@
 //! Filling cells and taking them away.
-ghost use Rattle.std.specs.Prelude.{◌≡◌, ◌≢◌, ℕ, ◌≤◌, ◌<◌, None, Some, IsSome, OnOk, OnErr, length, slice_get};
+ghost use Rattle.std.specs.Prelude.{◌≡◌, ℕ, ◌<◌, None, IsSome, OnOk, OnErr, length};
 ghost use Rattle.std.specs.FinMap as map;
-ghost use Rattle.slab.specs.Slab.{get, HasRoomFor};
-ghost use Rattle.daig_graph.specs.Held.{held, IsOnce};
-ghost use Rattle.daig_graph.specs.Keys.{key_at};
-ghost use Rattle.daig_graph.specs.Uses.{Links, Unlinks};
+ghost use Rattle.daig_graph.specs.Agrees.{filled_at, Agrees};
 ghost use Rattle.daig_graph.specs.Cells.{AreCells, HoldsState, IsUnused, ReplacesHeld};
-ghost use Rattle.daig_graph.specs.declared.value.Value.TheVariants.{State};
 
-use crate::graph::{Cell, Graph, Use};
-use crate::index::{Index, Link};
+use crate::graph::Graph;
 use crate::inputs::Inputs;
-use crate::owned::bucket;
-use crate::pool::Lists;
+use crate::owned::{Owned, bucket};
+use crate::uses::Uses;
 use crate::value::Value;
 use base_values::Memory;
-use slab::Slab;
-use smallvec::SmallVec;
 use std::alloc::{AllocError, Global};
 
 impl<V> Graph<V> {
@@ -26,10 +19,11 @@ impl<V> Graph<V> {
         ensures empty { result.cells ≡ map.empty }
     {
         Graph {
-            cells: Slab::new(alloc),
-            keys: Index::new(alloc),
-            owned: Lists::new(alloc),
-            uses: Lists::new(alloc),
+            values: Vec::new(alloc),
+            owned: Owned::new(alloc),
+            uses: Uses::new(alloc),
+            count: 0,
+            alloc,
         }
     }
 
@@ -56,29 +50,18 @@ impl<V> Graph<V> {
             (record { owner = owner; value = value; inputs = inputs })) }
         ensures err { OnErr result (self.new.cells ≡ self.old.cells) }
     {
-        let mut uses = inputs.blank_keys()?;
-        let list = bucket(owner);
-        make_room(
-            &mut self.cells,
-            &mut self.keys,
+        reserve(
+            self.alloc,
+            &mut self.values,
             &mut self.owned,
             &mut self.uses,
             cell,
-            list,
-            inputs.len(),
+            bucket(owner),
         )?;
-        let Inputs { cells: inputs } = inputs;
-        link_inputs(&mut self.uses, cell, inputs.as_slice(), &mut uses);
-        let own = self.owned.push(list, cell);
-        let key = self.cells.insert_reserved(Cell {
-            number: cell,
-            owner,
-            value,
-            own,
-            inputs,
-            uses,
-        });
-        self.keys.set(cell, Link::to(&self.cells, key));
+        self.uses.set(cell, inputs)?;
+        self.owned.put(cell, owner);
+        self.values[cell] = Some(value);
+        self.count += 1;
         Ok(())
     }
 
@@ -90,9 +73,7 @@ impl<V> Graph<V> {
         requires state { HoldsState self.old.cells cell }
         ensures replaces { ReplacesHeld self.old.cells cell held self.new.cells }
     {
-        if let Some(key) = self.keys.get(cell).key() {
-            set_held(&mut self.cells, key, held);
-        }
+        self.values[cell] = Some(Value::State(held));
     }
 
     /// Takes a cell away that is an input of no other. It takes as many steps as the cell has inputs, and no memory.
@@ -104,94 +85,58 @@ impl<V> Graph<V> {
         requires unused { IsUnused self.old.cells cell }
         ensures removes { self.new.cells ≡ map.remove self.old.cells cell }
     {
-        let Some(key) = self.keys.get(cell).key() else {
-            return;
-        };
-        let removed = self.cells.remove(key);
-        self.keys.set(cell, Link::none());
-        self.owned.remove(removed.own);
-        unlink(&mut self.uses, removed.uses.as_slice());
+        self.uses.clear(self.alloc, cell);
+        let _owner = self.owned.take(cell);
+        self.values[cell] = None;
+        self.count -= 1;
     }
 }
 
-/// Room for a cell on a list with so many inputs, and places for its number and the list. All that is held stays as it
-/// is.
+/// A place for this number and this list. All that is held stays as it is.
 #[inline]
-fn make_room<V>(
-    cells: &mut Slab<Cell<V>>,
-    keys: &mut Index,
-    owned: &mut Lists<usize>,
-    uses: &mut Lists<Use>,
+fn reserve<V: Drop>(
+    alloc: Global,
+    values: &mut Vec<Option<Value<V>>>,
+    owned: &mut Owned,
+    uses: &mut Uses,
     cell: usize,
     list: usize,
-    inputs: usize,
 ) -> Result<(), AllocError>
-    ensures room { OnOk result (HasRoomFor cells.new 1) }
-    ensures key { OnOk result (cell < length keys.new) }
-    ensures owned_room { OnOk result (1 ≤ owned.new.room) }
-    ensures list { OnOk result (list < owned.new.places) }
-    ensures uses_room { OnOk result (inputs ≤ uses.new.room) }
-    ensures place { OnOk result (cell < uses.new.places) }
-    ensures cells { cells.new ≡ record cells.old { capacity = cells.new.capacity } }
-    ensures keys { (n : ℕ) → key_at keys.new n ≡ key_at keys.old n }
-    ensures owned { owned.new.slots ≡ owned.old.slots }
-    ensures uses { uses.new.slots ≡ uses.old.slots }
-    ensures places { uses.old.places ≤ uses.new.places }
+    ensures place { OnOk result (cell < length values.new.items) }
+    ensures list { OnOk result (list < owned.new.lists) }
+    ensures same { (n : ℕ) → filled_at values.new.items owned.new.of uses.new n ≡
+        filled_at values.old.items owned.old.of uses.old n }
+    ensures agrees { (count : ℕ) → Agrees values.old.items owned.old.of uses.old count →
+        Agrees values.new.items owned.new.of uses.new count }
 {
-    cells.reserve(1)?;
-    keys.reserve(cell)?;
-    owned.reserve(1, list)?;
-    uses.reserve(inputs, cell)
-}
-
-/// The cell at a key holds this state.
-#[inline]
-fn set_held<V: Drop>(cells: &mut Slab<Cell<V>>, key: usize, held: V)
-    ensures set { (c : _) → get cells.old key ≡ Some c →
-        get cells.new key ≡ Some (record c { value = State held }) }
-    ensures others { (k : ℕ) → k ≢ key → get cells.new k ≡ get cells.old k }
-{
-    if let Some(cell) = cells.get_mut(key) {
-        cell.value = Value::State(held);
+    if cell < values.len() && list < owned.lists() {
+        return Ok(());
     }
+    make_places(alloc, values, owned, uses, cell, list)
 }
 
-/// Puts the uses of these inputs into their lists, and their keys in place of what `keys` has.
-#[inline]
-fn link_inputs(uses: &mut Lists<Use>, cell: usize, inputs: &[usize], keys: &mut SmallVec<usize, 2>)
-    requires as_many { length keys.old.items ≡ length inputs.now }
-    requires room { length inputs.now ≤ uses.old.room }
-    requires placed { (i x : ℕ) → slice_get inputs.now i ≡ Some x → x < uses.old.places }
-    ensures links { Links uses.old uses.new cell inputs.now keys.new.items (length inputs.now) }
-    ensures as_many { length keys.new.items ≡ length inputs.now }
-    ensures places { uses.new.places ≡ uses.old.places }
+/// Places for this number and this list, and for all below them. It takes as many steps as there are new places.
+#[cold]
+#[inline(never)]
+fn make_places<V: Drop>(
+    alloc: Global,
+    values: &mut Vec<Option<Value<V>>>,
+    owned: &mut Owned,
+    uses: &mut Uses,
+    cell: usize,
+    list: usize,
+) -> Result<(), AllocError>
+    ensures place { OnOk result (cell < length values.new.items) }
+    ensures list { OnOk result (list < owned.new.lists) }
+    ensures same { (n : ℕ) → filled_at values.new.items owned.new.of uses.new n ≡
+        filled_at values.old.items owned.old.of uses.old n }
+    ensures agrees { (count : ℕ) → Agrees values.old.items owned.old.of uses.old count →
+        Agrees values.new.items owned.new.of uses.new count }
 {
-    link(uses, cell, inputs, keys.as_mut_slice());
-}
-
-/// Puts the uses of these inputs into their lists, and their keys into `keys`.
-#[inline]
-fn link(uses: &mut Lists<Use>, cell: usize, inputs: &[usize], keys: &mut [usize])
-    requires as_many { length keys.old ≡ length inputs.now }
-    requires room { length inputs.now ≤ uses.old.room }
-    requires placed { (i x : ℕ) → slice_get inputs.now i ≡ Some x → x < uses.old.places }
-    ensures links { Links uses.old uses.new cell inputs.now keys.new (length inputs.now) }
-    ensures places { uses.new.places ≡ uses.old.places }
-{
-    for (place, input) in inputs.iter().enumerate() {
-        keys[place] = uses.push(*input, Use { cell, place });
+    owned.reserve(cell, list)?;
+    uses.reserve(alloc, cell)?;
+    while values.len() <= cell {
+        values.push(None)?;
     }
-}
-
-/// Takes the uses under these keys out of their lists.
-#[inline]
-fn unlink(uses: &mut Lists<Use>, keys: &[usize])
-    requires there { (i u : ℕ) → slice_get keys.now i ≡ Some u → IsSome (held uses.old u) }
-    requires once { IsOnce keys.now }
-    ensures unlinks { Unlinks uses.old uses.new keys.now (length keys.now) }
-    ensures places { uses.new.places ≡ uses.old.places }
-{
-    for key in keys {
-        uses.remove(*key);
-    }
+    Ok(())
 }

@@ -56,17 +56,4 @@ impl Inputs {
     {
         self.cells.len()
     }
-
-    /// As many keys, which mean nothing yet.
-    #[inline]
-    pub(crate) fn blank_keys(&self) -> Result<SmallVec<usize, 2>, Memory>
-        ensures as_many { IfOk result (λ keys. length keys.items ≡ length self.now) }
-    {
-        let cells = &self.cells;
-        let mut keys = SmallVec::new(*cells.allocator());
-        for place in 0..cells.len() {
-            keys.push(place)?;
-        }
-        Ok(keys)
-    }
 }

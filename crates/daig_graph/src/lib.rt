@@ -4,35 +4,33 @@
 //! its inputs from left to right; contracts see it as that map. A cell is filled when all its inputs are there, and
 //! taken away when no other has it as an input, so inputs are always cells.
 //!
-//! Cells stand in a slab and are found by an index, a list of keys with a place for each number (`specs/Keys.antt`). What
-//! uses a cell, and what belongs to a statement, are lists that are threaded through two pools of members
-//! (`specs/Linked.antt`), so that an item goes in and out in constant time, however long its list is; their first members
-//! are found by an index too. Filling and removing take as many steps as the cell has inputs, and filling as many more as
-//! the indexes get places; reading takes constant time, and a list of dependents or of the cells of a statement is
-//! walked, not copied. Removing and reading take no memory. A list of inputs comes as [`Inputs`].
+//! What there is of a cell stands at the place of its number. What uses a cell, and what belongs to a statement, are lists
+//! that are threaded through these places (`specs/Linked.antt`), so that an item goes in and out in constant time, however
+//! long its list is. Filling and removing take as many steps as the cell has inputs, and filling as many more as there are
+//! new places; reading takes constant time, and a list of dependents or of the cells of a statement is walked, not copied.
+//! Removing and reading take no memory. A list of inputs comes as [`Inputs`].
 //!
-//! The memory of the indexes of cells is in proportion to the greatest number of a cell, so numbers are to be given from
-//! 0 on. [`Graph::renumber`] gives the cells other numbers, in the same order, so that those of cells that are gone need
-//! not be kept. Statements keep their numbers: the index of their lists has a bounded number of places, and statements
-//! whose numbers are far apart may share a list (`specs/Buckets.antt`).
+//! The memory is in proportion to the greatest number of a cell, so numbers are to be given from 0 on.
+//! [`Graph::renumber`] gives the cells other numbers, in the same order, so that those of cells that are gone need not be
+//! kept. Statements keep their numbers: their lists are a bounded number, and statements whose numbers are far apart may
+//! share a list (`specs/Buckets.antt`).
 //!
 //! The crate knows neither names nor programs nor domains.
 #![tactic(auto)]
 
+mod dependents;
 mod filling;
 mod graph;
-mod index;
 mod inputs;
-mod lists;
+mod links;
 mod owned;
-mod pool;
 mod reading;
 mod renumbering;
+mod uses;
 mod value;
-mod walk;
 
+pub use dependents::Dependents;
 pub use graph::{Graph, Use};
 pub use inputs::Inputs;
 pub use owned::OwnedCells;
 pub use value::{SharedChain, Value};
-pub use walk::Iter;

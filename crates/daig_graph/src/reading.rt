@@ -1,14 +1,14 @@
 //! Reading cells.
-ghost use Rattle.std.specs.Prelude.{◌≡◌, ℕ, ◌↔◌, option_copied, option_map, IfSome, IsTrue, None};
+ghost use Rattle.std.specs.Prelude.{◌≡◌, ℕ, ◌↔◌, ◌<◌, option_copied, option_map, IfSome, IsSome};
 ghost use Rattle.std.specs.FinMap as map;
-ghost use Rattle.daig_graph.specs.Agrees.{filled};
+ghost use Rattle.daig_graph.specs.declared.graph.Use.{Use};
 ghost use Rattle.daig_graph.specs.Held.{IsIn, IsOnce};
 ghost use Rattle.daig_graph.specs.Cells.{AreCells, IsOwned, IsUse, is_owned};
 
-use crate::graph::{Cell, Graph, Use};
+use crate::dependents::Dependents;
+use crate::graph::Graph;
 use crate::owned::{OwnedCells, bucket};
 use crate::value::Value;
-use crate::walk::Iter;
 
 impl<V> Graph<V> {
     /// The value of a cell, or `None` where it is not there.
@@ -17,8 +17,8 @@ impl<V> Graph<V> {
         ensures value { option_copied result ≡ option_map
             (λ f. f.value) (map.get self.now.cells cell) }
     {
-        match self.cell(cell) {
-            Some(found) => Some(&found.value),
+        match self.values.get(cell) {
+            Some(value) => value.as_ref(),
             None => None,
         }
     }
@@ -30,8 +30,8 @@ impl<V> Graph<V> {
             (λ f. f.inputs) (map.get self.now.cells cell) }
         ensures cells { IfSome result (λ inputs. AreCells self.now.cells inputs.now) }
     {
-        match self.cell(cell) {
-            Some(found) => Some(found.inputs.as_slice()),
+        match self.value(cell) {
+            Some(_) => Some(self.uses.inputs(cell)),
             None => None,
         }
     }
@@ -39,11 +39,11 @@ impl<V> Graph<V> {
     /// The cells of which a cell is an input, each with the place where it stands among its inputs; none where the cell
     /// is not there. No two are alike.
     #[inline]
-    pub fn dependents(&self, cell: usize) -> Iter<'_, Use>
+    pub fn dependents(&self, cell: usize) -> Dependents<'_>
         ensures once { IsOnce result }
         ensures uses { (u : Use) → IsIn result u ↔ IsUse self.now.cells cell u }
     {
-        self.uses.items(cell)
+        self.uses.uses(cell)
     }
 
     /// The cells that belong to a statement, each once. Going over them takes as many steps as there are cells on the
@@ -65,7 +65,15 @@ impl<V> Graph<V> {
     pub fn kept_count(&self) -> usize
         ensures count { result ≡ map.len self.now.cells }
     {
-        self.cells.len()
+        self.count
+    }
+
+    /// A number beyond those of all cells.
+    #[inline]
+    pub fn room(&self) -> usize
+        ensures room { (n : ℕ) → IsSome (map.get self.now.cells n) → n < result }
+    {
+        self.values.len()
     }
 
     /// Whether a cell belongs to a statement.
@@ -73,20 +81,9 @@ impl<V> Graph<V> {
     pub(crate) fn is_owned(&self, cell: usize, statement: u32) -> bool
         ensures is { result ≡ is_owned self.now.cells statement cell }
     {
-        match self.cell(cell) {
-            Some(found) => found.owner == statement,
+        match self.owned.owner(cell) {
+            Some(owner) => owner == statement,
             None => false,
-        }
-    }
-
-    #[inline]
-    fn cell(&self, number: usize) -> Option<&Cell<V>>
-        ensures filled { option_map filled (option_copied result) ≡ map.get self.now.cells number }
-        ensures cells { IfSome result (λ c. AreCells self.now.cells c.now.inputs.items) }
-    {
-        match self.keys.get(number).key() {
-            Some(key) => self.cells.get(key),
-            None => None,
         }
     }
 }
