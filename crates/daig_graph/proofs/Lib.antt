@@ -1,6 +1,9 @@
 pub mod Cases
 pub mod Maps
 pub mod Filtering
+pub mod Threading
 pub mod Pushing
 pub mod Removing
+pub mod ThreadingOn
+pub mod ThreadingLinks
 pub mod Walking
