@@ -20,6 +20,10 @@ some_item (Some a) h = (a, refl)
 pub is_there : {A : Type 0} (o : Option A) (a : A) → o ≡ Some a → IsSome o
 is_there {A} o a e = let P : Option A → Type 0 = λ p. IsSome p in subst P (sym e) refl
 
+-- the first use of a number whose links are these
+pub first-found : (links : List Links) (n : ℕ) (l : Links) → n < length links → l ≡ slice_index_or links n l → first_at links n ≡ l.first
+first-found links n l inside found = ap first_of (slice_get_read links (length links) n l refl inside found)
+
 -- The first use of a number is another, and a cell has neighbours more.
 pub record PushesBeside (old new : List Links) (cell : ℕ) (b : Beside) (input : ℕ) (head : Option Use) : Type 0 where
   pub places : length new ≡ length old
@@ -65,7 +69,7 @@ module _ (links : List Links) (cell input : ℕ) (there : cell < length links) (
           room = λ count h. room-here headed cell last cell_there count (let r = pushed-room (suc count) h in omega (arith, r, ap length items, length_push m.beside.items b, cap));
         }
 
-module _ (old mid : List Links) (u : Use) (b : Beside) (input : ℕ) (p : PushesBeside old mid u.cell b input (Some u)) (place : u.place ≡ length (besides old u.cell)) where
+module _ (old mid : List Links) (u : Use) (b : Beside) (input : ℕ) (head : Option Use) (is_head : head ≡ Some u) (p : PushesBeside old mid u.cell b input head) (place : u.place ≡ length (besides old u.cell)) where
   -- all neighbours are still there
   push-front : (k : Use) (c : Beside) → beside_at old k ≡ Some c → beside_at mid k ≡ Some c
   push-front k c e = elim (cases_eq k.cell u.cell) [
@@ -93,20 +97,23 @@ module _ (old mid : List Links) (u : Use) (b : Beside) (input : ℕ) (p : Pushes
   not_there = slice_get_past (besides old u.cell) u.place (omega (arith, place))
 
   module _ (new : List Links) (next : first_at old input ≡ b.next) (none : b.before ≡ None) (first : (v : Use) → first_at old input ≡ Some v → IsSome (beside_at old v))
-      (set : (v : Use) (c : Beside) → b.next ≡ Some v → beside_at mid v ≡ Some c → beside_at new v ≡ Some (record c { before = Some u }))
+      (set : (v : Use) (c : Beside) → b.next ≡ Some v → beside_at mid v ≡ Some c → beside_at new v ≡ Some (record c { before = head }))
       (others : (v : Use) → b.next ≢ Some v → beside_at new v ≡ beside_at mid v)
       (firsts : (n : ℕ) → first_at new n ≡ first_at mid n)
       (shape : HaveOneShape mid new) where
+    pub put_room : (count : ℕ) → HasRoom old u.cell (suc count) → HasRoom new u.cell count
+    put_room count h = shape.room u.cell count (p.room count h)
+
     pub puts : PutsUse old new u input
     puts = record {
       places = shape.places ∙ p.places;
       longer = shape.as_long u.cell ∙ ap length p.here ∙ length_push (besides old u.cell) b;
       as_long = λ n ne. shape.as_long n ∙ ap length (p.elsewhere n ne);
-      first = firsts input ∙ p.first;
+      first = firsts input ∙ p.first ∙ is_head;
       firsts = λ q ne. firsts q ∙ p.firsts q ne;
       here = others u (λ e. let c = some_item (beside_at old u) (first u (next ∙ e)) in none-some (sym not_there ∙ c.1))
           ∙ ap₂ slice_get p.here place ∙ get_last (besides old u.cell) b ∙ ap₂ (λ o f. Some (record { before = o; next = f })) none (sym next);
-      after = λ k c f e. set k c (sym next ∙ f) (push-front k c e);
+      after = λ k c f e. set k c (sym next ∙ f) (push-front k c e) ∙ ap (λ o. Some (record c { before = o })) is_head;
       others = λ k ne f. others k (λ e. f (next ∙ e)) ∙ push-others k ne;
     }
 

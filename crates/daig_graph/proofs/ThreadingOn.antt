@@ -32,7 +32,7 @@ pub member_there : (inputs : List (List ℕ)) (links : List Links) (k : Use) (m 
 member_there inputs links k m e =
     let P : Option Beside → Type 0 = λ o. IsSome o in
     let it = made (slice_get (inputs_at inputs k.cell) k.place) (beside_at links k) m e in
-    subst P (sym it.of_beside) (search rules)
+    subst P (sym it.of_beside) refl
 
 -- the first use of a number has neighbours
 pub first_there : (inputs : List (List ℕ)) (links : List Links) → AreThreaded inputs links → (x : ℕ) (k : Use) → first_at links x ≡ Some k → IsSome (beside_at links k)
