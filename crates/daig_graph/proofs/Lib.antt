@@ -6,4 +6,5 @@ pub mod Pushing
 pub mod Removing
 pub mod ThreadingOn
 pub mod ThreadingLinks
+pub mod ThreadingAll
 pub mod Walking
