@@ -7,4 +7,5 @@ pub mod Removing
 pub mod ThreadingOn
 pub mod ThreadingLinks
 pub mod ThreadingAll
+pub mod ThreadingKept
 pub mod Walking

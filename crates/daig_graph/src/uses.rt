@@ -124,6 +124,8 @@ impl Uses {
         ensures moved { self.new ≡ slice_set (slice_set self.old cell []) to
             (map (renumbered new_of.now) (inputs_at self.old cell)) }
     {
+        // the room for the uses is no less than there are
+        let _count = self.links[cell].beside.len();
         unlink_all(&mut self.links, cell, self.inputs[cell].as_slice());
         let mut inputs = mem::replace(&mut self.inputs[cell], Inputs::new(alloc));
         move_room(alloc, &mut self.links, cell, to);

@@ -42,3 +42,6 @@ loop-place-preserved c =
           let left : c.loop-place.place + (more - 1) ≡ length inputs = omega (arith, e, one, c.loop-place.invariant.within) in
           subst R on (c.unlink_last.ensures.room (count + (more - 1)) (c.loop-place.invariant.room count (more - 1) left h));
     }
+
+pub returns-clause-room : goal.returns-clause-room
+returns-clause-room c = λ count h. c.loop-place.invariant.room count (length c.args.inputs.now) (omega (arith, c.loop-place-test.false)) h
