@@ -1,9 +1,14 @@
 pub mod Cases
 pub mod Maps
 pub mod Filtering
+pub mod Threading
 pub mod Pushing
 pub mod Removing
 pub mod Linking
+pub mod ThreadingOn
+pub mod ThreadingLinks
+pub mod ThreadingAll
+pub mod ThreadingKept
 pub mod Walking
 pub mod Owning
 pub mod OwnedWalk

@@ -55,8 +55,9 @@ impl Uses {
         ensures most { length self.new ≤ max (length self.old) (suc cell) }
     {
         while self.inputs.len() <= cell {
+            self.inputs.reserve(1)?;
             self.links.push(Links::new(alloc))?;
-            self.inputs.push(Inputs::new(alloc))?;
+            self.inputs.push_reserved(Inputs::new(alloc));
         }
         Ok(())
     }
@@ -119,6 +120,8 @@ impl Uses {
         ensures moved { self.new ≡ slice_set (slice_set self.old cell []) to
             (map (renumbered new_of.now) (inputs_at self.old cell)) }
     {
+        // the room for the uses is no less than there are
+        let _count = self.links[cell].beside.len();
         unlink_all(&mut self.links, cell, self.inputs[cell].as_slice());
         let mut inputs = mem::replace(&mut self.inputs[cell], Inputs::new(alloc));
         move_room(alloc, &mut self.links, cell, to);
@@ -207,6 +210,7 @@ fn unlink_all(links: &mut Vec<Links>, cell: usize, inputs: &[usize])
 #[inline]
 fn link_one(links: &mut Vec<Links>, cell: usize, place: usize, input: usize)
     requires cell { suc cell < 2 ^ 64 }
+    requires there { cell < length links.old.items }
     requires place { place ≡ length (besides links.old.items cell) }
     requires input { input < length links.old.items }
     requires room { HasRoom links.old.items cell 1 }
@@ -236,9 +240,9 @@ fn unlink_last(links: &mut Vec<Links>, cell: usize, place: usize, input: usize)
     ensures takes { (b : Beside) → beside_at links.old.items (record { cell = cell; place = place }) ≡ Some b → TakesUse links.old.items links.new.items (record { cell = cell; place = place }) b input }
     ensures room { (count : ℕ) → HasRoom links.old.items cell count → HasRoom links.new.items cell (suc count) }
 {
-    if let Some(Beside { before, next }) = links[cell].beside.pop() {
-        set_next(links, input, before, next);
-        set_before(links, next, before);
+    if let Some(beside) = links[cell].beside.pop() {
+        set_next(links, input, beside.before, beside.next);
+        set_before(links, beside.next, beside.before);
     }
 }
 

@@ -1,0 +1,145 @@
+-- The lists of uses stay threaded where the same uses stand elsewhere, or where places come and go.
+use Rattle.std.proofs.Common.{◌≡◌, ◌≢◌, ℕ, zero, suc, ◌+◌, ◌<◌, ◌≤◌, List, [], ◌∷◌, ◌++◌, length, take, get_or, Option, Some, None, slice_get, slice_set, refl, sym, ap, ap₂, ◌∙◌, subst, arith, inl, inr}
+use Rattle.daig_graph.specs.declared.graph.Use.{Use}
+use Rattle.daig_graph.specs.declared.links.Beside.{Beside}
+use Rattle.daig_graph.specs.declared.links.Links.{Links}
+use Rattle.daig_graph.specs.Linked.{Member, AreLinked}
+use Rattle.daig_graph.specs.Threads.{inputs_at, first_of, first_at, beside_of, besides, beside_at, member_of, use_member, AllBelow, AreSame, AreThreaded, AreThreadedWith, HasRoom, Threads}
+use Rattle.daig_graph.proofs.Cases.{none-some}
+use Rattle.daig_graph.proofs.ThreadingOn.{made}
+use Rattle.std.proofs.lemmas.Option.{same_Some, get_or_from_slice_get}
+use Rattle.std.proofs.lemmas.Bool.{cases_lt}
+use Rattle.std.proofs.lemmas.List.{length_push, length-take-le, set-get_or}
+
+-- the same members and first items are linked the same
+pub linked-along : {K : Type 0} (old new : K → Option (Member K)) (firsts new_firsts : ℕ → Option K) → ((k : K) → new k ≡ old k) → ((l : ℕ) → new_firsts l ≡ firsts l) → AreLinked old firsts → AreLinked new new_firsts
+linked-along old new firsts new_firsts same same_first linked = record {
+  first = λ l k e. let h = linked.first l k (sym (same_first l) ∙ e) in (h.0, same k ∙ h.1, h.2, h.3);
+  front = λ k m e n. same_first m.list ∙ linked.front k m (sym (same k) ∙ e) n;
+  back = λ k j m e n. let h = linked.back k j m (sym (same k) ∙ e) n in (h.0, same j ∙ h.1, h.2, h.3);
+  ahead = λ k j m e n. let h = linked.ahead k j m (sym (same k) ∙ e) n in (h.0, same j ∙ h.1, h.2, h.3);
+  rank = linked.rank;
+  peak = linked.peak;
+  falls = λ k j m e n. linked.falls k j m (sym (same k) ∙ e) n;
+  low = λ k m e. linked.low k m (sym (same k) ∙ e);
+}
+
+-- nothing is used
+pub threaded-none : (inputs : List (List ℕ)) (links : List Links) → inputs ≡ [] → links ≡ [] → AreThreaded inputs links
+threaded-none inputs links no_inputs no_links =
+    let empty : (n : ℕ) → inputs_at inputs n ≡ [] = λ n. ap (λ xs. inputs_at xs n) no_inputs in
+    let bare : (n : ℕ) → besides links n ≡ [] = λ n. ap (λ ls. besides ls n) no_links in
+    let first : (n : ℕ) → first_at links n ≡ None = λ n. ap (λ ls. first_at ls n) no_links in
+    let member : (k : Use) → use_member inputs links k ≡ None = λ k. ap (λ xs. member_of (slice_get xs k.place) (beside_at links k)) (empty k.cell) in
+    record {
+      places = ap length no_links ∙ sym (ap length no_inputs);
+      as_many = λ n. ap length (bare n) ∙ sym (ap length (empty n));
+      within = λ n i x e. none-some (sym (ap (λ xs. slice_get xs i) (empty n)) ∙ e);
+      linked = record {
+        first = λ l k e. none-some (sym (first l) ∙ e);
+        front = λ k m e n. none-some (sym (member k) ∙ e);
+        back = λ k j m e n. none-some (sym (member k) ∙ e);
+        ahead = λ k j m e n. none-some (sym (member k) ∙ e);
+        rank = λ k. 0;
+        peak = 0;
+        falls = λ k j m e n. none-some (sym (member k) ∙ e);
+        low = λ k m e. none-some (sym (member k) ∙ e);
+      };
+    }
+
+-- the same at each number
+pub threaded-along : (inputs kept : List (List ℕ)) (old new : List Links) → AreThreaded inputs old → ((n : ℕ) → inputs_at kept n ≡ inputs_at inputs n) → ((n : ℕ) → first_at new n ≡ first_at old n) → ((n : ℕ) → besides new n ≡ besides old n)
+    → length new ≡ length kept → ((n : ℕ) → AllBelow (inputs_at inputs n) (length kept)) → AreThreaded kept new
+threaded-along inputs kept old new t same firsts beside places within = record {
+  places = places;
+  as_many = λ n. ap length (beside n) ∙ t.as_many n ∙ sym (ap length (same n));
+  within = λ n i x e. within n i x (sym (ap (λ xs. slice_get xs i) (same n)) ∙ e);
+  linked = linked-along (use_member inputs old) (use_member kept new) (first_at old) (first_at new)
+      (λ k. ap₂ (λ xs bs. member_of (slice_get xs k.place) (slice_get bs k.place)) (same k.cell) (beside k.cell)) firsts t.linked;
+}
+
+pub threaded-same : (inputs : List (List ℕ)) (old new : List Links) → AreSame old new → AreThreaded inputs old → AreThreaded inputs new
+threaded-same inputs old new s t = threaded-along inputs inputs old new t (λ n. refl) s.firsts s.besides (s.places ∙ t.places) t.within
+
+-- a place more, for a number that has nothing
+pub inputs-more : (inputs : List (List ℕ)) (n : ℕ) → inputs_at (inputs ++ [] ∷ []) n ≡ inputs_at inputs n
+inputs-more [] zero = refl
+inputs-more [] (suc n) = refl
+inputs-more (xs ∷ inputs) zero = refl
+inputs-more (xs ∷ inputs) (suc n) = inputs-more inputs n
+
+firsts-more : (links : List Links) (l : Links) → l.first ≡ None → (n : ℕ) → first_at (links ++ l ∷ []) n ≡ first_at links n
+firsts-more [] l none zero = none
+firsts-more [] l none (suc n) = refl
+firsts-more (k ∷ links) l none zero = refl
+firsts-more (k ∷ links) l none (suc n) = firsts-more links l none n
+
+besides-more : (links : List Links) (l : Links) → l.beside.items ≡ [] → (n : ℕ) → besides (links ++ l ∷ []) n ≡ besides links n
+besides-more [] l none zero = none
+besides-more [] l none (suc n) = refl
+besides-more (k ∷ links) l none zero = refl
+besides-more (k ∷ links) l none (suc n) = besides-more links l none n
+
+pub threaded-more : (inputs : List (List ℕ)) (links : List Links) (l : Links) → l.first ≡ None → l.beside.items ≡ [] → AreThreaded inputs links → AreThreaded (inputs ++ [] ∷ []) (links ++ l ∷ [])
+threaded-more inputs links l none bare t = threaded-along inputs (inputs ++ [] ∷ []) links (links ++ l ∷ []) t (inputs-more inputs) (firsts-more links l none) (besides-more links l bare)
+    (length_push links l ∙ ap (λ k. k + 1) t.places ∙ sym (length_push inputs []))
+    (λ n i x e. let h = t.within n i x e in omega (arith, h, length_push inputs []))
+
+-- the places from a number on are gone
+take-inputs : (inputs : List (List ℕ)) (room n : ℕ) → (room ≤ n → inputs_at inputs n ≡ []) → inputs_at (take room inputs) n ≡ inputs_at inputs n
+take-inputs [] zero n none = refl
+take-inputs [] (suc room) n none = refl
+take-inputs (xs ∷ inputs) zero n none = sym (none (omega arith))
+take-inputs (xs ∷ inputs) (suc room) zero none = refl
+take-inputs (xs ∷ inputs) (suc room) (suc n) none = take-inputs inputs room n (λ le. none (omega (arith, le)))
+
+take-firsts : (links : List Links) (room n : ℕ) → (room ≤ n → first_at links n ≡ None) → first_at (take room links) n ≡ first_at links n
+take-firsts [] zero n none = refl
+take-firsts [] (suc room) n none = refl
+take-firsts (l ∷ links) zero n none = sym (none (omega arith))
+take-firsts (l ∷ links) (suc room) zero none = refl
+take-firsts (l ∷ links) (suc room) (suc n) none = take-firsts links room n (λ le. none (omega (arith, le)))
+
+take-besides : (links : List Links) (room n : ℕ) → (room ≤ n → besides links n ≡ []) → besides (take room links) n ≡ besides links n
+take-besides [] zero n none = refl
+take-besides [] (suc room) n none = refl
+take-besides (l ∷ links) zero n none = sym (none (omega arith))
+take-besides (l ∷ links) (suc room) zero none = refl
+take-besides (l ∷ links) (suc room) (suc n) none = take-besides links room n (λ le. none (omega (arith, le)))
+
+nothing : {A : Type 0} (xs : List A) → length xs ≡ 0 → xs ≡ []
+nothing [] e = refl
+nothing (x ∷ xs) e = absurd (omega (arith, e))
+
+lengths-take : {A B : Type 0} (xs : List A) (ys : List B) (n : ℕ) → length xs ≡ length ys → length (take n xs) ≡ length (take n ys)
+lengths-take [] [] zero e = refl
+lengths-take [] [] (suc n) e = refl
+lengths-take [] (y ∷ ys) n e = absurd (omega (arith, e))
+lengths-take (x ∷ xs) [] n e = absurd (omega (arith, e))
+lengths-take (x ∷ xs) (y ∷ ys) zero e = refl
+lengths-take (x ∷ xs) (y ∷ ys) (suc n) e = ap suc (lengths-take xs ys n (omega (arith, e)))
+
+-- what is below both bounds is below what is left
+below-take : {A : Type 0} (xs : List A) (n x : ℕ) → x < n → x < length xs → x < length (take n xs)
+below-take xs zero x a b = absurd (omega (arith, a))
+below-take [] (suc n) x a b = b
+below-take (y ∷ xs) (suc n) zero a b = omega arith
+below-take (y ∷ xs) (suc n) (suc x) a b = omega (arith, below-take xs n x (omega (arith, a)) (omega (arith, b)))
+
+module _ (inputs : List (List ℕ)) (links : List Links) (t : AreThreaded inputs links) (room : ℕ) (none : (n : ℕ) → room ≤ n → inputs_at inputs n ≡ []) (below : (n : ℕ) → AllBelow (inputs_at inputs n) room) where
+  unused : (n : ℕ) → room ≤ n → (o : Option Use) → first_at links n ≡ o → first_at links n ≡ None
+  unused n le None e = e
+  unused n le (Some k) e =
+      let h = t.linked.first n k e in
+      let it = made (slice_get (inputs_at inputs k.cell) k.place) (beside_at links k) h.0 h.1 in
+      let small = below k.cell k.place it.input it.of_input in
+      let same : it.input ≡ n = ap (λ (m : Member Use). m.list) it.is ∙ h.2 in
+      absurd (omega (arith, le, small, same))
+
+  pub threaded-cut : AreThreaded (take room inputs) (take room links)
+  threaded-cut = threaded-along inputs (take room inputs) links (take room links) t
+      (λ n. take-inputs inputs room n (none n))
+      (λ n. take-firsts links room n (λ le. unused n le (first_at links n) refl))
+      (λ n. take-besides links room n (λ le. nothing (besides links n) (t.as_many n ∙ ap length (none n le))))
+      (lengths-take links inputs room t.places)
+      (λ n i x e. below-take inputs room x (below n i x e) (t.within n i x e))
