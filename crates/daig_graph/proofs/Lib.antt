@@ -1,5 +1,6 @@
 pub mod Cases
 pub mod Maps
+pub mod Agreeing
 pub mod Filtering
 pub mod Pushing
 pub mod Removing
