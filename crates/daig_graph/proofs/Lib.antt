@@ -1,5 +1,8 @@
 pub mod Cases
 pub mod Maps
+pub mod Agreeing
+pub mod Filled
+pub mod Moved
 pub mod Filtering
 pub mod Threading
 pub mod Pushing

@@ -1,17 +1,16 @@
 -- The map of the cells by their numbers.
-use Rattle.std.proofs.Common.{◌≡◌, ◌≢◌, ℕ, zero, suc, ◌+◌, true, false, cond, List, [], ◌∷◌, Option, Some, None, is_some, count_by, get_or, refl, sym, ap, ◌∙◌, arith, inl, inr}
+use Rattle.std.proofs.Common.{◌≡◌, ◌≢◌, ℕ, zero, suc, ◌+◌, ◌<◌, ◌≤◌, true, false, cond, List, [], ◌∷◌, length, Option, Some, None, is_some, count_by, get_or, refl, sym, ap, ◌∙◌, arith, inl, inr}
 use Rattle.std.proofs.lemmas.List.Sums.{sum_by-cons}
 use Rattle.std.specs.Ordering.{nat_cmp, eq_by_cmp}
 use Rattle.std.specs.Cmp.{unsigned_tied, nat_cmp_total}
 use Rattle.std.specs.FinMap.{FinMap, get, insert, remove, from_entries, len, get-insert, get-remove, get-from_entries, len-insert, len-empty, same_map, nat_cmp-IsAntisymmetric}
-use Rattle.daig_graph.specs.declared.graph.Cell.{Cell}
-use Rattle.daig_graph.specs.Agrees.{filled, filled_cells}
+use Rattle.daig_graph.specs.declared.value.Value.{Value}
+use Rattle.daig_graph.specs.Agrees.{numbered, filled_cells, cell_of, filled_at, value_at, Agrees}
 use Rattle.daig_graph.specs.Cells.{Filled}
-use Rattle.daig_graph.proofs.Cases.{nat_eq-false, none-some}
-use Rattle.std.proofs.lemmas.Option.{same_Some}
+use Rattle.daig_graph.specs.Owners.{owner_at}
+use Rattle.daig_graph.proofs.Cases.{nat_eq-false}
 use Rattle.std.proofs.lemmas.Bool.{cases_eq}
 use Rattle.base_values.proofs.Cases.{equal_test}
-use Rattle.std.proofs.Math.Nat.{suc_inj}
 
 pub tied : (q k : ℕ) → q ≡ k → eq_by_cmp nat_cmp q k ≡ true
 tied q k e = unsigned_tied q k ∙ equal_test q k e
@@ -44,36 +43,81 @@ module _ {X : Type 0} (m : FinMap nat_cmp X) where
     | inr ne ↦ others q ne ∙ sym (get-remove-other k q ne)
   ])
 
+-- What stands in a list, as a map by numbers from one on.
+module _ {X : Type 0} where
+  -- nothing stands below the first number
+  pub numbered-before : (start : ℕ) (items : List (Option X)) (q : ℕ) → q < start → get (from_entries {R = nat_cmp} (numbered start items)) q ≡ None
+  numbered-before start [] q h = get-from_entries nat_cmp_total [] q
+  numbered-before start (None ∷ items) q h = numbered-before (suc start) items q (omega (arith, h))
+  numbered-before start (Some x ∷ items) q h =
+      get-insert-other (from_entries (numbered (suc start) items)) start x q (λ e. absurd (omega (arith, h, e)))
+      ∙ numbered-before (suc start) items q (omega (arith, h))
+
+  -- what stands at a place has the place's number
+  pub numbered-at : (start : ℕ) (items : List (Option X)) (n q : ℕ) → q ≡ start + n → get (from_entries {R = nat_cmp} (numbered start items)) q ≡ get_or items n None
+  numbered-at start [] n q e = get-from_entries nat_cmp_total [] q
+  numbered-at start (None ∷ items) zero q e = numbered-before (suc start) items q (omega (arith, e))
+  numbered-at start (None ∷ items) (suc n) q e = numbered-at (suc start) items n q (omega (arith, e))
+  numbered-at start (Some x ∷ items) zero q e =
+      let same : q ≡ start = omega (arith, e) in
+      ap (get (insert (from_entries (numbered (suc start) items)) start x)) same ∙ get-insert-here (from_entries (numbered (suc start) items)) start x
+  numbered-at start (Some x ∷ items) (suc n) q e =
+      get-insert-other (from_entries (numbered (suc start) items)) start x q (λ s. absurd (omega (arith, e, s)))
+      ∙ numbered-at (suc start) items n q (omega (arith, e))
+
+  -- as many as stand there
+  pub numbered-len : (start : ℕ) (items : List (Option X)) → len (from_entries {R = nat_cmp} (numbered start items)) ≡ count_by is_some items
+  numbered-len start [] = len-empty nat_cmp X
+  numbered-len start (None ∷ items) = numbered-len (suc start) items ∙ omega (arith, sum_by-cons (λ (o : Option X). cond (is_some o) 1 0) None items)
+  numbered-len start (Some x ∷ items) =
+      let rest = from_entries {R = nat_cmp} (numbered (suc start) items) in
+      len-insert nat_cmp_total rest start x
+      ∙ ap (λ o. cond (is_some o) (len rest) (len rest + 1)) (numbered-before (suc start) items start (omega arith))
+      ∙ omega (arith, numbered-len (suc start) items, sum_by-cons (λ (o : Option X). cond (is_some o) 1 0) (Some x) items)
+
 module _ {V : Type 0} where
-  -- the map of the cells in these slots
-  abbrev pub cell_map : List (Option (Cell V)) → FinMap nat_cmp (Filled V)
-  cell_map slots = from_entries (filled_cells slots)
+  -- the map of the cells that stand at these numbers
+  abbrev pub cell_map : List (Option (Value V)) → List (Option ℕ) → List (List ℕ) → FinMap nat_cmp (Filled V)
+  cell_map values owners inputs = from_entries (numbered 0 (filled_cells values owners inputs))
 
-  pub map-none : (slots : List (Option (Cell V))) (n : ℕ) → ((k : ℕ) (c : Cell V) → get_or slots k None ≡ Some c → c.number ≢ n) → get (cell_map slots) n ≡ None
-  map-none [] n h = get-from_entries nat_cmp_total [] n
-  map-none (None ∷ slots) n h = map-none slots n (λ k c e. h (suc k) c e)
-  map-none (Some c ∷ slots) n h =
-      get-insert-other (cell_map slots) c.number (filled c) n (λ e. h zero c refl (sym e)) ∙ map-none slots n (λ k d e. h (suc k) d e)
+  -- the cells that stand at the numbers are those of the parts
+  pub filled-at : (values : List (Option (Value V))) (owners : List (Option ℕ)) (inputs : List (List ℕ)) → length values ≤ length owners → length values ≤ length inputs → (n : ℕ) → get_or (filled_cells values owners inputs) n None ≡ filled_at values owners inputs n
+  filled-at [] owners inputs o i n = refl
+  filled-at (v ∷ values) [] inputs o i n = absurd (omega (arith, o))
+  filled-at (v ∷ values) (w ∷ owners) [] o i n = absurd (omega (arith, i))
+  filled-at (v ∷ values) (w ∷ owners) (xs ∷ inputs) o i zero = refl
+  filled-at (v ∷ values) (w ∷ owners) (xs ∷ inputs) o i (suc n) = filled-at values owners inputs (omega (arith, o)) (omega (arith, i)) n
 
-  pub map-some : (slots : List (Option (Cell V))) (n k : ℕ) (c : Cell V) → get_or slots k None ≡ Some c → c.number ≡ n
-      → ((j : ℕ) (d : Cell V) → get_or slots j None ≡ Some d → d.number ≡ n → j ≡ k) → get (cell_map slots) n ≡ Some (filled c)
-  map-some [] n k c e is once = none-some e
-  map-some (None ∷ slots) n zero c e is once = none-some e
-  map-some (None ∷ slots) n (suc k) c e is once = map-some slots n k c e is (λ j d f s. suc_inj (once (suc j) d f s))
-  map-some (Some d ∷ slots) n zero c e is once =
-      let same : d ≡ c = same_Some _ _ e in
-      ap (get (cell_map (Some d ∷ slots))) (sym is) ∙ ap (λ o. get (insert (cell_map slots) o.number (filled o)) c.number) same ∙ get-insert-here (cell_map slots) c.number (filled c)
-  map-some (Some d ∷ slots) n (suc k) c e is once =
-      get-insert-other (cell_map slots) d.number (filled d) n (λ s. absurd (omega (arith, once zero d refl (sym s))))
-      ∙ map-some slots n k c e is (λ j o f s. suc_inj (once (suc j) o f s))
+  -- whether there is a cell, where values have owners
+  filled-some : (v : Option (Value V)) (o : Option ℕ) (xs : List ℕ) → is_some o ≡ is_some v → is_some (cell_of v o xs) ≡ is_some v
+  filled-some None o xs e = refl
+  filled-some (Some v) None xs e = e
+  filled-some (Some v) (Some o) xs e = refl
 
-  -- each number once: as many cells as entries
-  pub map-len : (slots : List (Option (Cell V))) → ((j k : ℕ) (c d : Cell V) → get_or slots j None ≡ Some c → get_or slots k None ≡ Some d → c.number ≡ d.number → j ≡ k) → len (cell_map slots) ≡ count_by is_some slots
-  map-len [] once = len-empty nat_cmp (Filled V)
-  map-len (None ∷ slots) once = map-len slots (λ j k c d e f s. let h = once (suc j) (suc k) c d e f s in omega (arith, h)) ∙ omega (arith, sum_by-cons (λ (o : Option (Cell V)). cond (is_some o) 1 0) None slots)
-  map-len (Some c ∷ slots) once =
-      let absent = map-none slots c.number (λ k d e s. absurd (omega (arith, once (suc k) zero d c e refl s))) in
-      let rest = map-len slots (λ j k d o e f s. let h = once (suc j) (suc k) d o e f s in omega (arith, h)) in
-      len-insert nat_cmp_total (cell_map slots) c.number (filled c)
-      ∙ ap (λ o. cond (is_some o) (len (cell_map slots)) (len (cell_map slots) + 1)) absent
-      ∙ omega (arith, rest, sum_by-cons (λ (o : Option (Cell V)). cond (is_some o) 1 0) (Some c) slots)
+  pub filled-count : (values : List (Option (Value V))) (owners : List (Option ℕ)) (inputs : List (List ℕ)) → length values ≤ length owners → length values ≤ length inputs
+      → ((n : ℕ) → is_some (owner_at owners n) ≡ is_some (value_at values n)) → count_by is_some (filled_cells values owners inputs) ≡ count_by is_some values
+  filled-count [] owners inputs o i owned = refl
+  filled-count (v ∷ values) [] inputs o i owned = absurd (omega (arith, o))
+  filled-count (v ∷ values) (w ∷ owners) [] o i owned = absurd (omega (arith, i))
+  filled-count (v ∷ values) (w ∷ owners) (xs ∷ inputs) o i owned =
+      let rest = filled-count values owners inputs (omega (arith, o)) (omega (arith, i)) (λ n. owned (suc n)) in
+      sum_by-cons (λ (f : Option (Filled V)). cond (is_some f) 1 0) (cell_of v w xs) (filled_cells values owners inputs)
+      ∙ ap (λ b. cond b 1 0 + count_by is_some (filled_cells values owners inputs)) (filled-some v w xs (owned 0))
+      ∙ ap (λ n. cond (is_some v) 1 0 + n) rest
+      ∙ sym (sum_by-cons (λ (u : Option (Value V)). cond (is_some u) 1 0) v values)
+
+  module _ (values : List (Option (Value V))) (owners : List (Option ℕ)) (inputs : List (List ℕ)) (count : ℕ) (agrees : Agrees values owners inputs count) where
+    -- the map has at each number the cell of the parts
+    pub get-cell : (n : ℕ) → get (cell_map values owners inputs) n ≡ filled_at values owners inputs n
+    get-cell n = numbered-at 0 (filled_cells values owners inputs) n n (omega arith) ∙ filled-at values owners inputs agrees.owners_many agrees.inputs_many n
+
+    pub map-len : len (cell_map values owners inputs) ≡ count
+    map-len = numbered-len 0 (filled_cells values owners inputs) ∙ filled-count values owners inputs agrees.owners_many agrees.inputs_many agrees.owned ∙ agrees.counted
+
+-- parts that have the same cells have the same map
+pub map-same : {V : Type 0} (values new_values : List (Option (Value V))) (owners new_owners : List (Option ℕ)) (inputs new_inputs : List (List ℕ)) (count new_count : ℕ)
+    → Agrees values owners inputs count → Agrees new_values new_owners new_inputs new_count
+    → ((n : ℕ) → filled_at new_values new_owners new_inputs n ≡ filled_at values owners inputs n) → cell_map new_values new_owners new_inputs ≡ cell_map values owners inputs
+map-same values new_values owners new_owners inputs new_inputs count new_count a b same =
+    same_map nat_cmp_total nat_cmp-IsAntisymmetric (cell_map new_values new_owners new_inputs) (cell_map values owners inputs)
+    (λ n. get-cell new_values new_owners new_inputs new_count b n ∙ same n ∙ sym (get-cell values owners inputs count a n))

@@ -1,8 +1,8 @@
 //! Other numbers for the cells that are there.
-ghost use Rattle.std.specs.Prelude.{◌≡◌, ℕ, ◌≤◌, None, length, map};
+ghost use Rattle.std.specs.Prelude.{◌≡◌, map, count_by, is_some};
 ghost use Rattle.std.specs.FinMap as map_of;
-ghost use Rattle.daig_graph.specs.Agrees.{filled_at, value_at, Agrees};
-ghost use Rattle.daig_graph.specs.Numbers.{renumbered, AreRising, AreBelow, Moving};
+ghost use Rattle.daig_graph.specs.Agrees.{filled_at, Agrees};
+ghost use Rattle.daig_graph.specs.Numbers.{renumbered, AreRising, AreBelow, EndsBy, Moves};
 ghost use Rattle.daig_graph.specs.Renumbered.{renumbered_cell, Renumbers};
 
 use crate::graph::Graph;
@@ -39,7 +39,8 @@ impl<V> Graph<V> {
     }
 }
 
-/// Moves each cell to its new number, and gives a number beyond those.
+/// Moves each cell to its new number, which is not greater, and gives a number beyond those. The new numbers rise with the
+/// old.
 fn move_cells<V: Drop>(
     alloc: Global,
     values: &mut Vec<Option<Value<V>>>,
@@ -47,6 +48,16 @@ fn move_cells<V: Drop>(
     uses: &mut Uses,
     new_of: &[usize],
 ) -> usize
+    requires agrees { Agrees values.old.items owned.old.of uses.old
+        (count_by is_some values.old.items) }
+    requires rising { AreRising (filled_at values.old.items owned.old.of uses.old) new_of.now }
+    requires below { AreBelow (filled_at values.old.items owned.old.of uses.old) new_of.now }
+    ensures moves { Moves (renumbered_cell new_of.now)
+        (filled_at values.old.items owned.old.of uses.old)
+        (filled_at values.new.items owned.new.of uses.new) new_of.now }
+    ensures room { EndsBy (filled_at values.new.items owned.new.of uses.new) result }
+    ensures agrees { Agrees values.new.items owned.new.of uses.new
+        (count_by is_some values.old.items) }
 {
     let mut room = 0;
     for number in 0..values.len() {
