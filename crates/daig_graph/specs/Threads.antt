@@ -112,6 +112,14 @@ pub record HasNeighbours (links : List Links) (u : Use) (b : Beside) : Type 0 wh
   pub next : (k : Use) → b.next ≡ Some k → IsSome (beside_at links k) × (k ≢ u)
   pub apart : (k : Use) → b.before ≡ Some k → b.next ≢ Some k
 
+-- The neighbours of a use, if it has a place, are uses, and others than it.
+abbrev pub CanBeTaken : List Links → Use → Type 0
+CanBeTaken links u = (b : Beside) → beside_at links u ≡ Some b → HasNeighbours links u b
+
+-- A use, the last of its cell, is taken out of the list of a number, between the neighbours that it has.
+abbrev pub TakesOut : List Links → List Links → Use → ℕ → Type 0
+TakesOut old new u input = (b : Beside) → beside_at old u ≡ Some b → TakesUse old new u b input
+
 -- The uses of some inputs stand on their lists; those of a cell are these.
 abbrev pub AreThreadedWith : List Links → ℕ → List ℕ → Type 0
 AreThreadedWith links cell xs = (inputs : List (List ℕ)) × AreThreaded inputs links × (cell < length inputs) × (inputs_at inputs cell ≡ xs)

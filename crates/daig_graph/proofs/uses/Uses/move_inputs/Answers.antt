@@ -14,7 +14,7 @@ link_all-requires-clause-room c =
     let are : c.as_slice.result.now ≡ inputs_at inputs c.args.cell = c.as_slice.ensures.same ∙ found-inputs inputs c.args.cell c.index-2.result.now inside c.index-2.ensures in
     let moved : c.replace-inputs.result ≡ inputs_at inputs c.args.cell = c.replace-inputs.ensures.value ∙ found-inputs inputs c.args.cell c.index_mut.result.now inside c.index_mut.ensures.value in
     let as_many : length c.as_slice-2.result.now ≡ length c.as_slice.result.now =
-        ap length (c.as_slice-2.ensures.same ∙ c.renumber.ensures.new) ∙ length-map c.replace-inputs.result (renumbered c.args.new_of.now) ∙ ap length (moved ∙ sym are) in
+    ap length (c.as_slice-2.ensures.same ∙ c.renumber.ensures.new) ∙ length-map c.replace-inputs.result (renumbered c.args.new_of.now) ∙ ap length (moved ∙ sym are) in
     let R : ℕ → Type 0 = λ n. HasRoom c.move_room.new.links.items c.args.to n in
     let all : 0 + length c.as_slice.result.now ≡ length c.as_slice-2.result.now = omega (arith, as_many) in
     let fits : length c.index.result.now.beside.items ≤ c.index.result.now.beside.capacity = omega (arith, c.len-count.ensures.value, c.len-count.ensures.fits) in
