@@ -1,10 +1,9 @@
 -- The lists of uses stay threaded where the same uses stand elsewhere, or where places come and go.
-use Rattle.std.proofs.Common.{◌≡◌, ◌≢◌, ℕ, zero, suc, ◌+◌, ◌<◌, ◌≤◌, List, [], ◌∷◌, ◌++◌, length, take, get_or, Option, Some, None, slice_get, slice_index_or, slice_set, refl, sym, ap, ap₂, ◌∙◌, subst, arith, inl, inr}
+use Rattle.std.proofs.Common.{◌≡◌, ◌≢◌, ℕ, zero, suc, ◌+◌, ◌<◌, ◌≤◌, List, [], ◌∷◌, ◌++◌, length, take, Option, Some, None, slice_get, slice_index_or, slice_set, refl, sym, ap, ap₂, ◌∙◌, subst, arith, inl, inr}
 use Rattle.daig_graph.specs.declared.graph.Use.{Use}
-use Rattle.daig_graph.specs.declared.links.Beside.{Beside}
 use Rattle.daig_graph.specs.declared.links.Links.{Links}
 use Rattle.daig_graph.specs.Linked.{Member, AreLinked}
-use Rattle.daig_graph.specs.Threads.{inputs_at, first_of, first_at, beside_of, besides, beside_at, member_of, use_member, AllBelow, AreSame, AreThreaded, AreThreadedWith, HasRoom, Threads}
+use Rattle.daig_graph.specs.Threads.{inputs_at, first_at, besides, beside_at, member_of, use_member, AllBelow, AreSame, AreThreaded, AreThreadedWith, HasRoom, Threads}
 use Rattle.smallvec.specs.SmallVec.{HasRoomFor}
 use Rattle.daig_graph.proofs.Cases.{none-some}
 use Rattle.daig_graph.proofs.ThreadingOn.{made, inputs-here, inputs-other}

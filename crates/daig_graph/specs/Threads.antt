@@ -1,5 +1,5 @@
 -- The uses of cells, on lists that are threaded through the links of the cells.
-use Rattle.std.specs.Prelude.{◌≡◌, ◌≢◌, ℕ, ◌+◌, ◌<◌, List, [], ◌∷◌, length, sum, map, Option, Some, None, slice_get, slice_index_or, slice_set, IsSome}
+use Rattle.std.specs.Prelude.{◌≡◌, ◌≢◌, ℕ, ◌+◌, ◌<◌, List, [], length, sum, map, Option, Some, None, slice_get, slice_index_or, slice_set, IsSome}
 use Rattle.daig_graph.specs.declared.graph.Use.{Use}
 use Rattle.daig_graph.specs.declared.links.Beside.{Beside}
 use Rattle.daig_graph.specs.declared.links.Links.{Links}

@@ -1,4 +1,4 @@
-use Rattle.std.proofs.Common.{Some, sym, ap, ◌∙◌, arith}
+use Rattle.std.proofs.Common.{◌∙◌, arith}
 use Rattle.daig_graph.proofs.ThreadingLinks.{pushes, pushed-room, push_there, puts, put_room, first-found}
 use Rattle.daig_graph.proofs.uses.link_one.Goals as goal
 

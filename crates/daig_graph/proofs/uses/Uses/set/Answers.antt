@@ -1,4 +1,4 @@
-use Rattle.std.proofs.Common.{◌≡◌, ℕ, ◌<◌, List, [], length, slice_set, sym, ap, subst, ◌∙◌}
+use Rattle.std.proofs.Common.{ℕ, ◌<◌, List, length, slice_set, sym, ap, subst, ◌∙◌}
 use Rattle.daig_graph.specs.Threads.{inputs_at, AreThreaded}
 use Rattle.daig_graph.proofs.ThreadingKept.{threaded-same}
 use Rattle.daig_graph.proofs.uses.Uses.set.Goals as goal
