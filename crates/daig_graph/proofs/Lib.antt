@@ -2,10 +2,11 @@ pub mod Cases
 pub mod Maps
 pub mod Filtering
 pub mod Threading
-pub mod Pushing
-pub mod Removing
 pub mod ThreadingOn
 pub mod ThreadingLinks
 pub mod ThreadingAll
 pub mod ThreadingKept
+pub mod Pushing
+pub mod Removing
+pub mod Linking
 pub mod Walking

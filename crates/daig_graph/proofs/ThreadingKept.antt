@@ -2,27 +2,15 @@
 use Rattle.std.proofs.Common.{◌≡◌, ◌≢◌, ℕ, zero, suc, ◌+◌, ◌<◌, ◌≤◌, List, [], ◌∷◌, ◌++◌, length, take, Option, Some, None, slice_get, slice_index_or, slice_set, refl, sym, ap, ap₂, ◌∙◌, subst, arith, inl, inr}
 use Rattle.daig_graph.specs.declared.graph.Use.{Use}
 use Rattle.daig_graph.specs.declared.links.Links.{Links}
-use Rattle.daig_graph.specs.Linked.{Member, AreLinked}
+use Rattle.daig_graph.specs.Linked.{Member}
 use Rattle.daig_graph.specs.Threads.{inputs_at, first_at, besides, beside_at, member_of, use_member, AllBelow, AreSame, AreThreaded, AreThreadedWith, HasRoom, Threads}
 use Rattle.smallvec.specs.SmallVec.{HasRoomFor}
 use Rattle.daig_graph.proofs.Cases.{none-some}
+use Rattle.daig_graph.proofs.Linking.{linked-along}
 use Rattle.daig_graph.proofs.ThreadingOn.{made, inputs-here, inputs-other}
 use Rattle.std.proofs.lemmas.Option.{same_Some, slice_get_read, get_or_from_slice_get}
 use Rattle.std.proofs.lemmas.Bool.{cases_eq}
 use Rattle.std.proofs.lemmas.List.{length_push, length-set}
-
--- the same members and first items are linked the same
-pub linked-along : {K : Type 0} (old new : K → Option (Member K)) (firsts new_firsts : ℕ → Option K) → ((k : K) → new k ≡ old k) → ((l : ℕ) → new_firsts l ≡ firsts l) → AreLinked old firsts → AreLinked new new_firsts
-linked-along old new firsts new_firsts same same_first linked = record {
-  first = λ l k e. let h = linked.first l k (sym (same_first l) ∙ e) in (h.0, same k ∙ h.1, h.2, h.3);
-  front = λ k m e n. same_first m.list ∙ linked.front k m (sym (same k) ∙ e) n;
-  back = λ k j m e n. let h = linked.back k j m (sym (same k) ∙ e) n in (h.0, same j ∙ h.1, h.2, h.3);
-  ahead = λ k j m e n. let h = linked.ahead k j m (sym (same k) ∙ e) n in (h.0, same j ∙ h.1, h.2, h.3);
-  rank = linked.rank;
-  peak = linked.peak;
-  falls = λ k j m e n. linked.falls k j m (sym (same k) ∙ e) n;
-  low = λ k m e. linked.low k m (sym (same k) ∙ e);
-}
 
 -- nothing is used
 pub threaded-none : (inputs : List (List ℕ)) (links : List Links) → inputs ≡ [] → links ≡ [] → AreThreaded inputs links
