@@ -1,5 +1,6 @@
-use Rattle.std.proofs.Common.{◌≡◌, ◌+◌, [], ◌∷◌, ◌++◌, length, sym, ap, ap₂, subst₂, ◌∙◌, arith}
+use Rattle.std.proofs.Common.{◌≡◌, ℕ, ◌+◌, List, [], ◌∷◌, ◌++◌, length, sym, ap, ap₂, subst₂, ◌∙◌, arith}
 use Rattle.std.proofs.lemmas.List.{length_push}
+use Rattle.daig_graph.specs.declared.links.Links.{Links}
 use Rattle.daig_graph.specs.Threads.{inputs_at, AreThreaded}
 use Rattle.daig_graph.proofs.ThreadingKept.{threaded-more, inputs-more}
 use Rattle.daig_graph.proofs.uses.Uses.reserve.Goals as goal
@@ -11,7 +12,7 @@ loop-alloc-preserved c =
     let one_more : c.push_reserved.new.self.items ≡ inputs ++ [] ∷ [] = c.push_reserved.ensures.items ∙ ap₂ (λ v x. v ++ x ∷ []) c.reserve.ensures.items c.new-in-loop-alloc.ensures.empty in
     let long : length c.push_reserved.new.self.items ≡ length inputs + 1 = ap length one_more ∙ length_push inputs [] in
     record {
-      threaded = subst₂ AreThreaded (sym one_more) (sym c.in_ok-push.ensures.items) (threaded-more inputs links c.new.result c.new.ensures.first c.new.ensures.beside c.loop-alloc.invariant.threaded);
+      threaded = subst₂ AreThreaded (sym {A = List (List ℕ)} one_more) (sym {A = List Links} c.in_ok-push.ensures.items) (threaded-more inputs links c.new.result c.new.ensures.first c.new.ensures.beside c.loop-alloc.invariant.threaded);
       same = λ n. ap (λ v. inputs_at v n) one_more ∙ inputs-more inputs n ∙ c.loop-alloc.invariant.same n;
       kept = omega (arith, long, c.loop-alloc.invariant.kept);
       most = omega (arith, long, c.loop-alloc-test.true, c.len.ensures, c.loop-alloc.self-inside.inputs.ok.0, c.loop-alloc.invariant.most);
