@@ -1,10 +1,10 @@
 -- The links of one cell are written.
-use Rattle.std.proofs.Common.{◌≡◌, ◌≢◌, ℕ, zero, suc, ◌+◌, ◌<◌, ◌≤◌, List, [], ◌∷◌, ◌++◌, length, take, drop, Option, Some, None, IsSome, slice_get, slice_index_or, slice_set, refl, sym, ap, ◌∙◌, subst, arith, inl, inr}
+use Rattle.std.proofs.Common.{◌≡◌, ◌≢◌, ℕ, zero, suc, ◌<◌, ◌≤◌, List, [], ◌∷◌, ◌++◌, length, take, Option, Some, None, IsSome, slice_get, slice_index_or, slice_set, refl, sym, ap, ◌∙◌, subst, arith, inl, inr}
 use Rattle.daig_graph.specs.declared.graph.Use.{Use}
 use Rattle.daig_graph.specs.declared.links.Beside.{Beside}
 use Rattle.daig_graph.specs.declared.links.Links.{Links}
-use Rattle.daig_graph.specs.Threads.{first_of, first_at, beside_of, besides, beside_at, HasRoom, HaveOneShape, AreSame}
-use Rattle.smallvec.specs.SmallVec.{SmallVec, with_items, HasRoomFor}
+use Rattle.daig_graph.specs.Threads.{first_of, first_at, beside_of, besides, beside_at, HasRoom, HaveOneShape}
+use Rattle.smallvec.specs.SmallVec.{with_items, HasRoomFor}
 use Rattle.std.proofs.lemmas.Option.{same_Some, slice_get_within, slice_get_read, get_or_from_slice_get}
 use Rattle.std.proofs.lemmas.Bool.{cases_eq}
 use Rattle.std.proofs.lemmas.List.{length-set, length-take-le}
@@ -44,12 +44,6 @@ pub take-short : {A : Type 0} (xs : List A) (n : ℕ) → length (take n xs) ≤
 take-short xs zero = omega arith
 take-short [] (suc n) = omega arith
 take-short (x ∷ xs) (suc n) = omega (arith, take-short xs n)
-
--- the links of a cell that has a place
-pub links-there : (links : List Links) (n : ℕ) (b : Beside) (i : ℕ) → slice_get (besides links n) i ≡ Some b → n < length links
-links-there [] n b i e = absurd (cc)
-links-there (l ∷ links) zero b i e = omega arith
-links-there (l ∷ links) (suc n) b i e = omega (arith, links-there links n b i e)
 
 module _ (links : List Links) (cell : ℕ) (l : Links) (inside : cell < length links) where
   pub first-here : first_at (slice_set links cell l) cell ≡ l.first

@@ -1,10 +1,9 @@
 -- The uses of all inputs of a cell, one after another.
-use Rattle.std.proofs.Common.{◌≡◌, ◌≢◌, ℕ, zero, suc, ◌+◌, ◌<◌, ◌≤◌, List, [], ◌∷◌, ◌++◌, length, take, Option, Some, None, IsSome, slice_get, slice_index_or, slice_set, refl, sym, ap, ◌∙◌, subst, arith}
+use Rattle.std.proofs.Common.{◌≡◌, ℕ, zero, suc, ◌+◌, ◌<◌, ◌≤◌, List, [], ◌∷◌, ◌++◌, length, take, Some, IsSome, slice_get, slice_set, refl, sym, ap, ◌∙◌, subst, arith}
 use Rattle.daig_graph.specs.declared.graph.Use.{Use}
 use Rattle.daig_graph.specs.declared.links.Beside.{Beside}
 use Rattle.daig_graph.specs.declared.links.Links.{Links}
-use Rattle.daig_graph.specs.Threads.{inputs_at, first_at, besides, beside_at, AreThreaded, AreThreadedWith, AllBelow, HasNeighbours, HasRoom, PutsUse, TakesUse, Threads}
-use Rattle.daig_graph.proofs.Threading.{take-length}
+use Rattle.daig_graph.specs.Threads.{inputs_at, first_at, besides, beside_at, AreThreaded, AreThreadedWith, HasNeighbours, HasRoom, PutsUse, TakesUse, Threads}
 use Rattle.daig_graph.proofs.ThreadingOn.{first_there, inputs-here, threaded-put, threaded-taken, has_neighbours}
 use Rattle.base_values.proofs.Lists.{get_some, take_next}
 use Rattle.std.proofs.lemmas.Option.{slice_get_within}

@@ -1,28 +1,16 @@
 -- The lists of uses stay threaded where the same uses stand elsewhere, or where places come and go.
-use Rattle.std.proofs.Common.{◌≡◌, ◌≢◌, ℕ, zero, suc, ◌+◌, ◌<◌, ◌≤◌, List, [], ◌∷◌, ◌++◌, length, take, get_or, Option, Some, None, slice_get, slice_set, refl, sym, ap, ap₂, ◌∙◌, subst, arith, inl, inr}
+use Rattle.std.proofs.Common.{◌≡◌, ◌≢◌, ℕ, zero, suc, ◌+◌, ◌<◌, ◌≤◌, List, [], ◌∷◌, ◌++◌, length, take, Option, Some, None, slice_get, slice_index_or, slice_set, refl, sym, ap, ap₂, ◌∙◌, subst, arith, inl, inr}
 use Rattle.daig_graph.specs.declared.graph.Use.{Use}
-use Rattle.daig_graph.specs.declared.links.Beside.{Beside}
 use Rattle.daig_graph.specs.declared.links.Links.{Links}
-use Rattle.daig_graph.specs.Linked.{Member, AreLinked}
-use Rattle.daig_graph.specs.Threads.{inputs_at, first_of, first_at, beside_of, besides, beside_at, member_of, use_member, AllBelow, AreSame, AreThreaded, AreThreadedWith, HasRoom, Threads}
+use Rattle.daig_graph.specs.Linked.{Member}
+use Rattle.daig_graph.specs.Threads.{inputs_at, first_at, besides, beside_at, member_of, use_member, AllBelow, AreSame, AreThreaded, AreThreadedWith, HasRoom, Threads}
+use Rattle.smallvec.specs.SmallVec.{HasRoomFor}
 use Rattle.daig_graph.proofs.Cases.{none-some}
-use Rattle.daig_graph.proofs.ThreadingOn.{made}
-use Rattle.std.proofs.lemmas.Option.{same_Some, get_or_from_slice_get}
-use Rattle.std.proofs.lemmas.Bool.{cases_lt}
-use Rattle.std.proofs.lemmas.List.{length_push, length-take-le, set-get_or}
-
--- the same members and first items are linked the same
-pub linked-along : {K : Type 0} (old new : K → Option (Member K)) (firsts new_firsts : ℕ → Option K) → ((k : K) → new k ≡ old k) → ((l : ℕ) → new_firsts l ≡ firsts l) → AreLinked old firsts → AreLinked new new_firsts
-linked-along old new firsts new_firsts same same_first linked = record {
-  first = λ l k e. let h = linked.first l k (sym (same_first l) ∙ e) in (h.0, same k ∙ h.1, h.2, h.3);
-  front = λ k m e n. same_first m.list ∙ linked.front k m (sym (same k) ∙ e) n;
-  back = λ k j m e n. let h = linked.back k j m (sym (same k) ∙ e) n in (h.0, same j ∙ h.1, h.2, h.3);
-  ahead = λ k j m e n. let h = linked.ahead k j m (sym (same k) ∙ e) n in (h.0, same j ∙ h.1, h.2, h.3);
-  rank = linked.rank;
-  peak = linked.peak;
-  falls = λ k j m e n. linked.falls k j m (sym (same k) ∙ e) n;
-  low = λ k m e. linked.low k m (sym (same k) ∙ e);
-}
+use Rattle.daig_graph.proofs.Linking.{linked-along}
+use Rattle.daig_graph.proofs.ThreadingOn.{made, inputs-here, inputs-other}
+use Rattle.std.proofs.lemmas.Option.{same_Some, slice_get_read, get_or_from_slice_get}
+use Rattle.std.proofs.lemmas.Bool.{cases_eq}
+use Rattle.std.proofs.lemmas.List.{length_push, length-set}
 
 -- nothing is used
 pub threaded-none : (inputs : List (List ℕ)) (links : List Links) → inputs ≡ [] → links ≡ [] → AreThreaded inputs links
@@ -143,3 +131,29 @@ module _ (inputs : List (List ℕ)) (links : List Links) (t : AreThreaded inputs
       (λ n. take-besides links room n (λ le. nothing (besides links n) (t.as_many n ∙ ap length (none n le))))
       (lengths-take links inputs room t.places)
       (λ n i x e. below-take inputs room x (below n i x e) (t.within n i x e))
+
+-- a cell has room for the uses that it has
+pub empty-room : (links : List Links) (cell : ℕ) (k : Links) → cell < length links → k ≡ slice_index_or links cell k → length k.beside.items ≤ k.beside.capacity → HasRoom links cell 0
+empty-room links cell k inside found fits l e =
+    let same : k ≡ l = same_Some _ _ (sym (slice_get_read links (length links) cell k refl inside found) ∙ e) in
+    let P : Links → Type 0 = λ m. HasRoomFor m.beside 0 in
+    subst P same (omega (arith, fits))
+
+-- The inputs of a cell are taken away, and another number, which has none then, gets inputs.
+module _ (inputs : List (List ℕ)) (links bare : List Links) (t : AreThreaded inputs links) (cell to : ℕ) (inside : cell < length inputs) (to_inside : to < length inputs)
+    (xs : List ℕ) (are : xs ≡ inputs_at inputs cell) (cleared : Threads links bare cell xs []) (none : to ≢ cell → inputs_at inputs to ≡ []) where
+  pub moving-threaded : (moved : List Links) → AreSame bare moved → AreThreaded (slice_set inputs cell []) moved
+  moving-threaded moved same = threaded-same (slice_set inputs cell []) bare moved same (cleared inputs t (sym are))
+
+  pub moving-none : inputs_at (slice_set inputs cell []) to ≡ []
+  moving-none = elim (cases_eq to cell) [
+    | inl same ↦ ap (inputs_at (slice_set inputs cell [])) same ∙ inputs-here inputs cell [] inside
+    | inr ne ↦ inputs-other inputs cell [] to ne ∙ none ne
+  ]
+
+  pub moving-with : (moved : List Links) → AreSame bare moved → AreThreadedWith moved to []
+  moving-with moved same = (slice_set inputs cell [], moving-threaded moved same, omega (arith, to_inside, length-set inputs cell []), moving-none)
+
+-- what was found at a place are the inputs there
+pub found-inputs : (inputs : List (List ℕ)) (cell : ℕ) (xs : List ℕ) → cell < length inputs → xs ≡ slice_index_or inputs cell xs → xs ≡ inputs_at inputs cell
+found-inputs inputs cell xs inside found = sym (get_or_from_slice_get inputs cell xs [] (slice_get_read inputs (length inputs) cell xs refl inside found))

@@ -1,5 +1,5 @@
 -- A use more on a list, or one less, by the writes that make it so.
-use Rattle.std.proofs.Common.{◌≡◌, ◌≢◌, ℕ, zero, suc, ◌+◌, ◌-◌, ◌<◌, ◌≤◌, List, [], ◌∷◌, ◌++◌, length, take, Option, Some, None, IsSome, slice_get, slice_index_or, slice_set, refl, sym, ap, ap₂, ◌∙◌, subst, arith, inl, inr}
+use Rattle.std.proofs.Common.{◌≡◌, ◌≢◌, ℕ, suc, ◌-◌, ◌<◌, List, [], ◌∷◌, ◌++◌, length, take, Option, Some, None, IsSome, slice_get, slice_index_or, slice_set, refl, sym, ap, ap₂, ◌∙◌, subst, arith, inl, inr}
 use Rattle.daig_graph.specs.declared.graph.Use.{Use}
 use Rattle.daig_graph.specs.declared.links.Beside.{Beside}
 use Rattle.daig_graph.specs.declared.links.Links.{Links}
@@ -9,7 +9,7 @@ use Rattle.daig_graph.proofs.Cases.{none-some}
 use Rattle.daig_graph.proofs.Threading.{first-here, first-other, firsts-kept, besides-here, besides-other, besides-kept, room-here, one_shape, take-other, take-length, take-short}
 use Rattle.daig_graph.proofs.ThreadingOn.{other_place}
 use Rattle.base_values.proofs.Lists.{get_last, get_other, get_front}
-use Rattle.std.proofs.lemmas.Option.{same_Some, slice_get_read, slice_get_within, slice_get_past}
+use Rattle.std.proofs.lemmas.Option.{slice_get_read, slice_get_within, slice_get_past}
 use Rattle.std.proofs.lemmas.Bool.{cases_eq}
 use Rattle.std.proofs.lemmas.List.{length-set, length_push}
 

@@ -1,16 +1,16 @@
 -- A use is put on the list of its input, or taken off it.
-use Rattle.std.proofs.Common.{◌≡◌, ◌≢◌, ℕ, zero, suc, ◌+◌, ◌<◌, ◌≤◌, List, [], ◌∷◌, ◌++◌, length, take, Option, Some, None, IsSome, slice_get, slice_index_or, slice_set, refl, sym, ap, ap₂, ◌∙◌, subst, arith, inl, inr}
+use Rattle.std.proofs.Common.{◌≡◌, ◌≢◌, ℕ, suc, ◌+◌, ◌<◌, List, [], ◌∷◌, ◌++◌, length, take, Option, Some, None, IsSome, slice_get, slice_set, refl, sym, ap, ap₂, ◌∙◌, subst, arith, inl, inr}
 use Rattle.daig_graph.specs.declared.graph.Use.{Use}
 use Rattle.daig_graph.specs.declared.links.Beside.{Beside}
 use Rattle.daig_graph.specs.declared.links.Links.{Links}
-use Rattle.daig_graph.specs.Linked.{Member, AreLinked}
-use Rattle.daig_graph.specs.Threads.{inputs_at, first_at, besides, beside_at, member_of, use_member, AreThreaded, AreSame, AllBelow, PutsUse, TakesUse, HasNeighbours}
+use Rattle.daig_graph.specs.Linked.{Member}
+use Rattle.daig_graph.specs.Threads.{inputs_at, first_at, besides, beside_at, member_of, use_member, AreThreaded, PutsUse, TakesUse, HasNeighbours}
 use Rattle.daig_graph.proofs.Cases.{uses_differ, none-some}
 use Rattle.daig_graph.proofs.Threading.{take-other, take-length, take-short}
 use Rattle.daig_graph.proofs.Pushing.{Pushed, linked-push}
 use Rattle.daig_graph.proofs.Removing.{Removed, linked-remove, sides_apart, before_apart, next_apart}
-use Rattle.base_values.proofs.Lists.{get_last, get_other, get_pushed, get_take, get_some}
-use Rattle.std.proofs.lemmas.Option.{same_Some, slice_get_past, slice_get_within}
+use Rattle.base_values.proofs.Lists.{get_last, get_other, get_pushed, get_take}
+use Rattle.std.proofs.lemmas.Option.{same_Some, slice_get_past}
 use Rattle.std.proofs.lemmas.Bool.{cases_eq}
 use Rattle.std.proofs.lemmas.List.{length-set, length_push, get_or-set_same, get_or-set_other}
 

@@ -1,5 +1,5 @@
 -- The uses of cells, on lists that are threaded through the links of the cells.
-use Rattle.std.specs.Prelude.{◌≡◌, ◌≢◌, ℕ, ◌+◌, ◌<◌, List, [], ◌∷◌, length, sum, map, Option, Some, None, slice_get, slice_index_or, slice_set, IsSome}
+use Rattle.std.specs.Prelude.{◌≡◌, ◌≢◌, ℕ, ◌+◌, ◌<◌, List, [], length, sum, map, Option, Some, None, slice_get, slice_index_or, slice_set, IsSome}
 use Rattle.daig_graph.specs.declared.graph.Use.{Use}
 use Rattle.daig_graph.specs.declared.links.Beside.{Beside}
 use Rattle.daig_graph.specs.declared.links.Links.{Links}
@@ -111,6 +111,14 @@ pub record HasNeighbours (links : List Links) (u : Use) (b : Beside) : Type 0 wh
   pub before : (k : Use) → b.before ≡ Some k → IsSome (beside_at links k) × (k ≢ u)
   pub next : (k : Use) → b.next ≡ Some k → IsSome (beside_at links k) × (k ≢ u)
   pub apart : (k : Use) → b.before ≡ Some k → b.next ≢ Some k
+
+-- The neighbours of a use, if it has a place, are uses, and others than it.
+abbrev pub CanBeTaken : List Links → Use → Type 0
+CanBeTaken links u = (b : Beside) → beside_at links u ≡ Some b → HasNeighbours links u b
+
+-- A use, the last of its cell, is taken out of the list of a number, between the neighbours that it has.
+abbrev pub TakesOut : List Links → List Links → Use → ℕ → Type 0
+TakesOut old new u input = (b : Beside) → beside_at old u ≡ Some b → TakesUse old new u b input
 
 -- The uses of some inputs stand on their lists; those of a cell are these.
 abbrev pub AreThreadedWith : List Links → ℕ → List ℕ → Type 0

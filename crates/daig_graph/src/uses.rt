@@ -4,7 +4,7 @@ ghost use Rattle.daig_graph.specs.declared.links.Beside.{Beside};
 ghost use Rattle.daig_graph.specs.declared.graph.Use.{Use};
 ghost use Rattle.daig_graph.specs.Held.{IsIn, IsOnce};
 ghost use Rattle.daig_graph.specs.Numbers.{renumbered};
-ghost use Rattle.daig_graph.specs.Threads.{inputs_at, first_at, besides, beside_at, AllBelow, AreSame, AreThreadedWith, HasNeighbours, HasRoom, HaveOneShape, PutsUse, TakesUse, Threads};
+ghost use Rattle.daig_graph.specs.Threads.{inputs_at, first_at, besides, beside_at, AllBelow, AreSame, AreThreadedWith, CanBeTaken, HasRoom, HaveOneShape, PutsUse, TakesOut, Threads};
 
 use crate::dependents::Dependents;
 use crate::graph::Use;
@@ -171,7 +171,8 @@ fn move_room(alloc: Global, links: &mut Vec<Links>, cell: usize, to: usize)
     requires to { to < length links.old.items }
     requires none { besides links.old.items cell ≡ [] }
     requires none_there { besides links.old.items to ≡ [] }
-    ensures room { (count : ℕ) → HasRoom links.old.items cell count → HasRoom links.new.items to count }
+    ensures room { (count : ℕ) → HasRoom links.old.items cell count →
+        HasRoom links.new.items to count }
     ensures same { AreSame links.old.items links.new.items }
 {
     let beside = mem::replace(&mut links[cell].beside, SmallVec::new(alloc));
@@ -197,7 +198,8 @@ fn link_all(links: &mut Vec<Links>, cell: usize, inputs: &[usize])
 fn unlink_all(links: &mut Vec<Links>, cell: usize, inputs: &[usize])
     requires threaded { AreThreadedWith links.old.items cell inputs.now }
     ensures threads { Threads links.old.items links.new.items cell inputs.now [] }
-    ensures room { (count : ℕ) → HasRoom links.old.items cell count → HasRoom links.new.items cell (count + length inputs.now) }
+    ensures room { (count : ℕ) → HasRoom links.old.items cell count →
+        HasRoom links.new.items cell (count + length inputs.now) }
 {
     let mut place = inputs.len();
     while place > 0 {
@@ -236,9 +238,11 @@ fn link_one(links: &mut Vec<Links>, cell: usize, place: usize, input: usize)
 fn unlink_last(links: &mut Vec<Links>, cell: usize, place: usize, input: usize)
     requires place { length (besides links.old.items cell) ≡ suc place }
     requires input { input < length links.old.items }
-    requires neighbours { (b : Beside) → beside_at links.old.items (record { cell = cell; place = place }) ≡ Some b → HasNeighbours links.old.items (record { cell = cell; place = place }) b }
-    ensures takes { (b : Beside) → beside_at links.old.items (record { cell = cell; place = place }) ≡ Some b → TakesUse links.old.items links.new.items (record { cell = cell; place = place }) b input }
-    ensures room { (count : ℕ) → HasRoom links.old.items cell count → HasRoom links.new.items cell (suc count) }
+    requires neighbours { CanBeTaken links.old.items (record { cell = cell; place = place }) }
+    ensures takes { TakesOut links.old.items links.new.items
+        (record { cell = cell; place = place }) input }
+    ensures room { (count : ℕ) → HasRoom links.old.items cell count →
+        HasRoom links.new.items cell (suc count) }
 {
     if let Some(beside) = links[cell].beside.pop() {
         set_next(links, input, beside.before, beside.next);

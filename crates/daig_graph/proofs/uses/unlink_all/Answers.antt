@@ -1,8 +1,7 @@
-use Rattle.std.proofs.Common.{◌≡◌, ℕ, suc, ◌+◌, ◌-◌, ◌<◌, List, [], length, take, get_or, slice_get, Some, sym, ap, subst, arith}
+use Rattle.std.proofs.Common.{◌≡◌, ℕ, suc, ◌+◌, ◌-◌, length, take, subst, arith}
 use Rattle.std.proofs.lemmas.Option.{slice_get-get_or}
-use Rattle.std.proofs.lemmas.List.{take_all}
 use Rattle.daig_graph.specs.Threads.{HasRoom, Threads}
-use Rattle.daig_graph.proofs.ThreadingAll.{threads-start, last-place, last-below, last-near, last-threads}
+use Rattle.daig_graph.proofs.ThreadingAll.{last-place, last-below, last-near, last-threads}
 use Rattle.daig_graph.proofs.uses.unlink_all.Goals as goal
 
 pub unlink_last-requires : goal.unlink_last-requires

@@ -1,4 +1,4 @@
-use Rattle.std.proofs.Common.{◌≡◌, ℕ, ◌+◌, ◌≤◌, [], length, take}
+use Rattle.std.proofs.Common.{◌≡◌, ℕ, ◌+◌, ◌≤◌, length, take}
 use Rattle.daig_graph.specs.Threads.{HasRoom, Threads}
 use Rattle.daig_graph.proofs.uses.unlink_all.Given as goal
 

@@ -1,4 +1,4 @@
-use Rattle.std.proofs.Common.{ℕ, Some, sym, ap, ◌∙◌, subst, arith}
+use Rattle.std.proofs.Common.{sym, ◌∙◌, subst, arith}
 use Rattle.std.proofs.lemmas.Option.{same_Some}
 use Rattle.daig_graph.specs.declared.graph.Use.{Use}
 use Rattle.daig_graph.specs.declared.links.Beside.{Beside}
