@@ -1,5 +1,5 @@
 -- One number gets another cell, or none.
-use Rattle.std.proofs.Common.{◌≡◌, ◌≢◌, ℕ, zero, suc, ◌+◌, ◌<◌, ◌≤◌, cond, List, [], ◌∷◌, ◌++◌, length, Option, Some, None, IsSome, is_some, count_by, slice_get, get_or, set, refl, sym, ap, ◌∙◌, arith, inl, inr}
+use Rattle.std.proofs.Common.{◌≡◌, ◌≢◌, ℕ, zero, suc, ◌+◌, ◌<◌, ◌≤◌, cond, List, [], ◌∷◌, ◌++◌, length, Option, Some, None, IsSome, is_some, Result, Ok, Err, OnErr, count_by, slice_get, get_or, set, refl, sym, ap, ◌∙◌, arith, inl, inr}
 use Rattle.std.specs.FinMap.{get, insert, remove}
 use Rattle.daig_graph.specs.declared.value.Value.{Value}
 use Rattle.daig_graph.specs.Agrees.{cell_of, filled_at, value_at, Agrees}
@@ -8,6 +8,7 @@ use Rattle.daig_graph.specs.Owners.{owner_at}
 use Rattle.daig_graph.specs.Threads.{inputs_at}
 use Rattle.daig_graph.proofs.Maps.{cell_map, get-cell, insert-is, remove-is}
 use Rattle.std.proofs.lemmas.Bool.{cases_eq}
+use Rattle.std.proofs.lemmas.List.{get_or-set_same, get_or-set_other}
 use Rattle.std.proofs.lemmas.List.Sums.{sum_by-set, sum_by_push}
 
 -- how many are there, after one is set
@@ -115,3 +116,15 @@ module _ {A : Type 0} where
 
   pub count-push : (items : List (Option A)) → count_by is_some (items ++ None ∷ []) ≡ count_by is_some items
   count-push items = omega (arith, sum_by_push (λ (o : Option A). cond (is_some o) 1 0) items None)
+
+-- what is there stays, when something is put
+pub some-set : {A : Type 0} (items : List (Option A)) (n : ℕ) (a : A) → n < length items → (x : ℕ) → IsSome (get_or items x None) → IsSome (get_or (set items n (Some a)) x None)
+some-set items n a h x there = elim (cases_eq x n) [
+  | inl same ↦ ap is_some (ap (λ m. get_or (set items n (Some a)) m None) same ∙ get_or-set_same items n (Some a) None h)
+  | inr ne ↦ ap is_some (get_or-set_other items n x (Some a) None ne) ∙ there
+]
+
+-- what holds holds after an error
+pub on-err : {T E P : Type 0} (r : Result T E) → P → OnErr r P
+on-err (Ok a) p = tt
+on-err (Err e) p = p

@@ -3,6 +3,7 @@ pub mod Maps
 pub mod Agreeing
 pub mod Filled
 pub mod Moved
+pub mod NewNumbers
 pub mod Filtering
 pub mod Threading
 pub mod Pushing

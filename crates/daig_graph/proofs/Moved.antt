@@ -1,5 +1,5 @@
 -- Cells that move down to new numbers.
-use Rattle.std.proofs.Common.{◌≡◌, ◌≢◌, ℕ, zero, suc, ◌+◌, ◌<◌, ◌≤◌, cond, List, [], ◌∷◌, length, map, Option, Some, None, IsSome, is_some, option_map, count_by, slice_get, get_or, set, take, refl, sym, ap, ◌∙◌, arith, inl, inr}
+use Rattle.std.proofs.Common.{◌≡◌, ◌≢◌, ◌⊎◌, ℕ, zero, suc, ◌+◌, ◌<◌, ◌≤◌, cond, false, List, [], ◌∷◌, length, map, Option, Some, None, IsSome, is_some, option_map, count_by, slice_get, get_or, set, take, refl, sym, ap, ◌∙◌, subst, arith, inl, inr}
 use Rattle.std.specs.FinMap.{FinMap, get}
 use Rattle.std.specs.Ordering.{nat_cmp}
 use Rattle.std.specs.List.{swap}
@@ -42,10 +42,10 @@ pub count-swap : {A : Type 0} (items : List (Option A)) (n to : ℕ) → n < len
 count-swap {A} items n to h l =
     let first = count-set items n (get_or items to None) h in
     let second = count-set (set items n (get_or items to None)) to (get_or items n None) (omega (arith, l, length-set items n (get_or items to None))) in
-    let same = ap (λ (o : Option A). cond (is_some o) 1 0) (still (cases_eq to n)) in
+    let same = ap {B = ℕ} (λ (o : Option A). cond (is_some o) 1 0) (still (cases_eq to n)) in
     ap (λ xs. count_by is_some xs) (sym (swap_is items n to None h l)) ∙ omega (arith, first, second, same)
   where
-    still : _ → get_or (set items n (get_or items to None)) to None ≡ get_or items to None
+    still : (to ≡ n) ⊎ (to ≢ n) → get_or (set items n (get_or items to None)) to None ≡ get_or items to None
     still (inl same) = ap (λ m. get_or (set items n (get_or items to None)) m None) same ∙ get_or-set_same items n (get_or items to None) None h
     still (inr ne) = get_or-set_other items n to (get_or items to None) None ne
 
@@ -137,3 +137,28 @@ moving-start change old new_of room = record {
   rest = λ n l. refl;
   ends = λ n a l e. absurd (omega (arith, l));
 }
+
+-- a number among new ones is that of a number at the same place
+pub number-was : (new_of xs : List ℕ) (i y : ℕ) → slice_get (map (renumbered new_of) xs) i ≡ Some y → (x : ℕ) × (slice_get xs i ≡ Some x) × (renumbered new_of x ≡ y)
+number-was new_of [] i y e = none-some e
+number-was new_of (x ∷ xs) zero y e = (x, refl, same_Some _ _ e)
+number-was new_of (x ∷ xs) (suc i) y e = number-was new_of xs i y e
+
+-- an item that is there is read whatever the default is
+pub same-default : {A : Type 0} (items : List A) (n : ℕ) (d e : A) → n < length items → get_or items n d ≡ get_or items n e
+same-default [] n d e h = absurd (omega (arith, h))
+same-default (x ∷ items) zero d e h = refl
+same-default (x ∷ items) (suc n) d e h = same-default items n d e (omega (arith, h))
+
+-- what holds of four things holds of their equals
+pub along : {A B C D : Type 0} (P : A → B → C → D → Type 0) (a e : A) (b f : B) (c g : C) (d h : D) → a ≡ e → b ≡ f → c ≡ g → d ≡ h → P a b c d → P e f g h
+along {A} {B} {C} {D} P a e b f c g d h ae bf cg dh p =
+    let Q : A → Type 0 = λ x. P x b c d in
+    let R : B → Type 0 = λ x. P e x c d in
+    let S : C → Type 0 = λ x. P e f x d in
+    let T : D → Type 0 = λ x. P e f g x in
+    subst T dh (subst S cg (subst R bf (subst Q ae p)))
+
+pub none-of : {A : Type 0} (o : Option A) → is_some o ≡ false → o ≡ None
+none-of None e = refl
+none-of (Some a) e = absurd (cc)

@@ -1,9 +1,13 @@
 -- Cells with other numbers.
-use Rattle.std.specs.Prelude.{◌≡◌, ℕ, map, Some, List}
+use Rattle.std.specs.Prelude.{◌≡◌, ℕ, map, List, [], length, Option, Some, None, is_some, count_by}
 use Rattle.std.specs.Ordering.{nat_cmp}
 use Rattle.std.specs.FinMap.{FinMap, get}
+use Rattle.daig_graph.specs.declared.value.Value.{Value}
+use Rattle.daig_graph.specs.Agrees.{filled_at, value_at}
 use Rattle.daig_graph.specs.Cells.{Filled}
-use Rattle.daig_graph.specs.Numbers.{renumbered}
+use Rattle.daig_graph.specs.Numbers.{renumbered, Moving}
+use Rattle.daig_graph.specs.Owners.{owner_at}
+use Rattle.daig_graph.specs.Threads.{inputs_at}
 
 module _ (new_of : List ℕ) {V : Type 0} where
   -- what a cell was filled with, by the new numbers of its inputs
@@ -14,3 +18,14 @@ module _ (new_of : List ℕ) {V : Type 0} where
   pub record Renumbers (old new : FinMap nat_cmp (Filled V)) : Type 0 where
     pub there : (n : ℕ) (f : Filled V) → get old n ≡ Some f → get new (renumbered new_of n) ≡ Some (renumbered_cell f)
     pub back : (q : ℕ) (g : Filled V) → get new q ≡ Some g → (n : ℕ) × (f : Filled V) × (get old n ≡ Some f) × (renumbered new_of n ≡ q)
+
+  -- The cells below a number stand at their new numbers, below the room. The parts have as many places as before, and agree
+  -- but for inputs, which may be cells that are still to move.
+  pub record AreMoving (values mid_values : List (Option (Value V))) (owners mid_owners : List (Option ℕ)) (inputs mid_inputs : List (List ℕ)) (number room : ℕ) : Type 0 where
+    pub value_places : length mid_values ≡ length values
+    pub owner_places : length mid_owners ≡ length owners
+    pub input_places : length mid_inputs ≡ length inputs
+    pub owned : (n : ℕ) → is_some (owner_at mid_owners n) ≡ is_some (value_at mid_values n)
+    pub blank : (n : ℕ) → value_at mid_values n ≡ None → inputs_at mid_inputs n ≡ []
+    pub counted : count_by is_some mid_values ≡ count_by is_some values
+    pub moving : Moving renumbered_cell (filled_at values owners inputs) (filled_at mid_values mid_owners mid_inputs) new_of number room
