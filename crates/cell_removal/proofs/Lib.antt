@@ -6,3 +6,4 @@ pub mod Users
 pub mod Stacks
 pub mod Turns
 pub mod Whole
+pub mod Tops

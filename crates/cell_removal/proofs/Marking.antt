@@ -1,14 +1,14 @@
 -- Bits that tell which numbers are marked.
-use Rattle.std.proofs.Common.{◌≡◌, ◌≢◌, ℕ, ◌/◌, ◌%◌, ◌*◌, ◌^◌, ◌<◌, ◌≤◌, List, [], length, get_or, nat_eq, nat_lt, bit_and, bit_or, false, sym, ap, subst, ◌∙◌, arith, inl, inr, w64}
+use Rattle.std.proofs.Common.{◌≡◌, ◌≢◌, ℕ, ◌/◌, ◌%◌, ◌*◌, ◌^◌, ◌<◌, ◌≤◌, ◌+◌, List, [], length, get_or, nat_eq, nat_lt, bit_and, bit_or, false, sym, ap, subst, ◌∙◌, arith, inl, inr, w64}
 use Rattle.std.specs.Int.{bit_at}
 use Rattle.std.specs.Bool.{Decides}
 use Rattle.std.proofs.lemmas.Nat.{div-add-mod'}
 use Rattle.std.proofs.lemmas.Nat.Bits.{shr_and_one, bit_at-zero, bit_at_set_same, bit_at_set_other}
-use Rattle.std.proofs.lemmas.List.{get_or-set_same, get_or-set_other, get_or_past}
+use Rattle.std.proofs.lemmas.List.{length-set, get_or-set_same, get_or-set_other, get_or_past}
 use Rattle.std.proofs.lemmas.Bool.{cases_eq}
 use Rattle.std.proofs.lemmas.Bool.Decides.{nat_tests}
 use Rattle.base_values.proofs.Cases.{by_bool, equal_test}
-use Rattle.cell_removal.specs.Marks.{HasMark, Puts, SameWords, with_mark}
+use Rattle.cell_removal.specs.Marks.{HasMark, HasRoom, Puts, with_mark}
 
 -- a word of zeros has no marks
 blank : (words : List ℕ) (n : ℕ) → get_or words (n / 64) 0 ≡ 0 → HasMark words n → ⊥
@@ -18,8 +18,15 @@ blank words n e h =
     let same : 0 ≡ 1 = sym z ∙ o in
     omega (arith, same)
 
-pub none_marked : (words : List ℕ) → words ≡ [] → (n : ℕ) → HasMark words n → ⊥
-none_marked words e n = blank words n (ap (λ l. get_or l (n / 64) 0) e)
+-- words of zeros have no marks
+pub none_marked : (old words : List ℕ) (count : ℕ) → old ≡ [] → length words ≡ count → ((k d : ℕ) → length old ≤ k → k < count → get_or words k d ≡ 0) → (n : ℕ) → HasMark words n → ⊥
+none_marked old words count none many zeros n = blank words n (by_bool (nat_lt (n / 64) count)
+    (λ t. let below : n / 64 < count = grind (arith, nat_tests) in zeros (n / 64) 0 (omega (arith, ap length none)) below)
+    (λ t. let above : count ≤ n / 64 = grind (arith, nat_tests) in get_or_past words (n / 64) 0 (omega (arith, many, above))))
+
+-- as many words as a room wants
+pub room_below : (words : List ℕ) (room : ℕ) → length words ≡ room / 64 + 1 → (n : ℕ) → n < room → HasRoom words n
+room_below words room many n below = omega (arith, below, many)
 
 -- a number past all words is not marked
 pub past_marks : (words : List ℕ) (n : ℕ) → length words ≤ n / 64 → Decides false (HasMark words n)
@@ -33,19 +40,7 @@ tests_mark words n =
       λ h. equal_test (bit_and (get_or words (n / 64) 0 / 2 ^ (n % 64)) 1) 1 (e ∙ h),
     )
 
--- more words, all of them zeros
-pub same_words : (old new : List ℕ) (count : ℕ) → length new ≡ count → length old ≤ count
-    → ((k d : ℕ) → k < count → k < length old → get_or new k d ≡ get_or old k d) → ((k d : ℕ) → length old ≤ k → k < count → get_or new k d ≡ 0)
-    → SameWords old new
-same_words old new count many more kept zeros k = by_bool (nat_lt k count)
-    (λ t. let below : k < count = grind (arith, nat_tests) in
-    by_bool (nat_lt k (length old))
-    (λ u. let under : k < length old = grind (arith, nat_tests) in kept k 0 below under)
-    (λ u. let over : length old ≤ k = grind (arith, nat_tests) in zeros k 0 over below ∙ sym (get_or_past old k 0 over)))
-    (λ t. let above : count ≤ k = grind (arith, nat_tests) in
-    get_or_past new k 0 (omega (arith, many, above)) ∙ sym (get_or_past old k 0 (omega (arith, more, above))))
-
-module _ (old words : List ℕ) (same : SameWords old words) (n : ℕ) (within : n / 64 < length words) where
+module _ (words : List ℕ) (n : ℕ) (within : n / 64 < length words) where
   low : n % 64 < 64
   low = omega arith
 
@@ -72,11 +67,11 @@ module _ (old words : List ℕ) (same : SameWords old words) (n : ℕ) (within :
     | inr other ↦ ap (λ w. bit_at w (m % 64)) (get_or-set_other words (n / 64) (m / 64) (bit_or (get_or words (n / 64) 0) (1 * 2 ^ (n % 64) % 2 ^ 64)) 0 other)
   ]
 
-  bit_same : (m : ℕ) → m ≢ n → bit_at (get_or (with_mark words n) (m / 64) 0) (m % 64) ≡ bit_at (get_or old (m / 64) 0) (m % 64)
-  bit_same m ne = bit_kept m ne ∙ ap (λ w. bit_at w (m % 64)) (same (m / 64))
+  puts_mark : Puts words (with_mark words n) n
+  puts_mark = record { here = mark_here; others = λ m ne. (λ h. sym (bit_kept m ne) ∙ h, λ h. bit_kept m ne ∙ h) }
 
-  puts_mark : Puts old (with_mark words n) n
-  puts_mark = record { here = mark_here; others = λ m ne. (λ h. sym (bit_same m ne) ∙ h, λ h. bit_same m ne ∙ h) }
+pub puts_bit : (words new : List ℕ) (n : ℕ) → n / 64 < length words → new ≡ with_mark words n → Puts words new n
+puts_bit words new n within e = subst (λ xs. Puts words xs n) (sym e) (puts_mark words n within)
 
-pub puts_bit : (old words new : List ℕ) (n : ℕ) → SameWords old words → n / 64 < length words → new ≡ with_mark words n → Puts old new n
-puts_bit old words new n same within e = subst (λ xs. Puts old xs n) (sym e) (puts_mark old words same n within)
+pub length-mark : (words : List ℕ) (n : ℕ) → length (with_mark words n) ≡ length words
+length-mark words n = length-set words (n / 64) (bit_or (get_or words (n / 64) 0) (1 * 2 ^ (n % 64) % 2 ^ 64))

@@ -1,5 +1,5 @@
 -- Turns of the walk, and what they keep.
-use Rattle.std.proofs.Common.{◌≡◌, ℕ, ◌<◌, ◌+◌, ◌↔◌, ◌⊎◌, List, [], ◌∷◌, ◌++◌, length, Some, IsSome, refl, sym, ap, subst, ◌∙◌, inl, inr, arith, append_assoc, length-append}
+use Rattle.std.proofs.Common.{◌≡◌, ℕ, ◌<◌, ◌+◌, ◌↔◌, ◌⊎◌, List, [], ◌∷◌, ◌++◌, length, Some, IsSome, is_some, refl, sym, ap, subst, ◌∙◌, inl, inr, arith, append_assoc, length-append}
 use Rattle.std.specs.FinMap.{get}
 use Rattle.std.proofs.lemmas.Bool.{cases_eq}
 use Rattle.daig_graph.specs.Cells.{IsUse}
@@ -8,7 +8,7 @@ use Rattle.daig_graph.specs.declared.graph.Use.{Use}
 use Rattle.cell_removal.specs.declared.planning.Open.{Open}
 use Rattle.cell_removal.specs.Removal.{Cells, Uses, IsRising, IsOrder, IsFirst, Adds}
 use Rattle.cell_removal.specs.Marks.{HasMark, Puts, AreMarked}
-use Rattle.cell_removal.specs.Turns.{IsOpened, Turns}
+use Rattle.cell_removal.specs.Turns.{AreOpenUsers, IsOpened, Turns}
 use Rattle.cell_removal.specs.Turns as turn
 use Rattle.cell_removal.proofs.Ins.{in_none, in_cases, in_left, in_last, in_pushed}
 use Rattle.cell_removal.proofs.Stacks.{IsLeft, cells_of, cells_push, in_push, push_in, below_top, Growing, grows_less, turns, turns_less, turns_more, counted, grows_more, grows_first, grown}
@@ -236,6 +236,6 @@ module _ {V : Type 0} (cells : Cells V) (cell : ℕ) (old : List ℕ) where
   turns_fall o marks more planned now items stack after up w e t =
       subst (λ xs. turns cells now after < turns cells planned xs) (sym e) (lower up o marks more planned now stack after t (subst (Walking cells cell old marks planned) e w))
 
-  -- the uses of the cell whose turn has come
-  pub top_uses : (o : Open) (marks planned : List ℕ) (items stack : List Open) → Walking cells cell old marks planned items → items ≡ stack ++ o ∷ [] → (u : Use) → IsIn o.users u → IsUse cells o.cell u
-  top_uses o marks planned items stack w e u m = (subst (Walking cells cell old marks planned) e w).walks.are_uses o u (in_last o stack) m
+  -- what is left of the users of the cells on the stack are cells
+  pub walking_uses : (marks planned : List ℕ) (stack : List Open) → Walking cells cell old marks planned stack → AreOpenUsers cells stack
+  walking_uses marks planned stack w o u m k = let h = w.walks.are_uses o u m k in ap is_some h.1

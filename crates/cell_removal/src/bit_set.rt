@@ -1,10 +1,10 @@
 //! Marks on numbers.
-ghost use Rattle.std.specs.Prelude.{◌≡◌, ◌/◌, ◌<◌, ℕ, OnOk, vec_len};
+ghost use Rattle.std.specs.Prelude.{◌≡◌, ◌/◌, ◌<◌, ℕ, IfOk, length, vec_len};
 ghost use Rattle.std.specs.Bool.{Decides};
-ghost use Rattle.cell_removal.specs.Marks.{HasMark, Puts, SameWords, with_mark};
+ghost use Rattle.cell_removal.specs.Marks.{HasMark, HasRoom, Puts, with_mark};
 
 use base_values::Memory;
-use std::alloc::{AllocError, Global};
+use std::alloc::Global;
 use std::marker::Model;
 
 /// Some numbers: a bit for each number up to the greatest of them.
@@ -22,15 +22,16 @@ impl Model for BitSet {
 }
 
 impl BitSet {
-    /// No number is marked. It takes no memory yet.
-    #[tactic(auto, using(crate::proofs::Marking::none_marked))]
+    /// No number is marked, and there is room for those below this.
+    #[tactic(auto, using(crate::proofs::Marking::none_marked, crate::proofs::Marking::room_below))]
     #[inline]
-    pub(crate) fn new(alloc: Global) -> BitSet
-        ensures none { (n : ℕ) → HasMark result n → ⊥ }
+    pub(crate) fn with_room(alloc: Global, room: usize) -> Result<BitSet, Memory>
+        ensures none { IfOk result (λ marks. (n : ℕ) → HasMark marks n → ⊥) }
+        ensures room { IfOk result (λ marks. (n : ℕ) → n < room → HasRoom marks n) }
     {
-        BitSet {
-            words: Vec::new(alloc),
-        }
+        let mut words = Vec::new(alloc);
+        words.resize(room / 64 + 1, 0)?;
+        Ok(BitSet { words })
     }
 
     /// Whether a number is marked.
@@ -47,30 +48,16 @@ impl BitSet {
         }
     }
 
-    /// Marks a number.
+    /// Marks a number that there is room for.
     #[tactic(auto, using(crate::proofs::Marking::puts_bit))]
     #[inline]
-    pub(crate) fn add(&mut self, number: usize) -> Result<(), Memory>
-        ensures puts { OnOk result (Puts self.old self.new number) }
+    pub(crate) fn add(&mut self, number: usize)
+        requires room { HasRoom self.old number }
+        ensures puts { Puts self.old self.new number }
+        ensures room { length self.new ≡ length self.old }
     {
-        reserve(&mut self.words, number)?;
         set_bit(&mut self.words, number);
-        Ok(())
     }
-}
-
-/// A word for the bit of a number.
-#[tactic(auto, using(crate::proofs::Marking::same_words))]
-#[inline]
-fn reserve(words: &mut Vec<u64>, number: usize) -> Result<(), AllocError>
-    ensures word { OnOk result (number / 64 < vec_len words.new) }
-    ensures same { OnOk result (SameWords words.old.items words.new.items) }
-{
-    let word = number / 64;
-    if words.len() <= word {
-        words.resize(word + 1, 0)?;
-    }
-    Ok(())
 }
 
 /// Sets the bit of a number.

@@ -1,11 +1,11 @@
 //! The cells that are computed from some cells, in the order in which they can be taken away.
-ghost use Rattle.std.specs.Prelude.{◌≡◌, IsSome, IfOk, OnOk};
+ghost use Rattle.std.specs.Prelude.{◌≡◌, ◌<◌, [], length, vec_len, IsSome, IfOk, OnOk};
 ghost use Rattle.std.specs.FinMap as map;
 ghost use Rattle.daig_graph.specs.Held.{IsIn};
 ghost use Rattle.daig_graph.specs.Cells.{AreCells};
 ghost use Rattle.cell_removal.specs.Removal.{Adds, IsNext, IsOrder, IsRising, Removes};
-ghost use Rattle.cell_removal.specs.Marks.{AreMarked, HasMark};
-ghost use Rattle.cell_removal.specs.Turns.{IsOpened, Turns};
+ghost use Rattle.cell_removal.specs.Marks.{AreMarked, HasMark, HasRoomForAll};
+ghost use Rattle.cell_removal.specs.Turns.{AreOpenUsers, IsOpened, TurnsTop};
 
 use crate::bit_set::BitSet;
 use base_values::Memory;
@@ -70,59 +70,67 @@ fn opened<V>(graph: &Graph<V>, cell: usize) -> Open<'_>
     }
 }
 
-/// Goes on with a cell: its next user that is not marked is marked and comes above it; where there is none, it is planned.
-#[tactic(auto, using(crate::proofs::Turns::takes, crate::proofs::Turns::goes))]
+/// Goes on with the cell on top: its next user that is not marked is marked and comes above it; where there is none, it is
+/// planned and taken off.
 #[inline]
 fn turn<'a, V>(
     graph: &'a Graph<V>,
-    mut top: Open<'a>,
     marks: &mut BitSet,
     planned: &mut Vec<usize>,
     stack: &mut Vec<Open<'a>>,
 ) -> Result<(), Memory>
-    ensures turns { OnOk result (Turns graph.now.cells top.entry marks.old planned.old.items
-        marks.new planned.new.items stack.old.items stack.new.items) }
+    requires some { 0 < vec_len stack.old }
+    requires users { AreOpenUsers graph.now.cells stack.old.items }
+    requires room { HasRoomForAll graph.now.cells marks.old }
+    ensures turns { OnOk result (TurnsTop graph.now.cells marks.old planned.old.items marks.new
+        planned.new.items stack.old.items stack.new.items) }
+    ensures room { length marks.new ≡ length marks.old }
 {
+    let last = stack.len() - 1;
+    let top = &mut stack[last];
     match next_user(&mut top.users, &*marks) {
         None => {
             planned.push(top.cell)?;
+            let _planned = stack.pop();
         }
         Some(user) => {
-            marks.add(user)?;
-            stack.push(top)?;
+            marks.add(user);
             stack.push(opened(graph, user))?;
         }
     }
     Ok(())
 }
 
-/// Plans a cell and all that are computed from it, depth first: each cell after its users. What is planned is marked.
+/// Plans a cell and all that are computed from it, depth first: each cell after its users. What is planned is marked. The
+/// stack is empty before and after.
 #[tactic(auto, using(crate::proofs::Turns::walking_first, crate::proofs::Turns::walking_turn, crate::proofs::Turns::turns_fall, crate::proofs::Turns::walking_last, crate::proofs::Whole::adds_there))]
 #[inline]
-fn add<V>(
-    alloc: Global,
-    graph: &Graph<V>,
+fn add<'a, V>(
+    graph: &'a Graph<V>,
     cell: usize,
     marks: &mut BitSet,
     planned: &mut Vec<usize>,
+    stack: &mut Vec<Open<'a>>,
 ) -> Result<(), Memory>
     requires rising { IsRising graph.now.cells }
     requires there { IsSome (map.get graph.now.cells cell) }
     requires order { IsOrder graph.now.cells planned.old.items }
     requires marked { AreMarked marks.old planned.old.items }
+    requires room { HasRoomForAll graph.now.cells marks.old }
+    requires empty { stack.old.items ≡ [] }
     ensures order { OnOk result (IsOrder graph.now.cells planned.new.items) }
     ensures adds { OnOk result (Adds graph.now.cells cell planned.old.items planned.new.items) }
     ensures marked { OnOk result (AreMarked marks.new planned.new.items) }
+    ensures room { length marks.new ≡ length marks.old }
+    ensures empty { OnOk result (stack.new.items ≡ []) }
 {
     if marks.has(cell) {
         return Ok(());
     }
-    marks.add(cell)?;
-    let mut stack = Vec::new(alloc);
-    let first = opened(graph, cell);
-    stack.push(first)?;
-    'users: while let Some(top) = stack.pop() {
-        turn(graph, top, marks, planned, &mut stack)?;
+    marks.add(cell);
+    stack.push(opened(graph, cell))?;
+    'users: while stack.len() > 0 {
+        turn(graph, marks, planned, stack)?;
     }
     Ok(())
 }
@@ -144,9 +152,13 @@ pub fn removal<V>(
     ensures removes { IfOk result (Removes graph.now.cells (IsIn touched.now)) }
 {
     let mut cells = Vec::new(alloc);
-    let mut marks = BitSet::new(alloc);
+    if touched.len() == 0 {
+        return Ok(RemovalOrder { cells });
+    }
+    let mut marks = BitSet::with_room(alloc, graph.room())?;
+    let mut stack = Vec::new(alloc);
     for cell in touched {
-        add(alloc, graph, *cell, &mut marks, &mut cells)?;
+        add(graph, *cell, &mut marks, &mut cells, &mut stack)?;
     }
     Ok(RemovalOrder { cells })
 }

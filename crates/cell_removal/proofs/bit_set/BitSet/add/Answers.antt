@@ -1,10 +1,10 @@
-use Rattle.std.proofs.Common.{get_or, ap, ◌∙◌, arith}
-use Rattle.cell_removal.proofs.Marking.{puts_bit}
+use Rattle.std.proofs.Common.{length, ap, ◌∙◌}
+use Rattle.cell_removal.specs.Marks.{with_mark}
+use Rattle.cell_removal.proofs.Marking.{puts_bit, length-mark}
 use Rattle.cell_removal.proofs.bit_set.BitSet.add.Goals as goal
 
 pub returns : goal.returns
 returns c = record {
-  puts =
-      puts_bit c.args.self.now c.reserve.new.words.items c.set_bit.new.words.items c.args.number
-      (λ k. c.in_ok-reserve.ensures.same k ∙ ap (λ l. get_or l k 0) c.self.view_is) (omega (arith, c.in_ok-reserve.ensures.word, c.reserve.new.words.ok.0)) c.set_bit.ensures.sets;
+  puts = puts_bit c.args.self.now c.set_bit.new.words.items c.args.number c.requires.room (c.set_bit.ensures.sets ∙ ap (λ ws. with_mark ws c.args.number) c.self.view_is);
+  room = ap length c.set_bit.ensures.sets ∙ length-mark c.self.inside.words.items c.args.number ∙ ap length c.self.view_is;
 }
