@@ -4,6 +4,7 @@ pub mod Agreeing
 pub mod Filled
 pub mod Moved
 pub mod NewNumbers
+pub mod Cut
 pub mod Filtering
 pub mod Threading
 pub mod Pushing

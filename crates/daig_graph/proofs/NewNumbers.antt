@@ -21,7 +21,7 @@ cell-renumbered new_of (Some v) None xs f e = none-some e
 cell-renumbered new_of (Some v) (Some o) xs f e = ap (λ g. Some (renumbered_cell new_of g)) (same_Some _ _ e)
 
 -- what is not there is nothing
-is-none : {A B : Type 0} (o : Option A) (p : Option B) → is_some o ≡ is_some p → p ≡ None → o ≡ None
+pub is-none : {A B : Type 0} (o : Option A) (p : Option B) → is_some o ≡ is_some p → p ≡ None → o ≡ None
 is-none None p e none = refl
 is-none (Some a) p e none = let no = e ∙ ap is_some none in absurd (cc)
 
