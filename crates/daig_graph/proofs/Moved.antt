@@ -1,24 +1,13 @@
 -- Cells that move down to new numbers.
-use Rattle.std.proofs.Common.{◌≡◌, ◌≢◌, ◌⊎◌, ℕ, zero, suc, ◌+◌, ◌<◌, ◌≤◌, cond, false, List, [], ◌∷◌, length, map, Option, Some, None, IsSome, is_some, option_map, count_by, slice_get, get_or, set, take, refl, sym, ap, ◌∙◌, subst, arith, inl, inr}
-use Rattle.std.specs.FinMap.{FinMap, get}
-use Rattle.std.specs.Ordering.{nat_cmp}
+use Rattle.std.proofs.Common.{◌≡◌, ◌≢◌, ◌⊎◌, ℕ, zero, suc, ◌+◌, ◌<◌, ◌≤◌, cond, false, List, [], ◌∷◌, length, map, Option, Some, None, is_some, count_by, slice_get, get_or, set, refl, sym, ap, ◌∙◌, subst, arith, inl, inr}
 use Rattle.std.specs.List.{swap}
-use Rattle.daig_graph.specs.declared.value.Value.{Value}
-use Rattle.daig_graph.specs.Agrees.{cell_of, filled_at, value_at, Agrees}
-use Rattle.daig_graph.specs.Cells.{Filled}
 use Rattle.daig_graph.specs.Numbers.{renumbered, AreRising, AreBelow, EndsBy, Moves, Moving}
-use Rattle.daig_graph.specs.Owners.{owner_at}
-use Rattle.daig_graph.specs.Renumbered.{renumbered_cell, Renumbers}
-use Rattle.daig_graph.specs.Threads.{inputs_at, AllBelow}
-use Rattle.daig_graph.proofs.Agreeing.{some-is, at-below, cell-parts, cell-none, cell-some, cell-at}
 use Rattle.daig_graph.proofs.Cases.{none-some}
-use Rattle.daig_graph.proofs.Filled.{Keeps, filled-keep, agrees-keep, count-set}
-use Rattle.daig_graph.proofs.Maps.{cell_map, get-cell}
+use Rattle.daig_graph.proofs.Filled.{count-set}
 use Rattle.std.proofs.lemmas.Bool.{cases_eq}
 use Rattle.std.proofs.lemmas.List.{get_or-set_same, get_or-set_other, length-set}
-use Rattle.std.proofs.lemmas.List.Edits.{swap_is, length-swap}
-use Rattle.std.proofs.lemmas.List.Sums.{sum_by-cons}
-use Rattle.std.proofs.lemmas.Option.{same_Some, slice_get-map, slice_get_within}
+use Rattle.std.proofs.lemmas.List.Edits.{swap_is}
+use Rattle.std.proofs.lemmas.Option.{same_Some}
 
 -- one number's item is taken away, and another gets one
 module _ {A : Type 0} (items : List A) (n to : ℕ) (a b d : A) where

@@ -1,10 +1,9 @@
 -- One cell after another gets its new number.
-use Rattle.std.proofs.Common.{◌≡◌, ◌≢◌, ℕ, ◌+◌, ◌<◌, ◌≤◌, List, [], length, map, Option, Some, None, IsSome, is_some, count_by, slice_get, get_or, take, refl, sym, ap, ◌∙◌, arith, inl, inr}
-use Rattle.std.specs.List.{swap}
+use Rattle.std.proofs.Common.{◌≡◌, ◌≢◌, ℕ, ◌+◌, ◌<◌, ◌≤◌, List, [], length, map, Option, Some, None, IsSome, is_some, count_by, slice_get, refl, sym, ap, ◌∙◌, arith, inl, inr}
 use Rattle.daig_graph.specs.declared.value.Value.{Value}
 use Rattle.daig_graph.specs.Agrees.{cell_of, filled_at, value_at, Agrees}
 use Rattle.daig_graph.specs.Cells.{Filled}
-use Rattle.daig_graph.specs.Numbers.{renumbered, AreRising, AreBelow, EndsBy, Moves, Moving}
+use Rattle.daig_graph.specs.Numbers.{renumbered, AreRising, AreBelow, EndsBy, Moves}
 use Rattle.daig_graph.specs.Owners.{owner_at}
 use Rattle.daig_graph.specs.Renumbered.{renumbered_cell, AreMoving}
 use Rattle.daig_graph.specs.Threads.{inputs_at, AllBelow}
@@ -28,7 +27,12 @@ is-none (Some a) p e none = let no = e ∙ ap is_some none in absurd (cc)
 module _ {V : Type 0} (new_of : List ℕ) (values0 : List (Option (Value V))) (owners0 : List (Option ℕ)) (inputs0 : List (List ℕ)) (count : ℕ) (agrees : Agrees values0 owners0 inputs0 count) where
   pub are-moving-start : (room : ℕ) → AreMoving new_of values0 values0 owners0 owners0 inputs0 inputs0 0 room
   are-moving-start room = record {
-    value_places = refl; owner_places = refl; input_places = refl; owned = agrees.owned; blank = agrees.blank; counted = refl;
+    value_places = refl;
+    owner_places = refl;
+    input_places = refl;
+    owned = agrees.owned;
+    blank = agrees.blank;
+    counted = refl;
     moving = moving-start (renumbered_cell new_of) (filled_at values0 owners0 inputs0) new_of room;
   }
 
@@ -42,7 +46,12 @@ module _ {V : Type 0} (new_of : List ℕ) (values0 : List (Option (Value V))) (o
     -- nothing stands there
     pub are-moving-none : value_at values number ≡ None → AreMoving new_of values0 values owners0 owners inputs0 inputs (number + 1) room
     are-moving-none none = record {
-      value_places = m.value_places; owner_places = m.owner_places; input_places = m.input_places; owned = m.owned; blank = m.blank; counted = m.counted;
+      value_places = m.value_places;
+      owner_places = m.owner_places;
+      input_places = m.input_places;
+      owned = m.owned;
+      blank = m.blank;
+      counted = m.counted;
       moving = moving-none (renumbered_cell new_of) (filled_at values0 owners0 inputs0) (filled_at values owners inputs) new_of number room m.moving (cell-none (value_at values number) (owner_at owners number) (inputs_at inputs number) none);
     }
 

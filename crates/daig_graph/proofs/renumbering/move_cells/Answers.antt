@@ -1,4 +1,4 @@
-use Rattle.std.proofs.Common.{◌≡◌, ℕ, ◌+◌, ◌<◌, [], List, length, map, Option, None, is_some, count_by, sym, ap, ◌∙◌, subst, arith}
+use Rattle.std.proofs.Common.{ℕ, ◌+◌, ◌<◌, [], length, map, None, is_some, count_by, sym, ap, ◌∙◌, subst, arith}
 use Rattle.std.specs.List.{swap}
 use Rattle.daig_graph.specs.Numbers.{renumbered}
 use Rattle.daig_graph.specs.Owners.{owner_at}
@@ -71,24 +71,26 @@ loop-number-preserved g c =
     let to = renumbered c.args.new_of.now number in
     let below : number < length values = omega (arith, c.loop-number-test.true, c.loop-number.invariant.moving.value_places, c.len-number-end.ensures) in
     let value = same-default values number None c.index.result.now below ∙ sym c.index.ensures in
-    record { moving = elim c.if-is_some.branch [
-      | then-is_some w ↦
-          let there = ap is_some value ∙ sym c.is_some.ensures ∙ w.if-is_some.true in
-          let new = w.new_number-new.ensures.new in
-          let inside : to < length values = omega (arith, below, to-low _ _ _ _ _ c.requires.agrees c.requires.rising c.requires.below _ _ _ _ _ c.loop-number.invariant.moving there) in
-          let swapped = ap (λ v. v.items) w.values-is ∙ w.swap.ensures.items ∙ ap (swap values number) new in
-          let P : ℕ → Type 0 = λ r. AreMoving c.args.new_of.now c.args.values.now.items c.if-is_some.values.items c.args.owned.now.of c.if-is_some.owned.of c.args.uses.now c.if-is_some.uses (number + 1) r in
-          subst P (sym (w.room-is ∙ ap (λ n. n + 1) new))
-          (are-moving-some _ _ _ _ _ c.requires.agrees c.requires.rising c.requires.below _ _ _ _ _ c.loop-number.invariant.moving there c.if-is_some.values.items c.if-is_some.owned.of c.if-is_some.uses
-          (swapped ∙ sym (swap_is values number to None below inside))
-          (ap (λ l. count_by is_some l) swapped ∙ count-swap values number to below inside)
-          (ap (λ v. v.of) w.owned-is ∙ ap (λ v. v.of) w.move_cell.ensures.moved ∙ ap (λ t. moved_item owners number t None (owner_at owners number) None) new)
-          (w.uses-is ∙ w.move_inputs.ensures.moved ∙ ap (λ t. moved_item c.loop-number.uses number t [] (map (renumbered c.args.new_of.now) (inputs_at c.loop-number.uses number)) []) new))
-      | else-is_some w ↦
-          along (λ v o u r. AreMoving c.args.new_of.now c.args.values.now.items v c.args.owned.now.of o c.args.uses.now u (number + 1) r) _ _ _ _ _ _ _ _
-          (sym (ap (λ v. v.items) w.values-is)) (sym (ap (λ v. v.of) w.owned-is)) (sym w.uses-is) (sym w.room-is)
-          (are-moving-none _ _ _ _ _ c.requires.agrees c.requires.rising c.requires.below _ _ _ _ _ c.loop-number.invariant.moving (none-of _ (ap is_some value ∙ sym c.is_some.ensures ∙ w.if-is_some.false)))
-    ] }
+    record {
+      moving = elim c.if-is_some.branch [
+        | then-is_some w ↦
+            let there = ap is_some value ∙ sym c.is_some.ensures ∙ w.if-is_some.true in
+            let new = w.new_number-new.ensures.new in
+            let inside : to < length values = omega (arith, below, to-low _ _ _ _ _ c.requires.agrees c.requires.rising c.requires.below _ _ _ _ _ c.loop-number.invariant.moving there) in
+            let swapped = ap (λ v. v.items) w.values-is ∙ w.swap.ensures.items ∙ ap (swap values number) new in
+            let P : ℕ → Type 0 = λ r. AreMoving c.args.new_of.now c.args.values.now.items c.if-is_some.values.items c.args.owned.now.of c.if-is_some.owned.of c.args.uses.now c.if-is_some.uses (number + 1) r in
+            subst P (sym (w.room-is ∙ ap (λ n. n + 1) new))
+            (are-moving-some _ _ _ _ _ c.requires.agrees c.requires.rising c.requires.below _ _ _ _ _ c.loop-number.invariant.moving there c.if-is_some.values.items c.if-is_some.owned.of c.if-is_some.uses
+            (swapped ∙ sym (swap_is values number to None below inside))
+            (ap (λ l. count_by is_some l) swapped ∙ count-swap values number to below inside)
+            (ap (λ v. v.of) w.owned-is ∙ ap (λ v. v.of) w.move_cell.ensures.moved ∙ ap (λ t. moved_item owners number t None (owner_at owners number) None) new)
+            (w.uses-is ∙ w.move_inputs.ensures.moved ∙ ap (λ t. moved_item c.loop-number.uses number t [] (map (renumbered c.args.new_of.now) (inputs_at c.loop-number.uses number)) []) new))
+        | else-is_some w ↦
+            along (λ v o u r. AreMoving c.args.new_of.now c.args.values.now.items v c.args.owned.now.of o c.args.uses.now u (number + 1) r) _ _ _ _ _ _ _ _
+            (sym (ap (λ v. v.items) w.values-is)) (sym (ap (λ v. v.of) w.owned-is)) (sym w.uses-is) (sym w.room-is)
+            (are-moving-none _ _ _ _ _ c.requires.agrees c.requires.rising c.requires.below _ _ _ _ _ c.loop-number.invariant.moving (none-of _ (ap is_some value ∙ sym c.is_some.ensures ∙ w.if-is_some.false)))
+      ];
+    }
 
 pub returns-clause-moves : goal.returns-clause-moves
 returns-clause-moves g c = all-moved _ _ _ _ _ c.requires.agrees c.requires.rising c.requires.below _ _ _ _ _ c.loop-number.invariant.moving (omega (arith, c.loop-number-test.false, c.loop-number.invariant.moving.value_places, c.len-number-end.ensures))

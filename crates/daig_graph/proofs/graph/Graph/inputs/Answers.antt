@@ -1,4 +1,4 @@
-use Rattle.std.proofs.Common.{◌≡◌, ℕ, List, Some, option_copied, ap, sym, ◌∙◌, subst, arith}
+use Rattle.std.proofs.Common.{ℕ, List, Some, option_copied, ap, sym, ◌∙◌, subst, arith}
 use Rattle.daig_graph.specs.Cells.{AreCells}
 use Rattle.daig_graph.proofs.Agreeing.{there-below, inputs-is, cells-closed}
 use Rattle.daig_graph.proofs.graph.Graph.inputs.Goals as goal

@@ -1,4 +1,4 @@
-use Rattle.std.proofs.Common.{rules, ℕ, ◌≡◌, ◌<◌, cond, [], length, Some, None, set, is_some, refl, sym, ap, ◌∙◌, arith}
+use Rattle.std.proofs.Common.{rules, ℕ, ◌<◌, cond, [], length, None, set, refl, sym, ap, ◌∙◌, arith}
 use Rattle.std.specs.FinMap.{remove}
 use Rattle.daig_graph.specs.Owners.{owner_at}
 use Rattle.daig_graph.specs.Threads.{inputs_at}

@@ -1,6 +1,5 @@
-use Rattle.std.proofs.Common.{◌≡◌, ap, sym, ◌∙◌}
+use Rattle.std.proofs.Common.{ap, sym, ◌∙◌}
 use Rattle.std.specs.FinMap.{len}
-use Rattle.daig_graph.specs.Agrees.{Agrees}
 use Rattle.daig_graph.proofs.Agreeing.{cell-at}
 use Rattle.daig_graph.proofs.Cut.{no-owner, no-inputs, inputs-end, keeps-cut, map-renumber}
 use Rattle.daig_graph.proofs.Filled.{Keeps, agrees-keep}
