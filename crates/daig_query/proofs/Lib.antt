@@ -22,6 +22,7 @@ pub mod Running
 pub mod Turns
 pub mod Starting
 pub mod Tops
+pub mod Firsts
 pub mod Turning
 pub mod Demands
 pub mod Holding

@@ -21,7 +21,7 @@ use Rattle.daig_query.specs.declared.store.Store.{Store}
 use Rattle.daig_query.specs.declared.walk.Walk.{Walk}
 use Rattle.daig_query.specs.Kept.{kept, Grows, Names}
 use Rattle.daig_query.specs.Right.{IsRight}
-use Rattle.daig_query.specs.Opened.{name_of, next_of, row_at, IsOpen, IsFurther, IsNext, Puts}
+use Rattle.daig_query.specs.Opened.{name_of, next_of, row_at, IsOpen, IsFurther, IsNext, Puts, StaysOpen}
 use Rattle.daig_query.specs.Turned.{stacked_names, AreKept, HandsDown, Pushes, FillsTop, Waits}
 use Rattle.daig_query.specs.Walked.{AreStacked, IsPlaced, IsGood, place_of}
 use Rattle.daig_query.proofs.Growing.{few_trans, names_few, names_grow, grows_trans, kept_same, name_stays, open_grows, next_grows}
@@ -43,6 +43,10 @@ module _ {S : Type 0} (dom : Operations S) (plan : Plan) where
       let p = has_row plan.engine plan.program right.checked (name_of store o) opened.named in
       let c : None ≡ Some p.0 = sym none ∙ p.1 in
       cc
+
+  -- a name of which more inputs are found is being filled still
+  pub further_stays : (store : Store S) (row : Row) (o u : Open) → IsFurther dom plan store row o u → StaysOpen dom plan store o u
+  further_stays store row o u further = record { entry = further.at.entry; cell = further.cell; name = further.name }
 
   -- the top once more, with other inputs found
   stacked_again : (store : Store S) (k : law.Walk) (os : List Open) (o u : Open) → name_of store u ≡ name_of store o → IsOpen dom plan store u → AreStacked dom plan store k (os ++ o ∷ []) → AreStacked dom plan store k (os ++ u ∷ [])
@@ -164,21 +168,21 @@ module _ {S : Type 0} (dom : Operations S) (plan : Plan) where
       rest_names : (new : Store S) → Grows old new → stacked_names new os ≡ stacked_names old os
       rest_names new more = names_stay old new more os within
 
-      module _ (row : Row) (entry : Open) (further : IsFurther dom plan mid row top entry) where
+      module _ (entry : Open) (stays : StaysOpen dom plan mid top entry) where
         pub same_name_mid : name_of mid entry ≡ name_of old top
-        same_name_mid = ap (λ (n : _). name_of mid (record top { name = n })) further.name ∙ name_stays old mid grows.paths top top_open.path
+        same_name_mid = ap (λ (n : _). name_of mid (record top { name = n })) stays.name ∙ name_stays old mid grows.paths top top_open.path
 
         same_top : name_of mid entry ≡ name_of mid top
-        same_top = ap (λ (n : _). name_of mid (record top { name = n })) further.name
+        same_top = ap (λ (n : _). name_of mid (record top { name = n })) stays.name
 
         stacked_entry : AreStacked dom plan mid (place_of ts mid w) (os ++ entry ∷ [])
-        stacked_entry = stacked_again mid (place_of ts mid w) os top entry same_top further.at.entry stacked_mid
+        stacked_entry = stacked_again mid (place_of ts mid w) os top entry same_top stays.entry stacked_mid
 
         -- with it
         pub good_entry : (new : Walk) → new.target ≡ w.target → new.step ≡ w.step → new.path ≡ w.path → new.found.items ≡ w.found.items → new.stack.items ≡ os ++ entry ∷ [] → IsGood dom plan ts mid new
         good_entry new target step path found stack = good_with mid w new target step path found placed_mid (subst (AreStacked dom plan mid (place_of ts mid w)) (sym stack) stacked_entry)
 
-        entry_names : stacked_names mid (os ++ entry ∷ []) ≡ stacked_names old (os ++ top ∷ [])
+        pub entry_names : stacked_names mid (os ++ entry ∷ []) ≡ stacked_names old (os ++ top ∷ [])
         entry_names =
             map-append (name_of mid) os (entry ∷ [])
             ∙ (ap (λ xs. xs ++ name_of mid entry ∷ []) (rest_names mid grows)
@@ -188,7 +192,7 @@ module _ {S : Type 0} (dom : Operations S) (plan : Plan) where
         split = map-append (name_of old) os (top ∷ [])
 
         ready_mid : next_of dom plan mid entry ≡ None → AreKept mid (inputs dom plan (name_of old top))
-        ready_mid none = subst (λ x. AreKept mid (inputs dom plan x)) same_name_mid (open_ready dom plan mid later entry further.at.entry none)
+        ready_mid none = subst (λ x. AreKept mid (inputs dom plan x)) same_name_mid (open_ready dom plan mid later entry stays.entry none)
 
         -- it waits
         pub waits_top : (new : Walk) → next_of dom plan mid entry ≡ None → new.stack.items ≡ os ++ entry ∷ [] → Waits dom plan ts old mid (stacked_names old (os ++ top ∷ [])) new
@@ -209,7 +213,7 @@ module _ {S : Type 0} (dom : Operations S) (plan : Plan) where
             stacked_new = stacked_with_names ts mid new w os puts.grows placed_mid stacked_rest
 
             number : slice_get new.names.names entry.cell ≡ Some (name_of mid entry)
-            number = puts.grows.names entry.cell (name_of mid entry) further.at.entry.number
+            number = puts.grows.names entry.cell (name_of mid entry) stays.entry.number
 
             there : IsSome (get new.graph.cells entry.cell)
             there =
@@ -253,18 +257,18 @@ module _ {S : Type 0} (dom : Operations S) (plan : Plan) where
         pub absent_mid : kept old (name_of old top) ≡ false → kept mid (name_of mid entry) ≡ false
         absent_mid h = ap (kept mid) same_name_mid ∙ (kept_same dom plan old mid right names later.once (name_of old top) ∙ h)
 
-      module _ (row : Row) (entry u : Open) (further : IsFurther dom plan mid row top entry) (next : IsNext dom plan mid entry (Some u)) where
+      module _ (entry u : Open) (stays : StaysOpen dom plan mid top entry) (next : IsNext dom plan mid entry (Some u)) where
         -- its next input is pushed on it
         pub good_pushed : (new : Walk) → new.target ≡ w.target → new.step ≡ w.step → new.path ≡ w.path → new.found.items ≡ w.found.items → new.stack.items ≡ (os ++ entry ∷ []) ++ u ∷ [] → IsGood dom plan ts mid new
         good_pushed new target step path found stack =
             good_with mid w new target step path found placed_mid (
-            subst (AreStacked dom plan mid (place_of ts mid w)) (sym stack) (stacked_push mid (place_of ts mid w) os entry u next.1 next.0 (stacked_entry row entry further))
+            subst (AreStacked dom plan mid (place_of ts mid w)) (sym stack) (stacked_push mid (place_of ts mid w) os entry u next.1 next.0 (stacked_entry entry stays))
             )
 
         pub pushes_top : (new : Walk) → new.stack.items ≡ (os ++ entry ∷ []) ++ u ∷ [] → Pushes old mid (stacked_names old (os ++ top ∷ [])) new
         pushes_top new stack = record {
           top = name_of mid u;
-          names = ap (stacked_names mid) stack ∙ (map-append (name_of mid) (os ++ entry ∷ []) (u ∷ []) ∙ ap (λ xs. xs ++ name_of mid u ∷ []) (entry_names row entry further));
+          names = ap (stacked_names mid) stack ∙ (map-append (name_of mid) (os ++ entry ∷ []) (u ∷ []) ∙ ap (λ xs. xs ++ name_of mid u ∷ []) (entry_names entry stays));
           absent = next.2;
           only = names;
         }

@@ -79,6 +79,12 @@ module _ {S : Type 0} (dom : Operations S) (plan : Plan) where
     pub cell : new.cell ≡ old.cell
     pub name : new.name ≡ old.name
 
+  -- a name that is being filled once more, and maybe more of its inputs found
+  pub record StaysOpen (store : Store S) (old new : Open) : Type 0 where
+    pub entry : IsOpen store new
+    pub cell : new.cell ≡ old.cell
+    pub name : new.name ≡ old.name
+
   -- one cell more
   pub record Puts (old new : Store S) (x : CellName) : Type 0 where
     pub right : IsRight dom plan new

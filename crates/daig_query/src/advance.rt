@@ -4,13 +4,13 @@ ghost use Rattle.cell_rows.specs.Targets.{Target as PlainTarget};
 ghost use Rattle.imp_flow.specs.Reached.{target_of};
 ghost use Rattle.daig_query.specs.Kept.{AddsNoCell, Grows, Names as OnlyNames};
 ghost use Rattle.daig_query.specs.Right.{IsRight};
-ghost use Rattle.daig_query.specs.Looked.{HasFurtherTop, IsTopAt, LooksAtTop};
+ghost use Rattle.daig_query.specs.Looked.{HasFurtherTop, HasOpenTop, IsTopAt, IsTopOpen, LooksAtFirst, LooksAtTop};
 ghost use Rattle.daig_query.specs.Walked.{AreTargets, IsDone, IsGood, IsPlaced};
 ghost use Rattle.daig_query.specs.Filled.{cells_added, missing, Fills};
 ghost use Rattle.daig_query.specs.Turned.{fills_of, stacked_names, HandsDown, IsTopAbsent, Obeys, Turns};
 
 use crate::engine::Engine;
-use crate::opening::{Absent, Open, fill, next_absent, opened, row_of};
+use crate::opening::{Absent, Open, fill, first_absent, next_absent, opened, row_of};
 use crate::store::Store;
 use crate::walk::{Walk, next_demanded};
 use base_values::Memory;
@@ -107,6 +107,30 @@ fn look_at_top<D: Domain>(
     }
 }
 
+/// The first input of the name on top, where none is found yet, it is found without the row, and it has no cell.
+#[inline]
+fn first_of_top<D: Domain>(
+    dom: &D,
+    flow: &Flow<'_>,
+    store: &mut Store<D::State>,
+    stack: &mut Vec<Open>,
+) -> Result<Option<Absent>, Memory>
+    requires some { 0 < vec_len stack.old }
+    requires right { IsRight (D.operations dom.now) flow.now store.old }
+    requires top { IsTopOpen (D.operations dom.now) flow.now store.old stack.old.items }
+    ensures names { OnlyNames store.old store.new }
+    ensures right { IsRight (D.operations dom.now) flow.now store.new }
+    ensures looks { IfOk result (LooksAtFirst (D.operations dom.now) flow.now store.new
+        stack.old.items stack.new.items) }
+    ensures err { OnErr result (HasOpenTop (D.operations dom.now) flow.now store.new
+        stack.old.items stack.new.items) }
+{
+    match stack.last_mut() {
+        Some(top) => first_absent(dom, flow, store, top),
+        None => unreachable!(),
+    }
+}
+
 /// The name on top, which is taken off.
 #[inline]
 fn take_top(stack: &mut Vec<Open>) -> Open
@@ -119,9 +143,10 @@ fn take_top(stack: &mut Vec<Open>) -> Open
     }
 }
 
-/// With a name on top of the stack: its first missing input is pushed on it, or it is filled, taken off and handed down.
+/// With a name on top of the stack, by its row: its first missing input is pushed on it, or it is filled, taken off and
+/// handed down.
 #[inline]
-fn turn_open<D: Domain, L: Ledger>(
+fn turn_by_row<D: Domain, L: Ledger>(
     alloc: Global,
     dom: &D,
     flow: &Flow<'_>,
@@ -165,6 +190,45 @@ fn turn_open<D: Domain, L: Ledger>(
     fill(alloc, dom, flow, store, row, entry, steps)?;
     hand_down(&mut walk.stack, cell);
     Ok(AdvanceResult::Filled)
+}
+
+/// With a name on top of the stack: its first missing input is pushed on it, or it is filled, taken off and handed down. The
+/// row is made only where the first input is not found without it, or has a cell.
+#[inline]
+fn turn_open<D: Domain, L: Ledger>(
+    alloc: Global,
+    dom: &D,
+    flow: &Flow<'_>,
+    store: &mut Store<D::State>,
+    targets: &[Target],
+    walk: &mut Walk,
+    spent: bool,
+    steps: &mut Steps<L>,
+) -> Result<AdvanceResult, Memory>
+    requires right { IsRight (D.operations dom.now) flow.now store.old }
+    requires walk { IsGood (D.operations dom.now) flow.now (map target_of targets.now) store.old
+        walk.old }
+    requires some { 0 < vec_len walk.old.stack }
+    requires absent { IsTopAbsent store.old walk.old.stack.items }
+    ensures right { IsRight (D.operations dom.now) flow.now store.new }
+    ensures grows { Grows store.old store.new }
+    ensures walk { IsGood (D.operations dom.now) flow.now (map target_of targets.now) store.new
+        walk.new }
+    ensures turns { IfOk result (Turns (D.operations dom.now) flow.now
+        (map target_of targets.now) store.old store.new
+        (stacked_names store.old walk.old.stack.items) walk.new) }
+    ensures obeys { IfOk result (Obeys spent) }
+    ensures err { OnErr result (AddsNoCell store.old store.new) }
+    ensures least { steps.old ≤ steps.new }
+    ensures ticked { IfOk result (λ turn. steps.new ≤ steps.old + D.counted dom.now
+        * fills_of turn) }
+    ensures most { steps.new ≤ steps.old + D.counted dom.now }
+{
+    if let Some(absent) = first_of_top(dom, flow, store, &mut walk.stack)? {
+        walk.stack.push(opened(alloc, absent.cell, &absent.name))?;
+        return Ok(AdvanceResult::Pushed);
+    }
+    turn_by_row(alloc, dom, flow, store, targets, walk, spent, steps)
 }
 
 /// A turn of the machine. Where `spent`, nothing is filled.

@@ -1,10 +1,10 @@
 //! Names that are being filled.
-ghost use Rattle.std.specs.Prelude.{◌≡◌, ◌+◌, ◌≤◌, ◌<◌, [], false, length, option_map, is_some, IfOk, OnOk, OnErr};
+ghost use Rattle.std.specs.Prelude.{◌≡◌, ◌+◌, ◌≤◌, ◌<◌, [], false, Some, length, option_map, is_some, IfOk, IfSome, OnOk, OnErr};
 ghost use Rattle.std.specs.FinMap as map;
 ghost use Rattle.cell_names.specs.Paths.{path_at, name_in};
 ghost use Rattle.imp_flow_rows.specs.Near.{row_in};
 ghost use Rattle.daig_query.specs.Kept.{kept, Names as OnlyNames};
-ghost use Rattle.daig_query.specs.Opened.{name_of, row_at, unfound, IsAt, IsFurther, IsNext, IsReady, Puts, Computes};
+ghost use Rattle.daig_query.specs.Opened.{name_of, next_of, row_at, unfound, IsAt, IsFurther, IsNext, IsOpen, IsReady, Puts, Computes, StaysOpen};
 ghost use Rattle.daig_query.specs.Made.{IsFixed};
 ghost use Rattle.daig_query.specs.Recalled.{IsRecalled};
 ghost use Rattle.daig_query.specs.Overs.{HasOver};
@@ -81,6 +81,63 @@ pub(crate) fn row_of<'a>(flow: &'a Flow<'_>, names: &Names, name: &Name) -> Opti
         None => None,
     };
     flow.row(frame, name.point)
+}
+
+/// The first input of a name none of whose inputs is found yet, where it has the same path and its point tells it.
+#[inline]
+fn first_input<D: Domain>(
+    dom: &D,
+    flow: &Flow<'_>,
+    store: &Store<D::State>,
+    entry: &Open,
+) -> Option<Name>
+    requires right { IsRight (D.operations dom.now) flow.now store.now }
+    requires entry { IsOpen (D.operations dom.now) flow.now store.now entry.now }
+    ensures path { IfSome result (λ x. x.path ≡ entry.now.name.path) }
+    ensures next { IfSome result (λ x. next_of (D.operations dom.now) flow.now store.now entry.now ≡
+        Some (name_in store.now.names.paths x)) }
+{
+    if entry.inputs.len() > 0 {
+        return None;
+    }
+    match flow.point_before(entry.name.point) {
+        None => None,
+        Some(point) => Some(Name {
+            path: entry.name.path,
+            point,
+        }),
+    }
+}
+
+/// The first input of a name none of whose inputs is found yet, where it is found without the row and has no cell. Where it
+/// has a cell, the name gets that.
+#[inline]
+pub(crate) fn first_absent<D: Domain>(
+    dom: &D,
+    flow: &Flow<'_>,
+    store: &mut Store<D::State>,
+    entry: &mut Open,
+) -> Result<Option<Absent>, Memory>
+    requires right { IsRight (D.operations dom.now) flow.now store.old }
+    requires entry { IsOpen (D.operations dom.now) flow.now store.old entry.old }
+    ensures names { OnlyNames store.old store.new }
+    ensures right { IsRight (D.operations dom.now) flow.now store.new }
+    ensures stays { StaysOpen (D.operations dom.now) flow.now store.new entry.old entry.new }
+    ensures next { IfOk result (λ found. IfSome found (λ a. IsNext (D.operations dom.now) flow.now
+        store.new entry.new (Some (unfound a)))) }
+{
+    match first_input(dom, flow, store, entry) {
+        None => Ok(None),
+        Some(name) => {
+            let cell = store.names.add_input(name, entry.cell, 0)?;
+            let there = has_cell(&store.graph, cell);
+            if !there {
+                return Ok(Some(without_cell(cell, &name)));
+            }
+            entry.inputs.push(cell)?;
+            Ok(None)
+        }
+    }
 }
 
 /// Finds the inputs of a name from left to right, up to the first that has no cell, which is given.
