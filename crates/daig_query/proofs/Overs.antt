@@ -1,6 +1,6 @@
 -- What a name stores one of whose inputs is an Over.
 use Rattle.std.proofs.Common.{◌≡◌, ◌≢◌, ℕ, zero, suc, ◌<◌, ◌≤◌, List, [], ◌∷◌, map, length, Option, Some, None, true, option_map, slice_get, refl, sym, ap, ap₂, subst, ◌∙◌, arith}
-use Rattle.std.specs.Prelude.{◌↔◌, reverse}
+use Rattle.std.specs.Prelude.{◌↔◌, reverse, Result, Ok, Err, IfOk}
 use Rattle.std.specs.Option.{option_and_then}
 use Rattle.std.proofs.lemmas.Option.{slice_get_within, slice_get-map, same_Some}
 use Rattle.domain_laws.specs.Operations.{Operations}
@@ -27,7 +27,7 @@ use Rattle.daig_query.specs.declared.held.Held.{Held}
 use Rattle.daig_query.specs.declared.opening.Open.{Open}
 use Rattle.daig_query.specs.declared.store.Store.{Store}
 use Rattle.daig_query.specs.Kept.{Cells, IsValue}
-use Rattle.daig_query.specs.Overs.{IsFirstOver}
+use Rattle.daig_query.specs.Overs.{HasNoOver, HasNoOverAt, IsFirstOver, IsOverAt}
 use Rattle.cell_graph.specs.Asked.{inputs}
 use Rattle.daig_query.specs.Right.{found}
 use Rattle.daig_query.specs.Opened.{IsReady}
@@ -155,5 +155,40 @@ module _ {S : Type 0} (dom : Operations S) (plan : Plan) (store : Store S) (row 
 pub first_along : {cells : Cells} {xs ys : List ℕ} {n : ℕ} {chain : List ℕ} → xs ≡ ys → IsFirstOver cells xs n chain → IsFirstOver cells ys n chain
 first_along {cells} {xs} {ys} {n} {chain} e h = subst (λ zs. IsFirstOver cells zs n chain) e h
 
-pub over_copied : {S : Type 0} {v : batch.Value S} {n : ℕ} {chain copy : List ℕ} → copy ≡ chain → v ≡ batch.Over n (reverse chain) → v ≡ batch.Over n (reverse copy)
-over_copied {S} {v} {n} {chain} {copy} e h = h ∙ ap (λ z. batch.Over n (reverse z)) (sym e)
+pub over_passed : {S E : Type 0} (states : List S) (r : Result (Value Held) E) (n : ℕ) (chain : List ℕ) (c : Cell S) → IfOk r (λ v. v ≡ Over n chain) → c.value ≡ batch.Over n (reverse chain) → IfOk r (λ v. IsValue states v c)
+over_passed states (Ok v) n chain c e h = subst (λ u. IsValue states u c) (sym e) h
+over_passed states (Err x) n chain c e h = tt
+
+-- Of two values read from left to right.
+pub none_of_two : (cells : Cells) (numbers : List ℕ) → HasNoOverAt cells numbers 0 → HasNoOverAt cells numbers 1 → HasNoOver cells numbers 2
+none_of_two cells numbers left right zero n chain h = left n chain
+none_of_two cells numbers left right (suc zero) n chain h = right n chain
+none_of_two cells numbers left right (suc (suc i)) n chain h = absurd (omega arith)
+
+pub first_left : (cells : Cells) (numbers : List ℕ) (n : ℕ) (chain : List ℕ) → IsOverAt cells numbers 0 n chain → IsFirstOver cells numbers n chain
+first_left cells numbers n chain h = record { place = 0; here = h; before = λ i m z l e. absurd (omega arith) }
+
+pub first_right : (cells : Cells) (numbers : List ℕ) (n : ℕ) (chain : List ℕ) → HasNoOverAt cells numbers 0 → IsOverAt cells numbers 1 n chain → IsFirstOver cells numbers n chain
+first_right cells numbers n chain left h = record { place = 1; here = h; before = before }
+  where
+    before : HasNoOver cells numbers 1
+    before zero m z l = left m z
+    before (suc i) m z l = absurd (omega arith)
+
+-- A row that is no fixed point has at most two inputs.
+pub two_inputs : {S : Type 0} (dom : Operations S) (plan : Plan) (store : Store S) (row : Row) (o : Open) (ready : IsReady dom plan store row o) → ((m : ℕ) (p : Point) → row ≢ Fixed m p) → length o.inputs ≤ 2
+two_inputs dom plan store row o ready plain =
+    let few = most_inputs dom plan store row o ready.at in
+    let same = all_found dom plan store row o ready in
+    let two = at_most (X dom plan store row o ready.at).path row plain in
+    omega arith
+  where
+    at_most : (w : List NameFrame) (q : Row) → ((m : ℕ) (p : Point) → q ≢ Fixed m p) → most_row dom plan.engine (row_in w q) ≤ 2
+    at_most w (Init layout) f = omega arith
+    at_most w (One op a) f = omega arith
+    at_most w (Two op a b) f = omega arith
+    at_most w (Fixed m p) f = absurd (f m p refl)
+    at_most w (Joins s l m p) f = omega arith
+
+pub none_of_all : {S : Type 0} (dom : Operations S) (plan : Plan) (store : Store S) (row : Row) (o : Open) → IsReady dom plan store row o → ((m : ℕ) (p : Point) → row ≢ Fixed m p) → HasNoOver store.graph.cells o.inputs 2 → HasNoOver store.graph.cells o.inputs (length o.inputs)
+none_of_all dom plan store row o ready plain none i n chain h = let few = two_inputs dom plan store row o ready plain in none i n chain (omega arith)

@@ -9,6 +9,10 @@ module _ (cells : Cells) (numbers : List ℕ) where
   abbrev pub IsOverAt : ℕ → ℕ → List ℕ → Type 0
   IsOverAt i n chain = iterate_of cells numbers i ≡ Some (Over n chain)
 
+  -- it holds none
+  abbrev pub HasNoOverAt : ℕ → Type 0
+  HasNoOverAt i = (n : ℕ) (chain : List ℕ) → ¬ (IsOverAt i n chain)
+
   -- none of the first so many does hold one
   abbrev pub HasNoOver : ℕ → Type 0
   HasNoOver count = (i n : ℕ) (chain : List ℕ) → i < count → ¬ (IsOverAt i n chain)

@@ -1,5 +1,5 @@
 //! The value of a name, from those of its inputs.
-ghost use Rattle.std.specs.Prelude.{◌≡◌, ◌≢◌, ◌+◌, ◌-◌, ◌<◌, ◌≤◌, ◌^◌, ℕ, IfOk, IfSome, IsSome, MatchOption, Some, None, length, reverse, slice_get, option_map, option_copied};
+ghost use Rattle.std.specs.Prelude.{◌≡◌, ◌≢◌, ◌+◌, ◌-◌, ◌<◌, ◌≤◌, ◌^◌, ℕ, IfErr, IfOk, IfSome, IsSome, MatchOption, Some, None, length, reverse, slice_get, option_map, option_copied};
 ghost use Rattle.cell_names.specs.Known.{IsOnce};
 ghost use Rattle.cell_names.specs.Paths.{path_at, sites_of};
 ghost use Rattle.state_table.specs.Numbers.{KeepsNumbers};
@@ -9,7 +9,8 @@ ghost use Rattle.daig_query.specs.Right.{found, IsRight};
 ghost use Rattle.daig_query.specs.Made.{IsFixed, alone_in, index_in, number, row_result, state_at};
 ghost use Rattle.daig_query.specs.Recalled.{IsRemembered, IsRecalled};
 ghost use Rattle.daig_query.specs.Opened.{name_of, IsReady, Computes};
-ghost use Rattle.daig_query.specs.Overs.{HasNoOver, HasOver, IsFirstOver};
+ghost use Rattle.daig_query.specs.Overs.{HasNoOver, HasNoOverAt, HasOver, IsFirstOver, IsOverAt};
+ghost use Rattle.daig_graph.specs.declared.value.Value.TheVariants.{Over};
 ghost use Rattle.imp_flow_rows.specs.declared.row.Row.TheVariants.{Fixed};
 
 use crate::held::Held;
@@ -52,6 +53,55 @@ fn held_at(graph: &Graph<Held>, cells: &[usize], place: usize) -> Option<Held>
     match graph.value(*cells.get(place)?) {
         Some(Value::State(held)) => Some(*held),
         _ => None,
+    }
+}
+
+/// What the cell at a place among these holds, where that is a state; where there is none, nothing.
+///
+/// # Errors
+///
+/// The Over that it holds: its loop and its chain.
+#[inline]
+fn held_or_over<'a>(
+    graph: &'a Graph<Held>,
+    cells: &[usize],
+    place: usize,
+) -> Result<Option<Held>, (StmtId, &'a SharedChain)>
+    ensures state { IfOk result (λ h. h ≡ state_in (iterate_of graph.now.cells cells.now place)) }
+    ensures none { IfOk result (λ h. HasNoOverAt graph.now.cells cells.now place) }
+    ensures err { IfErr result (λ r. IsOverAt graph.now.cells cells.now place r.0 r.1.now) }
+{
+    match cells.get(place) {
+        None => Ok(None),
+        Some(cell) => match graph.value(*cell) {
+            None => Ok(None),
+            Some(Value::State(held)) => Ok(Some(*held)),
+            Some(Value::Over { head, chain }) => Err((*head, chain)),
+        },
+    }
+}
+
+/// What the first two of these cells hold, where no Over is among that.
+///
+/// # Errors
+///
+/// The first Over that they hold: its loop and its chain.
+#[inline]
+fn operands<'a>(
+    graph: &'a Graph<Held>,
+    cells: &[usize],
+) -> Result<(Option<Held>, Option<Held>), (StmtId, &'a SharedChain)>
+    ensures left { IfOk result (λ r. r.0 ≡ state_in (iterate_of graph.now.cells cells.now 0)) }
+    ensures right { IfOk result (λ r. r.1 ≡ state_in (iterate_of graph.now.cells cells.now 1)) }
+    ensures none { IfOk result (λ r. HasNoOver graph.now.cells cells.now 2) }
+    ensures err { IfErr result (λ r. IsFirstOver graph.now.cells cells.now r.0 r.1.now) }
+{
+    match held_or_over(graph, cells, 0) {
+        Err(over) => Err(over),
+        Ok(left) => match held_or_over(graph, cells, 1) {
+            Err(over) => Err(over),
+            Ok(right) => Ok((left, right)),
+        },
     }
 }
 
@@ -238,7 +288,16 @@ fn result_of<D: Domain, L: Ledger>(
     Ok(number)
 }
 
-/// What a row that is no fixed point makes of inputs that all are states.
+/// The Over of an input, passed on.
+#[inline]
+fn passed_on(head: StmtId, chain: &SharedChain) -> Result<Value<Held>, Memory>
+    ensures is { IfOk result (λ v. v ≡ Over head chain.now) }
+{
+    let chain = chain.clone()?;
+    Ok(Value::Over { head, chain })
+}
+
+/// What a row that is no fixed point makes of inputs that all are states: these two, at most.
 #[inline]
 fn applied<D: Domain, L: Ledger>(
     alloc: Global,
@@ -248,10 +307,14 @@ fn applied<D: Domain, L: Ledger>(
     row: &Row<'_>,
     entry: &Open,
     owner: u32,
+    left: Option<Held>,
+    right: Option<Held>,
     steps: &mut Steps<L>,
 ) -> Result<Value<Held>, Memory>
     requires ready { IsReady (D.operations dom.now) flow.now store.old row.now entry.now }
     requires states { HasNoOver store.old.graph.cells entry.now.inputs (length entry.now.inputs) }
+    requires left { left ≡ state_in (iterate_of store.old.graph.cells entry.now.inputs 0) }
+    requires right { right ≡ state_in (iterate_of store.old.graph.cells entry.now.inputs 1) }
     requires plain { (n : ℕ) (p : _) → row.now ≢ Fixed n p }
     ensures value { IfOk result (λ v. IsValue store.new.states v
         (found (D.operations dom.now) flow.now (name_of store.old entry.now))) }
@@ -260,9 +323,6 @@ fn applied<D: Domain, L: Ledger>(
     ensures most { steps.new ≤ steps.old + D.counted dom.now }
     ensures recalled { IsRecalled store.old row.now entry.now → steps.new ≡ steps.old }
 {
-    let cells = entry.inputs.as_slice();
-    let left = held_at(&store.graph, cells, 0);
-    let right = held_at(&store.graph, cells, 1);
     let index = index_of(row, left);
     if let Some(held) = alone(row, left, right) {
         let state = held.state;
@@ -306,15 +366,18 @@ pub(crate) fn compute<D: Domain, L: Ledger>(
     ensures recalled { IsRecalled store.old row.now entry.now → steps.new ≡ steps.old }
     ensures over { HasOver store.old.graph.cells entry.now.inputs → steps.new ≡ steps.old }
 {
-    if let Some(over) = first_over(&store.graph, entry.inputs.as_slice()) {
-        let chain = over.1.clone()?;
-        return Ok(Value::Over {
-            head: over.0,
-            chain,
-        });
-    }
     match row {
-        Row::Fixed(head, _) => fixed(alloc, dom, flow, store, row, *head, entry),
-        _ => applied(alloc, dom, flow, store, row, entry, owner, steps),
+        Row::Fixed(head, _) => {
+            if let Some(over) = first_over(&store.graph, entry.inputs.as_slice()) {
+                return passed_on(over.0, over.1);
+            }
+            fixed(alloc, dom, flow, store, row, *head, entry)
+        }
+        _ => match operands(&store.graph, entry.inputs.as_slice()) {
+            Err(over) => passed_on(over.0, over.1),
+            Ok((left, right)) => applied(
+                alloc, dom, flow, store, row, entry, owner, left, right, steps,
+            ),
+        },
     }
 }
