@@ -19,8 +19,8 @@ module _ (new_of : List ℕ) {V : Type 0} where
     pub there : (n : ℕ) (f : Filled V) → get old n ≡ Some f → get new (renumbered new_of n) ≡ Some (renumbered_cell f)
     pub back : (q : ℕ) (g : Filled V) → get new q ≡ Some g → (n : ℕ) × (f : Filled V) × (get old n ≡ Some f) × (renumbered new_of n ≡ q)
 
-  -- The cells below a number stand at their new numbers, below the room. The parts have as many places as before, and agree
-  -- but for inputs, which may be cells that are still to move.
+  -- The cells below a number stand at their new numbers, below the room. The parts have as many places as before, and agree,
+  -- except that inputs may be cells that are still to move.
   pub record AreMoving (values mid_values : List (Option (Value V))) (owners mid_owners : List (Option ℕ)) (inputs mid_inputs : List (List ℕ)) (number room : ℕ) : Type 0 where
     pub value_places : length mid_values ≡ length values
     pub owner_places : length mid_owners ≡ length owners
