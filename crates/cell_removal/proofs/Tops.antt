@@ -1,5 +1,5 @@
 -- The top of a stack, which is the last of its items.
-use Rattle.std.proofs.Common.{◌≡◌, ℕ, suc, ◌<◌, List, [], ◌∷◌, ◌++◌, length, get_or, set, take, refl, ap, arith, length-append}
+use Rattle.std.proofs.Common.{◌≡◌, suc, ◌<◌, List, [], ◌∷◌, ◌++◌, length, get_or, set, take, refl, ap, arith, length-append}
 
 module _ {A : Type 0} (o : A) where
   pub top-get : (below : List A) (d : A) → get_or (below ++ o ∷ []) (length below) d ≡ o

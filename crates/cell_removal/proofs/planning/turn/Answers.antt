@@ -1,4 +1,4 @@
-use Rattle.std.proofs.Common.{◌≡◌, ℕ, ◌-◌, ◌<◌, List, [], ◌∷◌, ◌++◌, length, vec_len, get_or, set, take, refl, sym, ap, subst, ◌∙◌, arith}
+use Rattle.std.proofs.Common.{◌≡◌, ℕ, ◌-◌, List, [], ◌∷◌, ◌++◌, length, get_or, set, take, sym, ap, subst, ◌∙◌, arith}
 use Rattle.daig_graph.specs.Held.{IsIn}
 use Rattle.daig_graph.specs.declared.graph.Use.{Use}
 use Rattle.cell_removal.specs.declared.planning.Open.{Open}
