@@ -4,10 +4,10 @@ ghost use Rattle.std.specs.Borrow.{sem, RestsIfErr};
 ghost use Rattle.imp_syntax.specs.declared.edit.Edit.{Edit as AnyEdit};
 ghost use Rattle.imp_edit.specs.Edited.{next_after, Continues};
 ghost use Rattle.daig_query.specs.Swept.{IsBounded};
-ghost use Rattle.daig_machine.specs.Machine.{Machine};
 ghost use Rattle.daig_session.specs.contracts.session.Session.{the_row};
 ghost use Rattle.daig_session.specs.Books.{IsSame};
-ghost use Rattle.daig_session.specs.Sessions.{IsReadyBy, StandsFor};
+ghost use Rattle.daig_session.specs.Sessions.{IsReadyBy, StandsFor, OfEachMachine, KeepsNextTicket};
+ghost use Rattle.daig_session.specs.Sessions.{IsWithinBound};
 ghost use Rattle.daig_session.specs.Moves.{IsPlannedFor, IsAccepted, IsRefusedFor, Commits};
 
 use crate::moving::{Moving, leave, planned_move};
@@ -90,20 +90,18 @@ impl<D: Domain> Session<D> {
     /// program; or [`EditError::Memory`] when memory runs out. The session is then as it was.
     pub fn prepare(&mut self, alloc: Global, edit: &Edit) -> Result<Prepared<'_, D>, EditError>
         requires continues { Continues edit.now self.old.book.next }
-        ensures* rests { sem 𝓛 (RestsIfErr
-            (the_row D.row D.State.row D.Domain D.State.PartialEq
-            (record { hash_input = D.State.Hash.hash_input })) self.entry
-            (λ p. p.session.ghost_name) result
-            (λ s. (s.engine ≡ self.old.engine) × IsSame self.old.book s.book)) }
+        ensures* rests { sem 𝓛 (RestsIfErr (the_row D.row D.State.row D.Domain D.State.PartialEq
+            (record { hash_input = D.State.Hash.hash_input })) self.entry (λ p.
+            p.session.ghost_name) result (λ s. (s.engine ≡ self.old.engine) × IsSame self.old.book
+            s.book)) }
         ensures same_reference { IfOk result (λ p. p.session.ghost_name ≡ self.entry.ghost_name) }
         ensures planned { IfOk result (λ p. IsPlannedFor p.session.now edit.now p.planned) }
-        ensures holds { (m : Machine) → StandsFor D.operations self.old m →
-            IfOk result (λ p. StandsFor D.operations p.session.now m) }
+        ensures holds { OfEachMachine D.operations self.old (λ m. IfOk result (λ p. StandsFor
+            D.operations p.session.now m)) }
         ensures domain { IfOk result (λ p. p.session.now.engine.domain ≡ self.old.engine.domain) }
         ensures spare { IfOk result (λ p. p.session.now.engine.spare ≡ self.old.engine.spare) }
         ensures unmoved { IfOk result (λ p. p.session.now.engine.store ≡ self.old.engine.store) }
-        ensures next_ticket { IfOk result
-            (λ p. p.session.now.book.tickets.next ≡ self.old.book.tickets.next) }
+        ensures next_ticket { IfOk result (λ p. KeepsNextTicket self.old p.session.now) }
         ensures accepted { IfOk result (λ _. IsAccepted self.old.book edit.now) }
         ensures refused { IfErr result (IsRefusedFor self.old.book edit.now) }
     {
@@ -130,9 +128,8 @@ impl<D: Domain> Prepared<'_, D, Planned> {
         requires planned { (e : AnyEdit) × IsPlannedFor self.session.now e self.planned }
         ensures domain { self.exit.0.now.engine.domain ≡ self.entry.session.now.engine.domain }
         ensures spare { self.exit.0.now.engine.spare ≡ self.entry.session.now.engine.spare }
-        ensures bounded { IsBounded self.exit.0.now.engine.spare self.exit.0.now.engine.store }
-        ensures next_ticket { self.exit.0.now.book.tickets.next ≡
-            self.entry.session.now.book.tickets.next }
+        ensures bounded { IsWithinBound self.exit.0.now }
+        ensures next_ticket { KeepsNextTicket self.entry.session.now self.exit.0.now }
         ensures committed { Commits D.operations self.entry.session.now self.exit.0.now
             self.entry.planned }
     {

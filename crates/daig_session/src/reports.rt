@@ -1,18 +1,15 @@
 //! Reports out of the cells, for `reports` and `sound` of `report`.
-ghost use Rattle.std.specs.Prelude.{◌≡◌, ◌≤◌, [], IfOk, IsFalse, IsSome, IsTrue, OnOk, Some};
-ghost use Rattle.imp_syntax.specs.declared.edit.Location.TheVariants.{Before};
+ghost use Rattle.std.specs.Prelude.{◌≡◌, ◌≤◌, [], IfOk, IsFalse, IsTrue, OnOk, Some};
 ghost use Rattle.imp_slots.specs.ActionViews.{act_of};
-ghost use Rattle.domain_laws.specs.Checks.{kind_in};
 ghost use Rattle.daig_query.specs.Answered.{Says};
-ghost use Rattle.daig_query.specs.Swept.{IsBounded};
-ghost use Rattle.daig_machine.specs.Turns.{answer_at};
-ghost use Rattle.daig_session.specs.Sessions.{FromEach, StaysBounded};
+ghost use Rattle.daig_session.specs.Sessions.{StaysBounded, KeepsNextTicket, IsWithinBound};
 ghost use Rattle.daig_session.specs.Reports.{checked_act, checked_at, GivesVerdict, GivesFinding};
 ghost use Rattle.daig_session.specs.Reports.{checked_here, checked_in, all_checked, KeepsAll};
 ghost use Rattle.daig_session.specs.Reports.{KeepsPart, Finds, TicksForAll, TicksForPart};
 ghost use Rattle.daig_session.specs.Reports.{KeepsAllOfOne, KeepsPartOfOne, TicksForOne};
 ghost use Rattle.daig_session.specs.Reports.{TicksForPartOfOne, ReportsFrom, TicksForReport};
-ghost use Rattle.daig_session.specs.Reports.{AreFindingsSound, findings, HasCheck, Tells};
+ghost use Rattle.daig_session.specs.Reports.{AreFindingsSound, HasCheck, Tells, IsChecked};
+ghost use Rattle.daig_session.specs.Reports.{FindsAll, TellsBefore};
 
 use crate::checks::{all_statements, checked_stmt};
 use crate::error::QueryError;
@@ -61,7 +58,7 @@ fn finding<D: Domain>(
     stmt: &SlotStmt,
     known: &Result<Value<D::State>, QueryRefusal>,
 ) -> Result<Finding, Memory>
-    requires asks { IsSome (kind_in (act_of stmt.now)) }
+    requires asks { IsChecked stmt.now }
     ensures is { GivesFinding (D.operations dom.now) id known.now
         (checked_act id (act_of stmt.now)) result }
 {
@@ -103,14 +100,13 @@ impl<D: Domain> Session<D> {
         id: StmtId,
         steps: &mut Steps<L>,
     ) -> Result<Result<Value<D::State>, QueryRefusal>, Memory>
-        ensures bounded { IsBounded self.new.engine.spare self.new.engine.store }
+        ensures bounded { IsWithinBound self.new }
         ensures domain { self.new.engine.domain ≡ self.old.engine.domain }
         ensures spare { self.new.engine.spare ≡ self.old.engine.spare }
         ensures program { self.new.book.history.now ≡ self.old.book.history.now }
         ensures part { KeepsPartOfOne D.operations self.old self.new id }
         ensures all { OnOk result (KeepsAllOfOne D.operations self.old self.new id) }
-        ensures tells { IfOk result (λ known. FromEach D.operations self.old self.new
-            (λ dom m _. Tells (answer_at dom (Before id) [] m) known)) }
+        ensures tells { IfOk result (TellsBefore D.operations self.old self.new id) }
         ensures least { steps.old ≤ steps.new }
         ensures ticked { OnOk result (TicksForOne D.operations self.old self.new D.counted id
             steps.old steps.new) }
@@ -195,8 +191,7 @@ impl<D: Domain> Session<D> {
         ensures spare { self.new.engine.spare ≡ self.old.engine.spare }
         ensures part { KeepsPart D.operations self.old self.new all_checked }
         ensures all { OnOk result (KeepsAll D.operations self.old self.new all_checked) }
-        ensures found { IfOk result (λ found. FromEach D.operations self.old self.new
-            (λ dom m _. found ≡ findings dom m (all_checked m))) }
+        ensures found { IfOk result (FindsAll D.operations self.old self.new) }
         ensures least { steps.old ≤ steps.new }
         ensures ticked { OnOk result (TicksForAll D.operations self.old self.new D.counted
             all_checked steps.old steps.new) }
@@ -219,7 +214,7 @@ impl<D: Domain> Session<D> {
         ensures domain { self.new.engine.domain ≡ self.old.engine.domain }
         ensures spare { self.new.engine.spare ≡ self.old.engine.spare }
         ensures stays_bounded { StaysBounded self.old self.new }
-        ensures next_ticket { self.new.book.tickets.next ≡ self.old.book.tickets.next }
+        ensures next_ticket { KeepsNextTicket self.old self.new }
         ensures reports { ReportsFrom D.operations self.old self.new result }
         ensures sound { IfOk result (AreFindingsSound self.old) }
         ensures least { steps.old ≤ steps.new }
@@ -262,8 +257,8 @@ impl<D: Domain> Session<D> {
     ) -> Result<Findings, Memory>
         ensures domain { self.new.engine.domain ≡ self.old.engine.domain }
         ensures spare { self.new.engine.spare ≡ self.old.engine.spare }
-        ensures bounded { IsBounded self.new.engine.spare self.new.engine.store }
-        ensures next_ticket { self.new.book.tickets.next ≡ self.old.book.tickets.next }
+        ensures bounded { IsWithinBound self.new }
+        ensures next_ticket { KeepsNextTicket self.old self.new }
         ensures reports { ReportsFrom D.operations self.old self.new result }
         ensures sound { IfOk result (AreFindingsSound self.old) }
         ensures least { steps.old ≤ steps.new }
