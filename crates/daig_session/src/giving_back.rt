@@ -23,8 +23,9 @@ impl<D: Domain> Session<D> {
         ensures domain { self.new.engine.domain ≡ self.old.engine.domain }
         ensures spare { self.new.engine.spare ≡ self.old.engine.spare }
         ensures within { IsWithin (len self.new.engine.store.graph.cells) self.new.engine.store }
-        ensures few { OnOk result (HasNamesOfCells self.new) }
-        ensures err { OnErr result (self.new.engine.store.names ≡ self.old.engine.store.names) }
+        ensures names_fit { OnOk result (HasNamesOfCells self.new) }
+        ensures names_stay { OnErr result (self.new.engine.store.names ≡
+            self.old.engine.store.names) }
         ensures next_ticket { KeepsNextTicket self.old self.new }
         ensures stays { FromEach D.operations self.old self.new (λ _ m stands. stands m) }
     {

@@ -41,14 +41,15 @@ fn fill_all<D: Domain, L: Ledger>(
     ensures spare { engine.new.spare ≡ engine.old.spare }
     ensures targets { going.new.targets ≡ going.old.targets }
     ensures fills { FillsFirst D.operations engine.old engine.new book.now going.old }
-    ensures few { FillsFew engine.old.store engine.new.store }
+    ensures adds_few { FillsFew engine.old.store engine.new.store }
     ensures counted { IfOk result (IsAdded engine.old engine.new) }
-    ensures all { IfOk result (λ n. n ≡ missing_for D.operations engine.old book.now going.old) }
+    ensures missing { IfOk result (λ n. n ≡ missing_for D.operations engine.old book.now going.old)
+        }
     ensures filled { OnOk result (HasAll D.operations engine.old engine.new book.now going.old
         going.new) }
     ensures least { steps.old ≤ steps.new }
     ensures ticked { IfOk result (WorksAtMost D.counted engine.old steps.old steps.new) }
-    ensures most { TicksForAdded engine.old engine.new D.counted steps.old steps.new }
+    ensures ticked_filled { TicksForAdded engine.old engine.new D.counted steps.old steps.new }
 {
     let flow = book.flow();
     let Going { targets, walk } = going;
@@ -76,19 +77,19 @@ impl<D: Domain> Parts<D> {
         ensures domain { self.new.engine.domain ≡ self.old.engine.domain }
         ensures spare { self.new.engine.spare ≡ self.old.engine.spare }
         ensures book { self.new.book ≡ self.old.book }
-        ensures few { FillsFew self.old.engine.store self.new.engine.store }
+        ensures adds_few { FillsFew self.old.engine.store self.new.engine.store }
         ensures targets { IfOk result (λ f. Asks self.old at.now string.now f.going) }
         ensures filled { IfOk result (λ f. HasFilled D.operations self.old self.new f.going) }
         ensures counted { IfOk result (λ f. f.count ≡ cells_filled self.old self.new) }
-        ensures all { FillsMissing D.operations self.old self.new at.now string.now result }
+        ensures missing { FillsMissing D.operations self.old self.new at.now string.now result }
         ensures answered { StandsAnswered D.operations self.old self.new at.now string.now result }
         ensures unanswered { StandsBetween D.operations self.old self.new at.now string.now result }
         ensures fails { FailsFrom D.operations self.old self.new at.now string.now result }
         ensures least { steps.old ≤ steps.new }
-        ensures unticked { IfErr result (IsUnticked steps.old steps.new) }
+        ensures unticked_refusal { IfErr result (IsUnticked steps.old steps.new) }
         ensures ticked { IfOk result (λ f. TicksAtMost D.counted self.old steps.old
             steps.new f.count) }
-        ensures most { TicksForFilled D.counted self.old self.new steps.old steps.new }
+        ensures ticked_filled { TicksForFilled D.counted self.old self.new steps.old steps.new }
     {
         questions_keep_cells::<D>();
         let flow = self.book.flow();
@@ -114,15 +115,15 @@ impl<D: Domain> Parts<D> {
         ensures targets { IfOk result (λ f. Asks self.old at.now string.now f.going) }
         ensures filled { IfOk result (λ f. HasFilled D.operations self.old self.new f.going) }
         ensures counted { IfOk result (λ f. f.count ≡ cells_filled self.old self.new) }
-        ensures all { FillsMissing D.operations self.old self.new at.now string.now result }
+        ensures missing { FillsMissing D.operations self.old self.new at.now string.now result }
         ensures answered { StandsAnswered D.operations self.old self.new at.now string.now result }
         ensures unanswered { StandsBetween D.operations self.old self.new at.now string.now result }
         ensures fails { FailsFrom D.operations self.old self.new at.now string.now result }
         ensures least { steps.old ≤ steps.new }
-        ensures unticked { IfErr result (IsUnticked steps.old steps.new) }
+        ensures unticked_refusal { IfErr result (IsUnticked steps.old steps.new) }
         ensures ticked { IfOk result (λ f. TicksAtMost D.counted self.old steps.old
             steps.new f.count) }
-        ensures most { TicksForFilled D.counted self.old self.new steps.old steps.new }
+        ensures ticked_filled { TicksForFilled D.counted self.old self.new steps.old steps.new }
     {
         self.engine.sweep();
         self.fill_now(alloc, at, string, steps)
@@ -157,11 +158,11 @@ impl<D: Domain> Session<D> {
         ensures answers { QuestionsFrom D.operations self.old self.new at.now string.now result }
         ensures sound { IfOk result (CoversIn D.covers self.old at.now string.now) }
         ensures least { steps.old ≤ steps.new }
-        ensures unticked { IfErr result (IsUnticked steps.old steps.new) }
+        ensures unticked_refusal { IfErr result (IsUnticked steps.old steps.new) }
         ensures ticked { TicksForAnswer D.operations self.old self.new at.now string.now D.counted
             steps.old steps.new result }
-        ensures most { TicksForSome D.operations self.old self.new at.now string.now D.counted
-            steps.old steps.new }
+        ensures ticked_filled { TicksForSome D.operations self.old self.new at.now string.now
+            D.counted steps.old steps.new }
     {
         let filled = self.parts.fill_for(alloc, at, string, steps)?;
         let value = read_answer(alloc, &self.parts.engine, &filled.going.walk, steps)?;
@@ -196,10 +197,10 @@ impl<D: Domain> Session<D> {
         ensures explains { ExplainsFrom D.operations self.old self.new at.now string.now result }
         ensures stays { IfOk result (SufficesIn D.operations self.old at.now string.now) }
         ensures least { steps.old ≤ steps.new }
-        ensures unticked { IfErr result (IsUnticked steps.old steps.new) }
+        ensures unticked_refusal { IfErr result (IsUnticked steps.old steps.new) }
         ensures ticked { TicksForMissing D.operations self.old self.new at.now string.now D.counted
             steps.old steps.new result }
-        ensures most { TicksForFilled D.counted self.old self.new steps.old steps.new }
+        ensures ticked_filled { TicksForFilled D.counted self.old self.new steps.old steps.new }
     {
         answers_stay::<D>();
         let filled = self.parts.fill_for(alloc, at, string, steps)?;

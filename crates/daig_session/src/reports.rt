@@ -104,13 +104,13 @@ impl<D: Domain> Session<D> {
         ensures domain { self.new.engine.domain ≡ self.old.engine.domain }
         ensures spare { self.new.engine.spare ≡ self.old.engine.spare }
         ensures program { self.new.book.history.now ≡ self.old.book.history.now }
-        ensures part { KeepsPartOfOne D.operations self.old self.new id }
-        ensures all { OnOk result (KeepsAllOfOne D.operations self.old self.new id) }
+        ensures keeps_part { KeepsPartOfOne D.operations self.old self.new id }
+        ensures keeps_all { OnOk result (KeepsAllOfOne D.operations self.old self.new id) }
         ensures tells { IfOk result (TellsBefore D.operations self.old self.new id) }
         ensures least { steps.old ≤ steps.new }
         ensures ticked { OnOk result (TicksForOne D.operations self.old self.new D.counted id
             steps.old steps.new) }
-        ensures most { TicksForPartOfOne D.operations self.old self.new D.counted id
+        ensures ticked_filled { TicksForPartOfOne D.operations self.old self.new D.counted id
             steps.old steps.new }
     {
         self.ready();
@@ -132,15 +132,16 @@ impl<D: Domain> Session<D> {
         ensures stays_bounded { StaysBounded self.old self.new }
         ensures domain { self.new.engine.domain ≡ self.old.engine.domain }
         ensures spare { self.new.engine.spare ≡ self.old.engine.spare }
-        ensures part { KeepsPart D.operations self.old self.new (checked_here id) }
-        ensures all { OnOk result (KeepsAll D.operations self.old self.new (checked_here id)) }
+        ensures keeps_part { KeepsPart D.operations self.old self.new (checked_here id) }
+        ensures keeps_all { OnOk result (KeepsAll D.operations self.old self.new (checked_here id))
+            }
         ensures found { OnOk result (Finds D.operations self.old self.new (checked_here id)
             found.old found.new) }
         ensures least { steps.old ≤ steps.new }
         ensures ticked { OnOk result (TicksForAll D.operations self.old self.new D.counted
             (checked_here id) steps.old steps.new) }
-        ensures most { TicksForPart D.operations self.old self.new D.counted (checked_here id)
-            steps.old steps.new }
+        ensures ticked_filled { TicksForPart D.operations self.old self.new D.counted (checked_here
+            id) steps.old steps.new }
     {
         if !self.has_check(id) {
             return Ok(());
@@ -161,15 +162,16 @@ impl<D: Domain> Session<D> {
         ensures stays_bounded { StaysBounded self.old self.new }
         ensures domain { self.new.engine.domain ≡ self.old.engine.domain }
         ensures spare { self.new.engine.spare ≡ self.old.engine.spare }
-        ensures part { KeepsPart D.operations self.old self.new (checked_in stmts.now) }
-        ensures all { OnOk result (KeepsAll D.operations self.old self.new (checked_in stmts.now)) }
+        ensures keeps_part { KeepsPart D.operations self.old self.new (checked_in stmts.now) }
+        ensures keeps_all { OnOk result (KeepsAll D.operations self.old self.new (checked_in
+            stmts.now)) }
         ensures found { OnOk result (Finds D.operations self.old self.new (checked_in stmts.now)
             found.old found.new) }
         ensures least { steps.old ≤ steps.new }
         ensures ticked { OnOk result (TicksForAll D.operations self.old self.new D.counted
             (checked_in stmts.now) steps.old steps.new) }
-        ensures most { TicksForPart D.operations self.old self.new D.counted (checked_in stmts.now)
-            steps.old steps.new }
+        ensures ticked_filled { TicksForPart D.operations self.old self.new D.counted (checked_in
+            stmts.now) steps.old steps.new }
     {
         self.ready();
         for stmt in stmts {
@@ -189,13 +191,13 @@ impl<D: Domain> Session<D> {
         ensures stays_bounded { StaysBounded self.old self.new }
         ensures domain { self.new.engine.domain ≡ self.old.engine.domain }
         ensures spare { self.new.engine.spare ≡ self.old.engine.spare }
-        ensures part { KeepsPart D.operations self.old self.new all_checked }
-        ensures all { OnOk result (KeepsAll D.operations self.old self.new all_checked) }
+        ensures keeps_part { KeepsPart D.operations self.old self.new all_checked }
+        ensures keeps_all { OnOk result (KeepsAll D.operations self.old self.new all_checked) }
         ensures found { IfOk result (FindsAll D.operations self.old self.new) }
         ensures least { steps.old ≤ steps.new }
         ensures ticked { OnOk result (TicksForAll D.operations self.old self.new D.counted
             all_checked steps.old steps.new) }
-        ensures most { TicksForPart D.operations self.old self.new D.counted all_checked
+        ensures ticked_filled { TicksForPart D.operations self.old self.new D.counted all_checked
             steps.old steps.new }
     {
         self.ready();
@@ -220,7 +222,7 @@ impl<D: Domain> Session<D> {
         ensures least { steps.old ≤ steps.new }
         ensures ticked { TicksForReport D.operations self.old self.new D.counted steps.old
             steps.new result }
-        ensures most { TicksForPart D.operations self.old self.new D.counted all_checked
+        ensures ticked_filled { TicksForPart D.operations self.old self.new D.counted all_checked
             steps.old steps.new }
     {
         reports_are_sound::<D>();
@@ -264,7 +266,7 @@ impl<D: Domain> Session<D> {
         ensures least { steps.old ≤ steps.new }
         ensures ticked { TicksForReport D.operations self.old self.new D.counted steps.old
             steps.new result }
-        ensures most { TicksForPart D.operations self.old self.new D.counted all_checked
+        ensures ticked_filled { TicksForPart D.operations self.old self.new D.counted all_checked
             steps.old steps.new }
     {
         self.parts.engine.sweep();

@@ -71,19 +71,19 @@ fn fill_some<D: Domain, L: Ledger>(
     ensures domain { engine.new.domain ≡ engine.old.domain }
     ensures spare { engine.new.spare ≡ engine.old.spare }
     ensures fills { FillsFirst D.operations engine.old engine.new book.now going.old }
-    ensures few { FillsFew engine.old.store engine.new.store }
+    ensures adds_few { FillsFew engine.old.store engine.new.store }
     ensures going { GoesOn D.operations engine.old engine.new book.now going.old going.new }
     ensures counted { IfOk result (λ p. IsAdded engine.old engine.new p.filled) }
     ensures first { IfOk result (λ p. p.filled ≡ min most (missing_for D.operations engine.old
         book.now going.old)) }
-    ensures all { IfOk result (λ p. IsTrue p.done ↔ (missing_for D.operations engine.old book.now
+    ensures done { IfOk result (λ p. IsTrue p.done ↔ (missing_for D.operations engine.old book.now
         going.old ≤ most)) }
     ensures filled { IfOk result (λ p. IsTrue p.done → HasAll D.operations engine.old engine.new
         book.now going.old going.new) }
     ensures least { steps.old ≤ steps.new }
     ensures ticked { IfOk result (λ p. WorksAtMost D.counted engine.old steps.old steps.new
         p.filled) }
-    ensures most { TicksForAdded engine.old engine.new D.counted steps.old steps.new }
+    ensures ticked_filled { TicksForAdded engine.old engine.new D.counted steps.old steps.new }
 {
     let flow = book.flow();
     let Going { targets, walk } = going;
@@ -106,15 +106,15 @@ impl<D: Domain> Parts<D> {
         ensures ready { IsReadyBy D.operations self.new }
         ensures domain { self.new.engine.domain ≡ self.old.engine.domain }
         ensures spare { self.new.engine.spare ≡ self.old.engine.spare }
-        ensures few { FillsFew self.old.engine.store self.new.engine.store }
+        ensures adds_few { FillsFew self.old.engine.store self.new.engine.store }
         ensures next_ticket { KeepsNextTicket self.old self.new }
         ensures steps { StepsThere D.operations self.old self.new place most result }
         ensures sound { CoversThere D.operations self.old self.new place D.covers result }
         ensures least { steps.old ≤ steps.new }
         ensures ticked { TicksForThere D.operations self.old self.new place D.counted steps.old
             steps.new result }
-        ensures most { TicksForSomeThere D.operations self.old self.new place D.counted steps.old
-            steps.new }
+        ensures ticked_filled { TicksForSomeThere D.operations self.old self.new place D.counted
+            steps.old steps.new }
     {
         questions_keep_cells::<D>();
         let progress = fill_some(alloc, &mut self.engine, &self.book, &mut going, most, steps)?;
@@ -142,15 +142,15 @@ impl<D: Domain> Parts<D> {
         ensures ready { IsReadyBy D.operations self.new }
         ensures domain { self.new.engine.domain ≡ self.old.engine.domain }
         ensures spare { self.new.engine.spare ≡ self.old.engine.spare }
-        ensures few { FillsFew self.old.engine.store self.new.engine.store }
+        ensures adds_few { FillsFew self.old.engine.store self.new.engine.store }
         ensures next_ticket { KeepsNextTicket self.old self.new }
         ensures steps { StepsFrom D.operations self.old self.new ticket most result }
         ensures sound { CoversStep D.operations self.old self.new ticket D.covers result }
         ensures least { steps.old ≤ steps.new }
         ensures ticked { TicksForStep D.operations self.old self.new ticket D.counted steps.old
             steps.new result }
-        ensures most { TicksForSomeStep D.operations self.old self.new ticket D.counted steps.old
-            steps.new }
+        ensures ticked_filled { TicksForSomeStep D.operations self.old self.new ticket D.counted
+            steps.old steps.new }
     {
         let Some(place) = self.book.tickets.place_of(ticket) else {
             return Err(StepError::NoTicket);
@@ -192,8 +192,8 @@ impl<D: Domain> Session<D> {
         ensures least { steps.old ≤ steps.new }
         ensures ticked { TicksForStep D.operations self.old self.new ticket D.counted steps.old
             steps.new result }
-        ensures most { TicksForSomeStep D.operations self.old self.new ticket D.counted steps.old
-            steps.new }
+        ensures ticked_filled { TicksForSomeStep D.operations self.old self.new ticket D.counted
+            steps.old steps.new }
     {
         self.parts.engine.sweep();
         self.parts.step_now(alloc, ticket, most, steps)

@@ -55,7 +55,7 @@ impl<D: Domain> Parts<D> {
     /// A question that a ticket is to be opened for, or why none is opened.
     fn asked_going(&self, alloc: Global, at: &Location, string: &[u32]) -> Result<Going, AskError>
         requires ready { IsReadyBy D.operations self.now }
-        ensures few { OnOk result (length self.now.book.tickets.open_ones.items < 16) }
+        ensures not_full { OnOk result (length self.now.book.tickets.open_ones.items < 16) }
         ensures going { IfOk result (HasCome D.operations self.now.engine (flow_in self.now.book)
             at.now string.now) }
         ensures unopened { StaysUnopened D.operations self.now at.now string.now result }

@@ -81,8 +81,8 @@ returns-then-not-progress-clause-steps g c = λ m o h e.
     let a = subst (λ (x : OpenTicket Going). IsAsked (flow_in s.book).program x.at x.string ts) (same_Some c.requires.there.one o (sym c.requires.there.there ∙ e)) c.requires.there.going.asked in
     let missing = missing_here dom s.book s.engine.store new m o.at o.string ts h a in
     let undone : c.in_ok-progress.progress.done ≡ false = grind (arith, c.if-not-progress.true) in
-    let left = subst (λ xs. c.args.most < length xs) missing (is_more c.in_ok-progress.progress.done _ c.args.most c.in_ok-progress.ensures.all undone) in
-    let full = as_many_as n c.args.most _ c.in_ok-progress.ensures.first (is_more c.in_ok-progress.progress.done _ c.args.most c.in_ok-progress.ensures.all undone) in
+    let left = subst (λ xs. c.args.most < length xs) missing (is_more c.in_ok-progress.progress.done _ c.args.most c.in_ok-progress.ensures.done undone) in
+    let full = as_many_as n c.args.most _ c.in_ok-progress.ensures.first (is_more c.in_ok-progress.progress.done _ c.args.most c.in_ok-progress.ensures.done undone) in
     record {
       filled = full;
       more = left;
@@ -151,7 +151,7 @@ returns-clause-steps g c = λ m o h e.
     let a = subst (λ (x : OpenTicket Going). IsAsked (flow_in s.book).program x.at x.string ts) (same_Some c.requires.there.one o (sym c.requires.there.there ∙ e)) c.requires.there.going.asked in
     let filled = subst (λ d. AreFilled (ops d) new c.fill_some.new.going.walk (flow_in s.book) ts) (sym c.fill_some.ensures.domain) (c.in_ok-progress.ensures.filled done) in
     let missing = missing_here dom s.book s.engine.store new m o.at o.string ts h a in
-    let few = c.in_ok-progress.ensures.all.0 done in
+    let few = c.in_ok-progress.ensures.done.0 done in
     let all = ap length missing in
     let says = subst (λ d. Says (answer (ops d) (flow_in s.book).engine (flow_in s.book).program o.at o.string) (Some v)) c.fill_some.ensures.domain (c.in_ok-value.ensures.says (flow_in s.book) o.at o.string ts a filled) in
     record {
@@ -187,20 +187,20 @@ returns-clause-ticked g c = λ m o h e.
     let filled = subst (λ d. AreFilled (ops d) new c.fill_some.new.going.walk (flow_in s.book) ts) (sym c.fill_some.ensures.domain) (c.in_ok-progress.ensures.filled done) in
     let missing = missing_here dom s.book s.engine.store new m o.at o.string ts h a in
     let read = subst (λ d. c.read_answer.new.steps ≤ c.fill_some.new.steps + g.D.Domain.counted d * (2 * length ts)) c.fill_some.ensures.domain (c.read_answer.ensures.ticked (flow_in s.book) ts filled) in
-    work_here dom s.book s.engine.store m o.at o.string ts c.args.steps.now c.read_answer.new.steps each n h a (all_of n c.args.most _ _ c.in_ok-progress.ensures.first (c.in_ok-progress.ensures.all.0 done) (ap length missing)) (work_both c.args.steps.now c.fill_some.new.steps c.read_answer.new.steps each n (2 * length ts) c.in_ok-progress.ensures.ticked read)
+    work_here dom s.book s.engine.store m o.at o.string ts c.args.steps.now c.read_answer.new.steps each n h a (all_of n c.args.most _ _ c.in_ok-progress.ensures.first (c.in_ok-progress.ensures.done.0 done) (ap length missing)) (work_both c.args.steps.now c.fill_some.new.steps c.read_answer.new.steps each n (2 * length ts) c.in_ok-progress.ensures.ticked read)
 
-pub returns-in_err-progress-clause-most : goal.returns-in_err-progress-clause-most
-returns-in_err-progress-clause-most g c = λ m o h e.
+pub returns-in_err-progress-clause-ticked_filled : goal.returns-in_err-progress-clause-ticked_filled
+returns-in_err-progress-clause-ticked_filled g c = λ m o h e.
     let s = c.args.self.now in
-    work_first c.args.steps.now c.fill_some.new.steps (g.D.Domain.counted s.engine.domain) (cells_added s.engine.store c.fill_some.new.engine.store) (2 * length (targets_of m o.at o.string)) c.fill_some.ensures.most
+    work_first c.args.steps.now c.fill_some.new.steps (g.D.Domain.counted s.engine.domain) (cells_added s.engine.store c.fill_some.new.engine.store) (2 * length (targets_of m o.at o.string)) c.fill_some.ensures.ticked_filled
 
-pub returns-then-not-progress-clause-most : goal.returns-then-not-progress-clause-most
-returns-then-not-progress-clause-most g c = λ m o h e.
+pub returns-then-not-progress-clause-ticked_filled : goal.returns-then-not-progress-clause-ticked_filled
+returns-then-not-progress-clause-ticked_filled g c = λ m o h e.
     let s = c.args.self.now in
-    work_first c.args.steps.now c.fill_some.new.steps (g.D.Domain.counted s.engine.domain) (cells_added s.engine.store c.fill_some.new.engine.store) (2 * length (targets_of m o.at o.string)) c.fill_some.ensures.most
+    work_first c.args.steps.now c.fill_some.new.steps (g.D.Domain.counted s.engine.domain) (cells_added s.engine.store c.fill_some.new.engine.store) (2 * length (targets_of m o.at o.string)) c.fill_some.ensures.ticked_filled
 
-pub returns-in_err-value-clause-most : goal.returns-in_err-value-clause-most
-returns-in_err-value-clause-most g c = λ m o h e.
+pub returns-in_err-value-clause-ticked_filled : goal.returns-in_err-value-clause-ticked_filled
+returns-in_err-value-clause-ticked_filled g c = λ m o h e.
     let s = c.args.self.now in
     let ops = g.D.Domain.operations in
     let dom = ops s.engine.domain in
@@ -214,8 +214,8 @@ returns-in_err-value-clause-most g c = λ m o h e.
     let read = subst (λ d. c.read_answer.new.steps ≤ c.fill_some.new.steps + g.D.Domain.counted d * (2 * length ts)) c.fill_some.ensures.domain (c.read_answer.ensures.ticked (flow_in s.book) ts filled) in
     most_here dom s.book s.engine.store m o.at o.string ts c.args.steps.now c.fill_some.new.steps c.read_answer.new.steps each n (cells_added s.engine.store new) h a c.in_ok-progress.ensures.counted c.in_ok-progress.ensures.ticked read
 
-pub returns-clause-most : goal.returns-clause-most
-returns-clause-most g c = λ m o h e.
+pub returns-clause-ticked_filled : goal.returns-clause-ticked_filled
+returns-clause-ticked_filled g c = λ m o h e.
     let s = c.args.self.now in
     let ops = g.D.Domain.operations in
     let dom = ops s.engine.domain in

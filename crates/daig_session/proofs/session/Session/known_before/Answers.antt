@@ -24,8 +24,8 @@ returns-in-Ok-clause-program g c =
     one_asked dom m n Skip (IsCell 0) new.engine.store new.book (checked_here dom s.engine.store s.book m h c.ready.ensures.ready.order.fine.fit) c.query.result (
     subst (λ d. Questions dom m (Holds (ops d) new.engine.store new.book) (Before n) [] c.query.result) c.query.ensures.domain (c.query.ensures.answers m h))))
 
-pub returns-in-Ok-clause-part : goal.returns-in-Ok-clause-part
-returns-in-Ok-clause-part g c = λ m e k h.
+pub returns-in-Ok-clause-keeps_part : goal.returns-in-Ok-clause-keeps_part
+returns-in-Ok-clause-keeps_part g c = λ m e k h.
     let s = c.args.self.now in
     let ops = g.D.Domain.operations in
     let dom = ops s.engine.domain in
@@ -45,8 +45,8 @@ returns-in-Err-Refused-clause-program g c =
     one_asked dom m n Skip (IsCell 0) new.engine.store new.book (checked_here dom s.engine.store s.book m h c.ready.ensures.ready.order.fine.fit) c.query.result (
     subst (λ d. Questions dom m (Holds (ops d) new.engine.store new.book) (Before n) [] c.query.result) c.query.ensures.domain (c.query.ensures.answers m h))))
 
-pub returns-in-Err-Refused-clause-part : goal.returns-in-Err-Refused-clause-part
-returns-in-Err-Refused-clause-part g c = λ m e k h.
+pub returns-in-Err-Refused-clause-keeps_part : goal.returns-in-Err-Refused-clause-keeps_part
+returns-in-Err-Refused-clause-keeps_part g c = λ m e k h.
     let s = c.args.self.now in
     let ops = g.D.Domain.operations in
     let dom = ops s.engine.domain in
@@ -66,8 +66,8 @@ returns-clause-program g c =
     one_asked dom m n Skip (IsCell 0) new.engine.store new.book (checked_here dom s.engine.store s.book m h c.ready.ensures.ready.order.fine.fit) c.query.result (
     subst (λ d. Questions dom m (Holds (ops d) new.engine.store new.book) (Before n) [] c.query.result) c.query.ensures.domain (c.query.ensures.answers m h))))
 
-pub returns-clause-part : goal.returns-clause-part
-returns-clause-part g c = λ m e k h.
+pub returns-clause-keeps_part : goal.returns-clause-keeps_part
+returns-clause-keeps_part g c = λ m e k h.
     let s = c.args.self.now in
     let ops = g.D.Domain.operations in
     let dom = ops s.engine.domain in
@@ -76,8 +76,8 @@ returns-clause-part g c = λ m e k h.
     one_asked dom m n e k new.engine.store new.book (checked_here dom s.engine.store s.book m h c.ready.ensures.ready.order.fine.fit) c.query.result (
     subst (λ d. Questions dom m (Holds (ops d) new.engine.store new.book) (Before n) [] c.query.result) c.query.ensures.domain (c.query.ensures.answers m h))
 
-pub returns-in-Ok-clause-all : goal.returns-in-Ok-clause-all
-returns-in-Ok-clause-all g c = λ m e k h.
+pub returns-in-Ok-clause-keeps_all : goal.returns-in-Ok-clause-keeps_all
+returns-in-Ok-clause-keeps_all g c = λ m e k h.
     let s = c.args.self.now in
     let ops = g.D.Domain.operations in
     let dom = ops s.engine.domain in
@@ -94,8 +94,8 @@ returns-in-Ok-clause-ticked g c = λ m e k h.
     let dom = g.D.Domain.operations s.engine.domain in
     subst (λ w. c.query.new.steps ≤ c.args.steps.now + g.D.Domain.counted s.engine.domain * w) (one_work dom m c.args.id e k) (c.in-Ok.ensures.ticked m h)
 
-pub returns-in-Err-Refused-clause-all : goal.returns-in-Err-Refused-clause-all
-returns-in-Err-Refused-clause-all g c = λ m e k h.
+pub returns-in-Err-Refused-clause-keeps_all : goal.returns-in-Err-Refused-clause-keeps_all
+returns-in-Err-Refused-clause-keeps_all g c = λ m e k h.
     let s = c.args.self.now in
     let ops = g.D.Domain.operations in
     let dom = ops s.engine.domain in
@@ -116,20 +116,20 @@ returns-in-Err-Refused-clause-tells g c = λ m h.
 
 pub returns-in-Err-Refused-clause-ticked : goal.returns-in-Err-Refused-clause-ticked
 returns-in-Err-Refused-clause-ticked g c = λ m e k h.
-    let q = subst (λ (r : QueryError). IsUnticked c.args.steps.now c.query.new.steps r) c.in-Err-Refused.field-0-is c.in-Err-Refused.ensures.unticked in
+    let q = subst (λ (r : QueryError). IsUnticked c.args.steps.now c.query.new.steps r) c.in-Err-Refused.field-0-is c.in-Err-Refused.ensures.unticked_refusal in
     omega (arith, q)
 
-pub returns-in-Ok-clause-most : goal.returns-in-Ok-clause-most
-returns-in-Ok-clause-most g c = λ m e k h.
+pub returns-in-Ok-clause-ticked_filled : goal.returns-in-Ok-clause-ticked_filled
+returns-in-Ok-clause-ticked_filled g c = λ m e k h.
     let s = c.args.self.now in
-    subst (λ w. c.query.new.steps ≤ c.args.steps.now + g.D.Domain.counted s.engine.domain * suc (cells_added s.engine.store c.query.new.self.engine.store + 2 * w)) (one_chains (g.D.Domain.operations s.engine.domain) m c.args.id e k) (c.query.ensures.most m h)
+    subst (λ w. c.query.new.steps ≤ c.args.steps.now + g.D.Domain.counted s.engine.domain * suc (cells_added s.engine.store c.query.new.self.engine.store + 2 * w)) (one_chains (g.D.Domain.operations s.engine.domain) m c.args.id e k) (c.query.ensures.ticked_filled m h)
 
-pub returns-in-Err-Refused-clause-most : goal.returns-in-Err-Refused-clause-most
-returns-in-Err-Refused-clause-most g c = λ m e k h.
+pub returns-in-Err-Refused-clause-ticked_filled : goal.returns-in-Err-Refused-clause-ticked_filled
+returns-in-Err-Refused-clause-ticked_filled g c = λ m e k h.
     let s = c.args.self.now in
-    subst (λ w. c.query.new.steps ≤ c.args.steps.now + g.D.Domain.counted s.engine.domain * suc (cells_added s.engine.store c.query.new.self.engine.store + 2 * w)) (one_chains (g.D.Domain.operations s.engine.domain) m c.args.id e k) (c.query.ensures.most m h)
+    subst (λ w. c.query.new.steps ≤ c.args.steps.now + g.D.Domain.counted s.engine.domain * suc (cells_added s.engine.store c.query.new.self.engine.store + 2 * w)) (one_chains (g.D.Domain.operations s.engine.domain) m c.args.id e k) (c.query.ensures.ticked_filled m h)
 
-pub returns-clause-most : goal.returns-clause-most
-returns-clause-most g c = λ m e k h.
+pub returns-clause-ticked_filled : goal.returns-clause-ticked_filled
+returns-clause-ticked_filled g c = λ m e k h.
     let s = c.args.self.now in
-    subst (λ w. c.query.new.steps ≤ c.args.steps.now + g.D.Domain.counted s.engine.domain * suc (cells_added s.engine.store c.query.new.self.engine.store + 2 * w)) (one_chains (g.D.Domain.operations s.engine.domain) m c.args.id e k) (c.query.ensures.most m h)
+    subst (λ w. c.query.new.steps ≤ c.args.steps.now + g.D.Domain.counted s.engine.domain * suc (cells_added s.engine.store c.query.new.self.engine.store + 2 * w)) (one_chains (g.D.Domain.operations s.engine.domain) m c.args.id e k) (c.query.ensures.ticked_filled m h)

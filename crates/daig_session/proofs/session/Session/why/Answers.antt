@@ -40,10 +40,10 @@ returns-in_err-filled-clause-explains g c = rw (← c.self.view_is) (λ m h.
     let e : c.from_residual.result ≡ Err c.in_err-filled.field-0.0 = search rules in
     subst (Explains (ops c.self.inside.parts.engine.domain) m (Holds (ops new.engine.domain) new.engine.store new.book) c.args.at.now c.args.string.now) (sym e) (c.in_err-filled.ensures.fails m h))
 
-pub returns-in_err-filled-clause-unticked : goal.returns-in_err-filled-clause-unticked
-returns-in_err-filled-clause-unticked g c =
+pub returns-in_err-filled-clause-unticked_refusal : goal.returns-in_err-filled-clause-unticked_refusal
+returns-in_err-filled-clause-unticked_refusal g c =
     let e : c.from_residual.result ≡ Err c.in_err-filled.field-0.0 = search rules in
-    subst (λ r. IfErr r (IsUnticked c.args.steps.now c.fill_for.new.steps)) (sym e) c.in_err-filled.ensures.unticked
+    subst (λ r. IfErr r (IsUnticked c.args.steps.now c.fill_for.new.steps)) (sym e) c.in_err-filled.ensures.unticked_refusal
 
 pub returns-in_err-stmts-clause-explains : goal.returns-in_err-stmts-clause-explains
 returns-in_err-stmts-clause-explains g c = rw (← c.self.view_is) (λ m h.
@@ -85,4 +85,4 @@ returns-clause-stays g c =
 
 pub returns-clause-ticked : goal.returns-clause-ticked
 returns-clause-ticked g c = rw (← c.self.view_is) (λ m h.
-    subst (λ n. c.fill_for.new.steps ≤ c.args.steps.now + g.D.Domain.counted c.self.inside.parts.engine.domain * n) (c.in_ok-filled.ensures.all m h) c.in_ok-filled.ensures.ticked)
+    subst (λ n. c.fill_for.new.steps ≤ c.args.steps.now + g.D.Domain.counted c.self.inside.parts.engine.domain * n) (c.in_ok-filled.ensures.missing m h) c.in_ok-filled.ensures.ticked)
