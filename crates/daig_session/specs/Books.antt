@@ -33,10 +33,11 @@ IsSettingOf engine program setting = setting ≡ setting_of engine (routines_of 
 abbrev pub IsSetFor : Book → List Procedure → Setting → Type 0
 IsSetFor b program setting = IsSettingOf b.setting.engine program setting
 
--- A change leads on from the present program to this one.
+-- A change leads on from the present program, ..
 abbrev pub LeadsFrom : Book → Change → Type 0
 LeadsFrom b change = Leads b.history.places b.history.now change
 
+-- .. to this one.
 abbrev pub program_after : Book → Change → List Procedure
 program_after b change = changed_program b.history.now change
 

@@ -42,10 +42,11 @@ module _ {D S : Type 0} (operations : D → Operations S) (engine : Engine D S) 
   abbrev pub RefusesBy : Plan → Location → (string : List ℕ) → QueryError → Type 0
   RefusesBy plan l string why = IsRefused (answer (operations engine.domain) plan.engine plan.program l string) why
 
-  -- The ticket at a place has come so far, or the program refuses its question.
+  -- The ticket at a place has come so far, ..
   abbrev pub ResumesAt : Book → (place : ℕ) → Result Going QueryError → Type 0
   ResumesAt book place result = OfTicketAt book.tickets.open_ones.items place (λ o. IfOk result (HasCome (flow_in book) o.at o.string))
 
+  -- .. or the program refuses its question.
   abbrev pub RefusesAt : Book → (place : ℕ) → Result Going QueryError → Type 0
   RefusesAt book place result = OfTicketAt book.tickets.open_ones.items place (λ o. IfErr result (RefusesBy (flow_in book) o.at o.string))
 

@@ -31,7 +31,7 @@ use Rattle.daig_session.specs.declared.book.Book.{Book}
 use Rattle.daig_session.specs.declared.moving.Moving.{Moving}
 use Rattle.daig_session.specs.declared.edits.Planned.{Planned}
 use Rattle.daig_session.specs.declared.parts.Parts.{Parts}
-use Rattle.daig_session.specs.Books.{AreBelow}
+use Rattle.daig_session.specs.Books.{AreBelow, IsSame}
 use Rattle.daig_session.specs.Sessions.{StandsFor}
 
 -- A plan of removal takes away what the change from one program to the other empties.
@@ -91,6 +91,10 @@ pub record IsPlanned {S : Type 0} (store : Store S) (book : Book) (e : Edit) (p 
 -- the same for a session
 abbrev pub IsPlannedFor : {D S : Type 0} → Parts D S → Edit → Planned → Type 0
 IsPlannedFor session e p = IsPlanned session.engine.store session.book e p
+
+-- A session is as it was, except which places the table has.
+abbrev pub IsStill : {D S : Type 0} → (old new : Parts D S) → Type 0
+IsStill old new = (new.engine ≡ old.engine) × IsSame old.book new.book
 
 -- An edit has no fault in the present program, or this one.
 abbrev pub IsAccepted : Book → Edit → Type 0

@@ -1,5 +1,5 @@
 -- What a question does to a session: what it fills, what it answers, and what is counted for it.
-use Rattle.std.specs.Prelude.{◌≡◌, ◌+◌, ◌*◌, ℕ, List, length, map, slice_get, Option, Some, Result, Err, IfOk, IfErr, IfSome, MatchOption}
+use Rattle.std.specs.Prelude.{◌≡◌, ◌+◌, ◌*◌, ℕ, List, length, map, slice_get, Some, Result, Err, IfOk, IfErr, IfSome, MatchOption}
 use Rattle.imp_syntax.specs.declared.edit.Location.{Location}
 use Rattle.imp_check.specs.Slots.{routines_of}
 use Rattle.imp_flow.specs.Reached.{target_of}

@@ -52,8 +52,8 @@ impl Book {
         widening: Widening,
     ) -> Result<Book, Memory>
         ensures fine { IfOk result (λ _. IsFine table.program) }
-        ensures first { IfOk result (λ b. IsFirst b table.program
-            (engine_of budget widening) next) }
+        ensures first { IfOk result
+            (λ b. IsFirst b table.program (engine_of budget widening) next) }
     {
         table.procs();
         let setting = Setting::new(alloc, &table.view(), budget, widening)?;

@@ -1,11 +1,11 @@
 //! Moves from one program to another: what a move empties is planned beside what stands, and taken away at once.
-ghost use Rattle.std.specs.Prelude.{◌≡◌, IfOk};
+ghost use Rattle.std.specs.Prelude.{IfOk};
 ghost use Rattle.cell_removal.specs.Removal.{IsOrder};
 ghost use Rattle.edit_keeps.specs.Apart.{flow_of};
 ghost use Rattle.edit_history.specs.After.{changed_program};
 ghost use Rattle.daig_query.specs.Swept.{IsBounded, IsInTables};
 ghost use Rattle.daig_session.specs.Moves.{LeadsIn, EmptiesBy, IsMovingBy, LeavesBy};
-ghost use Rattle.daig_session.specs.Engines.{IsRightFor};
+ghost use Rattle.daig_session.specs.Engines.{IsRightFor, KeepsSetup};
 ghost use Rattle.daig_session.specs.Books.{IsSettingOf};
 
 use base_values::Memory;
@@ -34,14 +34,14 @@ fn emptied<D: Domain>(
     setting: &Setting,
     other: &Setting,
 ) -> Result<RemovalOrder, Memory>
-    requires right { IsRightFor D.operations engine.now (flow_of setting.now.engine
-        table.now.program) }
+    requires right { IsRightFor D.operations engine.now
+        (flow_of setting.now.engine table.now.program) }
     requires leads { LeadsIn table.now change.now }
     requires set { IsSettingOf setting.now.engine table.now.program setting.now }
-    requires set_other { IsSettingOf setting.now.engine (changed_program table.now.program
-        change.now) other.now }
-    ensures empties { IfOk result (EmptiesBy setting.now.engine table.now change.now
-        engine.now.store) }
+    requires set_other { IsSettingOf setting.now.engine
+        (changed_program table.now.program change.now) other.now }
+    ensures empties { IfOk result
+        (EmptiesBy setting.now.engine table.now change.now engine.now.store) }
 {
     let changed = points_changed(alloc, table, change, setting, other)?;
     let old = Flow::new(table.view(), setting);
@@ -69,12 +69,12 @@ pub(crate) fn planned_move<D: Domain>(
     change: &Change,
     setting: &Setting,
 ) -> Result<Moving, Memory>
-    requires right { IsRightFor D.operations engine.now (flow_of setting.now.engine
-        table.now.program) }
+    requires right { IsRightFor D.operations engine.now
+        (flow_of setting.now.engine table.now.program) }
     requires leads { LeadsIn table.now change.now }
     requires set { IsSettingOf setting.now.engine table.now.program setting.now }
-    ensures moving { IfOk result (IsMovingBy engine.now.store setting.now.engine table.now
-        change.now) }
+    ensures moving { IfOk result
+        (IsMovingBy engine.now.store setting.now.engine table.now change.now) }
 {
     let other = setting.after(alloc, table, change)?;
     let plan = emptied(alloc, engine, table, change, setting, &other)?;
@@ -91,8 +91,7 @@ pub(crate) fn leave<D: Domain>(engine: &mut Engine<D>, plan: RemovalOrder)
     requires order { IsOrder engine.old.store.graph.cells plan }
     requires held { IsInTables engine.old.store }
     ensures leaves { LeavesBy D.operations engine.old engine.new plan }
-    ensures domain { engine.new.domain ≡ engine.old.domain }
-    ensures spare { engine.new.spare ≡ engine.old.spare }
+    ensures setup { KeepsSetup engine.old engine.new }
     ensures bounded { IsBounded engine.new.spare engine.new.store }
 {
     engine.empty(plan);

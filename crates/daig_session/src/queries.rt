@@ -10,6 +10,7 @@ ghost use Rattle.daig_session.specs.Questions.{ExplainsFrom, TicksForMissing, Ti
 ghost use Rattle.daig_session.specs.Questions.{TicksForSome, CoversIn, SufficesIn};
 ghost use Rattle.daig_session.specs.Engines.{IsReadyWith, IsUnderWay, missing_for, WorksAtMost};
 ghost use Rattle.daig_session.specs.Engines.{IsAdded, TicksForAdded, FillsFirst, HasAll};
+ghost use Rattle.daig_session.specs.Engines.{KeepsSetup};
 
 use crate::asking::{begun, read_answer};
 use crate::book::{Book, Going};
@@ -37,16 +38,14 @@ fn fill_all<D: Domain, L: Ledger>(
 ) -> Result<usize, Memory>
     requires ready { IsReadyWith D.operations engine.old book.now }
     requires going { IsUnderWay D.operations engine.old book.now going.old }
-    ensures domain { engine.new.domain ≡ engine.old.domain }
-    ensures spare { engine.new.spare ≡ engine.old.spare }
+    ensures setup { KeepsSetup engine.old engine.new }
     ensures targets { going.new.targets ≡ going.old.targets }
     ensures fills { FillsFirst D.operations engine.old engine.new book.now going.old }
     ensures adds_few { FillsFew engine.old.store engine.new.store }
     ensures counted { IfOk result (IsAdded engine.old engine.new) }
-    ensures missing { IfOk result (λ n. n ≡ missing_for D.operations engine.old book.now going.old)
-        }
-    ensures filled { OnOk result (HasAll D.operations engine.old engine.new book.now going.old
-        going.new) }
+    ensures missing { IfOk result (λ n. n ≡ missing_for D.operations engine.old book.now going.old) }
+    ensures filled { OnOk result
+        (HasAll D.operations engine.old engine.new book.now going.old going.new) }
     ensures least { steps.old ≤ steps.new }
     ensures ticked { IfOk result (WorksAtMost D.counted engine.old steps.old steps.new) }
     ensures ticked_filled { TicksForAdded engine.old engine.new D.counted steps.old steps.new }
@@ -74,8 +73,7 @@ impl<D: Domain> Parts<D> {
     ) -> Result<Filled, QueryError>
         requires ready { IsReadyBy D.operations self.old }
         ensures ready { IsReadyBy D.operations self.new }
-        ensures domain { self.new.engine.domain ≡ self.old.engine.domain }
-        ensures spare { self.new.engine.spare ≡ self.old.engine.spare }
+        ensures setup { KeepsSetup self.old.engine self.new.engine }
         ensures book { self.new.book ≡ self.old.book }
         ensures adds_few { FillsFew self.old.engine.store self.new.engine.store }
         ensures targets { IfOk result (λ f. Asks self.old at.now string.now f.going) }
@@ -87,8 +85,8 @@ impl<D: Domain> Parts<D> {
         ensures fails { FailsFrom D.operations self.old self.new at.now string.now result }
         ensures least { steps.old ≤ steps.new }
         ensures unticked_refusal { IfErr result (IsUnticked steps.old steps.new) }
-        ensures ticked { IfOk result (λ f. TicksAtMost D.counted self.old steps.old
-            steps.new f.count) }
+        ensures ticked { IfOk result
+            (λ f. TicksAtMost D.counted self.old steps.old steps.new f.count) }
         ensures ticked_filled { TicksForFilled D.counted self.old self.new steps.old steps.new }
     {
         questions_keep_cells::<D>();
@@ -108,8 +106,7 @@ impl<D: Domain> Parts<D> {
     ) -> Result<Filled, QueryError>
         requires ready { IsReadyBy D.operations self.old }
         ensures ready { IsReadyBy D.operations self.new }
-        ensures domain { self.new.engine.domain ≡ self.old.engine.domain }
-        ensures spare { self.new.engine.spare ≡ self.old.engine.spare }
+        ensures setup { KeepsSetup self.old.engine self.new.engine }
         ensures book { self.new.book ≡ self.old.book }
         ensures bounded { IsWithinBound self.new }
         ensures targets { IfOk result (λ f. Asks self.old at.now string.now f.going) }
@@ -121,8 +118,8 @@ impl<D: Domain> Parts<D> {
         ensures fails { FailsFrom D.operations self.old self.new at.now string.now result }
         ensures least { steps.old ≤ steps.new }
         ensures unticked_refusal { IfErr result (IsUnticked steps.old steps.new) }
-        ensures ticked { IfOk result (λ f. TicksAtMost D.counted self.old steps.old
-            steps.new f.count) }
+        ensures ticked { IfOk result
+            (λ f. TicksAtMost D.counted self.old steps.old steps.new f.count) }
         ensures ticked_filled { TicksForFilled D.counted self.old self.new steps.old steps.new }
     {
         self.engine.sweep();
@@ -151,8 +148,7 @@ impl<D: Domain> Session<D> {
         string: &[u32],
         steps: &mut Steps<L>,
     ) -> Result<Value<D::State>, QueryError>
-        ensures domain { self.new.engine.domain ≡ self.old.engine.domain }
-        ensures spare { self.new.engine.spare ≡ self.old.engine.spare }
+        ensures setup { KeepsSetup self.old.engine self.new.engine }
         ensures bounded { IsWithinBound self.new }
         ensures next_ticket { KeepsNextTicket self.old self.new }
         ensures answers { QuestionsFrom D.operations self.old self.new at.now string.now result }
@@ -190,8 +186,7 @@ impl<D: Domain> Session<D> {
         string: &[u32],
         steps: &mut Steps<L>,
     ) -> Result<Items<StmtId>, QueryError>
-        ensures domain { self.new.engine.domain ≡ self.old.engine.domain }
-        ensures spare { self.new.engine.spare ≡ self.old.engine.spare }
+        ensures setup { KeepsSetup self.old.engine self.new.engine }
         ensures bounded { IsWithinBound self.new }
         ensures next_ticket { KeepsNextTicket self.old self.new }
         ensures explains { ExplainsFrom D.operations self.old self.new at.now string.now result }

@@ -10,6 +10,7 @@ ghost use Rattle.daig_session.specs.Reports.{KeepsAllOfOne, KeepsPartOfOne, Tick
 ghost use Rattle.daig_session.specs.Reports.{TicksForPartOfOne, ReportsFrom, TicksForReport};
 ghost use Rattle.daig_session.specs.Reports.{AreFindingsSound, HasCheck, Tells, IsChecked};
 ghost use Rattle.daig_session.specs.Reports.{FindsAll, TellsBefore};
+ghost use Rattle.daig_session.specs.Engines.{KeepsSetup};
 
 use crate::checks::{all_statements, checked_stmt};
 use crate::error::QueryError;
@@ -101,15 +102,14 @@ impl<D: Domain> Session<D> {
         steps: &mut Steps<L>,
     ) -> Result<Result<Value<D::State>, QueryRefusal>, Memory>
         ensures bounded { IsWithinBound self.new }
-        ensures domain { self.new.engine.domain ≡ self.old.engine.domain }
-        ensures spare { self.new.engine.spare ≡ self.old.engine.spare }
+        ensures setup { KeepsSetup self.old.engine self.new.engine }
         ensures program { self.new.book.history.now ≡ self.old.book.history.now }
         ensures keeps_part { KeepsPartOfOne D.operations self.old self.new id }
         ensures keeps_all { OnOk result (KeepsAllOfOne D.operations self.old self.new id) }
         ensures tells { IfOk result (TellsBefore D.operations self.old self.new id) }
         ensures least { steps.old ≤ steps.new }
-        ensures ticked { OnOk result (TicksForOne D.operations self.old self.new D.counted id
-            steps.old steps.new) }
+        ensures ticked { OnOk result
+            (TicksForOne D.operations self.old self.new D.counted id steps.old steps.new) }
         ensures ticked_filled { TicksForPartOfOne D.operations self.old self.new D.counted id
             steps.old steps.new }
     {
@@ -130,18 +130,16 @@ impl<D: Domain> Session<D> {
         steps: &mut Steps<L>,
     ) -> Result<(), Memory>
         ensures stays_bounded { StaysBounded self.old self.new }
-        ensures domain { self.new.engine.domain ≡ self.old.engine.domain }
-        ensures spare { self.new.engine.spare ≡ self.old.engine.spare }
+        ensures setup { KeepsSetup self.old.engine self.new.engine }
         ensures keeps_part { KeepsPart D.operations self.old self.new (checked_here id) }
-        ensures keeps_all { OnOk result (KeepsAll D.operations self.old self.new (checked_here id))
-            }
-        ensures found { OnOk result (Finds D.operations self.old self.new (checked_here id)
-            found.old found.new) }
+        ensures keeps_all { OnOk result (KeepsAll D.operations self.old self.new (checked_here id)) }
+        ensures found { OnOk result
+            (Finds D.operations self.old self.new (checked_here id) found.old found.new) }
         ensures least { steps.old ≤ steps.new }
         ensures ticked { OnOk result (TicksForAll D.operations self.old self.new D.counted
             (checked_here id) steps.old steps.new) }
-        ensures ticked_filled { TicksForPart D.operations self.old self.new D.counted (checked_here
-            id) steps.old steps.new }
+        ensures ticked_filled { TicksForPart D.operations self.old self.new D.counted
+            (checked_here id) steps.old steps.new }
     {
         if !self.has_check(id) {
             return Ok(());
@@ -160,18 +158,17 @@ impl<D: Domain> Session<D> {
         steps: &mut Steps<L>,
     ) -> Result<(), Memory>
         ensures stays_bounded { StaysBounded self.old self.new }
-        ensures domain { self.new.engine.domain ≡ self.old.engine.domain }
-        ensures spare { self.new.engine.spare ≡ self.old.engine.spare }
+        ensures setup { KeepsSetup self.old.engine self.new.engine }
         ensures keeps_part { KeepsPart D.operations self.old self.new (checked_in stmts.now) }
-        ensures keeps_all { OnOk result (KeepsAll D.operations self.old self.new (checked_in
-            stmts.now)) }
-        ensures found { OnOk result (Finds D.operations self.old self.new (checked_in stmts.now)
-            found.old found.new) }
+        ensures keeps_all { OnOk result
+            (KeepsAll D.operations self.old self.new (checked_in stmts.now)) }
+        ensures found { OnOk result
+            (Finds D.operations self.old self.new (checked_in stmts.now) found.old found.new) }
         ensures least { steps.old ≤ steps.new }
         ensures ticked { OnOk result (TicksForAll D.operations self.old self.new D.counted
             (checked_in stmts.now) steps.old steps.new) }
-        ensures ticked_filled { TicksForPart D.operations self.old self.new D.counted (checked_in
-            stmts.now) steps.old steps.new }
+        ensures ticked_filled { TicksForPart D.operations self.old self.new D.counted
+            (checked_in stmts.now) steps.old steps.new }
     {
         self.ready();
         for stmt in stmts {
@@ -189,14 +186,13 @@ impl<D: Domain> Session<D> {
         steps: &mut Steps<L>,
     ) -> Result<Findings, Memory>
         ensures stays_bounded { StaysBounded self.old self.new }
-        ensures domain { self.new.engine.domain ≡ self.old.engine.domain }
-        ensures spare { self.new.engine.spare ≡ self.old.engine.spare }
+        ensures setup { KeepsSetup self.old.engine self.new.engine }
         ensures keeps_part { KeepsPart D.operations self.old self.new all_checked }
         ensures keeps_all { OnOk result (KeepsAll D.operations self.old self.new all_checked) }
         ensures found { IfOk result (FindsAll D.operations self.old self.new) }
         ensures least { steps.old ≤ steps.new }
-        ensures ticked { OnOk result (TicksForAll D.operations self.old self.new D.counted
-            all_checked steps.old steps.new) }
+        ensures ticked { OnOk result
+            (TicksForAll D.operations self.old self.new D.counted all_checked steps.old steps.new) }
         ensures ticked_filled { TicksForPart D.operations self.old self.new D.counted all_checked
             steps.old steps.new }
     {
@@ -213,15 +209,14 @@ impl<D: Domain> Session<D> {
         alloc: Global,
         steps: &mut Steps<L>,
     ) -> Result<Findings, Memory>
-        ensures domain { self.new.engine.domain ≡ self.old.engine.domain }
-        ensures spare { self.new.engine.spare ≡ self.old.engine.spare }
+        ensures setup { KeepsSetup self.old.engine self.new.engine }
         ensures stays_bounded { StaysBounded self.old self.new }
         ensures next_ticket { KeepsNextTicket self.old self.new }
         ensures reports { ReportsFrom D.operations self.old self.new result }
         ensures sound { IfOk result (AreFindingsSound self.old) }
         ensures least { steps.old ≤ steps.new }
-        ensures ticked { TicksForReport D.operations self.old self.new D.counted steps.old
-            steps.new result }
+        ensures ticked { TicksForReport D.operations self.old self.new D.counted
+            steps.old steps.new result }
         ensures ticked_filled { TicksForPart D.operations self.old self.new D.counted all_checked
             steps.old steps.new }
     {
@@ -257,15 +252,14 @@ impl<D: Domain> Session<D> {
         alloc: Global,
         steps: &mut Steps<L>,
     ) -> Result<Findings, Memory>
-        ensures domain { self.new.engine.domain ≡ self.old.engine.domain }
-        ensures spare { self.new.engine.spare ≡ self.old.engine.spare }
+        ensures setup { KeepsSetup self.old.engine self.new.engine }
         ensures bounded { IsWithinBound self.new }
         ensures next_ticket { KeepsNextTicket self.old self.new }
         ensures reports { ReportsFrom D.operations self.old self.new result }
         ensures sound { IfOk result (AreFindingsSound self.old) }
         ensures least { steps.old ≤ steps.new }
-        ensures ticked { TicksForReport D.operations self.old self.new D.counted steps.old
-            steps.new result }
+        ensures ticked { TicksForReport D.operations self.old self.new D.counted
+            steps.old steps.new result }
         ensures ticked_filled { TicksForPart D.operations self.old self.new D.counted all_checked
             steps.old steps.new }
     {

@@ -133,8 +133,8 @@ impl<D: Domain> Session<D> {
     /// Where an open ticket asks; `None` where no ticket of this number is open. It takes time linear in the open tickets,
     /// which are few.
     pub fn ticket_at(&self, ticket: u64) -> Option<&Location>
-        ensures is { OfEachMachine D.operations self.now (λ m. option_copied result ≡ option_map (λ
-            (t : Ticket). t.at) (ticket_of ticket m.tickets)) }
+        ensures is { OfEachMachine D.operations self.now (λ m. option_copied result ≡ option_map
+            (λ (t : Ticket). t.at) (ticket_of ticket m.tickets)) }
     {
         match self.parts.book.tickets.place_of(ticket) {
             None => None,

@@ -9,7 +9,7 @@ ghost use Rattle.daig_session.specs.Questions.{CoversThere, TicksForThere, Ticks
 ghost use Rattle.daig_session.specs.Questions.{TicksForSomeStep};
 ghost use Rattle.daig_session.specs.Engines.{IsReadyWith, IsUnderWay, ResumesAt, RefusesAt};
 ghost use Rattle.daig_session.specs.Engines.{missing_for, WorksAtMost, IsAdded, TicksForAdded};
-ghost use Rattle.daig_session.specs.Engines.{FillsFirst, GoesOn, HasAll};
+ghost use Rattle.daig_session.specs.Engines.{FillsFirst, GoesOn, HasAll, KeepsSetup};
 
 use crate::asking::{begun, read_answer};
 use crate::book::{Book, Going};
@@ -68,21 +68,20 @@ fn fill_some<D: Domain, L: Ledger>(
 ) -> Result<Progress, Memory>
     requires ready { IsReadyWith D.operations engine.old book.now }
     requires going { IsUnderWay D.operations engine.old book.now going.old }
-    ensures domain { engine.new.domain ≡ engine.old.domain }
-    ensures spare { engine.new.spare ≡ engine.old.spare }
+    ensures setup { KeepsSetup engine.old engine.new }
     ensures fills { FillsFirst D.operations engine.old engine.new book.now going.old }
     ensures adds_few { FillsFew engine.old.store engine.new.store }
     ensures going { GoesOn D.operations engine.old engine.new book.now going.old going.new }
     ensures counted { IfOk result (λ p. IsAdded engine.old engine.new p.filled) }
-    ensures first { IfOk result (λ p. p.filled ≡ min most (missing_for D.operations engine.old
-        book.now going.old)) }
-    ensures done { IfOk result (λ p. IsTrue p.done ↔ (missing_for D.operations engine.old book.now
-        going.old ≤ most)) }
-    ensures filled { IfOk result (λ p. IsTrue p.done → HasAll D.operations engine.old engine.new
-        book.now going.old going.new) }
+    ensures first { IfOk result
+        (λ p. p.filled ≡ min most (missing_for D.operations engine.old book.now going.old)) }
+    ensures done { IfOk result
+        (λ p. IsTrue p.done ↔ (missing_for D.operations engine.old book.now going.old ≤ most)) }
+    ensures filled { IfOk result (λ p. IsTrue p.done →
+        HasAll D.operations engine.old engine.new book.now going.old going.new) }
     ensures least { steps.old ≤ steps.new }
-    ensures ticked { IfOk result (λ p. WorksAtMost D.counted engine.old steps.old steps.new
-        p.filled) }
+    ensures ticked { IfOk result
+        (λ p. WorksAtMost D.counted engine.old steps.old steps.new p.filled) }
     ensures ticked_filled { TicksForAdded engine.old engine.new D.counted steps.old steps.new }
 {
     let flow = book.flow();
@@ -104,15 +103,14 @@ impl<D: Domain> Parts<D> {
         requires there { IsAtPlace (D.operations self.old.engine.domain) self.old.engine.store
             self.old.book place going }
         ensures ready { IsReadyBy D.operations self.new }
-        ensures domain { self.new.engine.domain ≡ self.old.engine.domain }
-        ensures spare { self.new.engine.spare ≡ self.old.engine.spare }
+        ensures setup { KeepsSetup self.old.engine self.new.engine }
         ensures adds_few { FillsFew self.old.engine.store self.new.engine.store }
         ensures next_ticket { KeepsNextTicket self.old self.new }
         ensures steps { StepsThere D.operations self.old self.new place most result }
         ensures sound { CoversThere D.operations self.old self.new place D.covers result }
         ensures least { steps.old ≤ steps.new }
-        ensures ticked { TicksForThere D.operations self.old self.new place D.counted steps.old
-            steps.new result }
+        ensures ticked { TicksForThere D.operations self.old self.new place D.counted
+            steps.old steps.new result }
         ensures ticked_filled { TicksForSomeThere D.operations self.old self.new place D.counted
             steps.old steps.new }
     {
@@ -140,15 +138,14 @@ impl<D: Domain> Parts<D> {
     ) -> Result<StepResult<D::State>, StepError>
         requires ready { IsReadyBy D.operations self.old }
         ensures ready { IsReadyBy D.operations self.new }
-        ensures domain { self.new.engine.domain ≡ self.old.engine.domain }
-        ensures spare { self.new.engine.spare ≡ self.old.engine.spare }
+        ensures setup { KeepsSetup self.old.engine self.new.engine }
         ensures adds_few { FillsFew self.old.engine.store self.new.engine.store }
         ensures next_ticket { KeepsNextTicket self.old self.new }
         ensures steps { StepsFrom D.operations self.old self.new ticket most result }
         ensures sound { CoversStep D.operations self.old self.new ticket D.covers result }
         ensures least { steps.old ≤ steps.new }
-        ensures ticked { TicksForStep D.operations self.old self.new ticket D.counted steps.old
-            steps.new result }
+        ensures ticked { TicksForStep D.operations self.old self.new ticket D.counted
+            steps.old steps.new result }
         ensures ticked_filled { TicksForSomeStep D.operations self.old self.new ticket D.counted
             steps.old steps.new }
     {
@@ -183,15 +180,14 @@ impl<D: Domain> Session<D> {
         most: u32,
         steps: &mut Steps<L>,
     ) -> Result<StepResult<D::State>, StepError>
-        ensures domain { self.new.engine.domain ≡ self.old.engine.domain }
-        ensures spare { self.new.engine.spare ≡ self.old.engine.spare }
+        ensures setup { KeepsSetup self.old.engine self.new.engine }
         ensures bounded { IsWithinBound self.new }
         ensures next_ticket { KeepsNextTicket self.old self.new }
         ensures steps { StepsFrom D.operations self.old self.new ticket most result }
         ensures sound { CoversStep D.operations self.old self.new ticket D.covers result }
         ensures least { steps.old ≤ steps.new }
-        ensures ticked { TicksForStep D.operations self.old self.new ticket D.counted steps.old
-            steps.new result }
+        ensures ticked { TicksForStep D.operations self.old self.new ticket D.counted
+            steps.old steps.new result }
         ensures ticked_filled { TicksForSomeStep D.operations self.old self.new ticket D.counted
             steps.old steps.new }
     {

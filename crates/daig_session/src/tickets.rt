@@ -3,7 +3,7 @@ ghost use Rattle.std.specs.Prelude.{◌≡◌, ◌+◌, ◌<◌, ◌≤◌, ◌^
 ghost use Rattle.daig_tickets.specs.Tickets.{anew};
 ghost use Rattle.daig_session.specs.Books.{flow_in, OfTicketAt, RemakesAt, come_to};
 ghost use Rattle.daig_session.specs.Sessions.{IsReadyBy, KeepsNextTicket};
-ghost use Rattle.daig_session.specs.Engines.{HasCome};
+ghost use Rattle.daig_session.specs.Engines.{HasCome, KeepsSetup};
 ghost use Rattle.daig_session.specs.Questions.{OpensFrom, StaysUnopened, CancelsFrom};
 
 use crate::asking::begun;
@@ -56,8 +56,8 @@ impl<D: Domain> Parts<D> {
     fn asked_going(&self, alloc: Global, at: &Location, string: &[u32]) -> Result<Going, AskError>
         requires ready { IsReadyBy D.operations self.now }
         ensures not_full { OnOk result (length self.now.book.tickets.open_ones.items < 16) }
-        ensures going { IfOk result (HasCome D.operations self.now.engine (flow_in self.now.book)
-            at.now string.now) }
+        ensures going { IfOk result
+            (HasCome D.operations self.now.engine (flow_in self.now.book) at.now string.now) }
         ensures unopened { StaysUnopened D.operations self.now at.now string.now result }
     {
         if string.len() > 2 {
@@ -82,8 +82,7 @@ impl<D: Domain> Session<D> {
     /// session is then as it was.
     pub fn ask(&mut self, alloc: Global, at: Location, string: Items<u32>) -> Result<u64, AskError>
         requires room { self.old.book.tickets.next < 2 ^ 63 }
-        ensures domain { self.new.engine.domain ≡ self.old.engine.domain }
-        ensures spare { self.new.engine.spare ≡ self.old.engine.spare }
+        ensures setup { KeepsSetup self.old.engine self.new.engine }
         ensures unmoved { self.new.engine.store ≡ self.old.engine.store }
         ensures rises { self.new.book.tickets.next ≤ self.old.book.tickets.next + 1 }
         ensures opens { OpensFrom D.operations self.old self.new at string result }
@@ -99,8 +98,7 @@ impl<D: Domain> Session<D> {
     ///
     /// [`NoTicket`] exactly where no ticket of this number is open.
     pub fn cancel(&mut self, ticket: u64) -> Result<(), NoTicket>
-        ensures domain { self.new.engine.domain ≡ self.old.engine.domain }
-        ensures spare { self.new.engine.spare ≡ self.old.engine.spare }
+        ensures setup { KeepsSetup self.old.engine self.new.engine }
         ensures unmoved { self.new.engine.store ≡ self.old.engine.store }
         ensures next_ticket { KeepsNextTicket self.old self.new }
         ensures cancels { CancelsFrom D.operations self.old self.new ticket result }

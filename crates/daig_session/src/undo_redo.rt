@@ -3,6 +3,7 @@ ghost use Rattle.std.specs.Prelude.{◌≡◌, IfOk, IfErr, OnErr, OnOk};
 ghost use Rattle.daig_session.specs.Sessions.{IsReadyBy, KeepsNextTicket, IsWithinBound};
 ghost use Rattle.daig_session.specs.Sides.{programs_of, IsMovingAlong, GoesAlong};
 ghost use Rattle.daig_session.specs.Turns.{IsStopped};
+ghost use Rattle.daig_session.specs.Engines.{KeepsSetup};
 
 use crate::book::Side;
 use crate::error::UndoError;
@@ -31,8 +32,7 @@ impl<D: Domain> Parts<D> {
     fn go(&mut self, alloc: Global, side: Side) -> Result<u32, UndoError>
         requires ready { IsReadyBy D.operations self.old }
         ensures ready { IsReadyBy D.operations self.new }
-        ensures domain { self.new.engine.domain ≡ self.old.engine.domain }
-        ensures spare { self.new.engine.spare ≡ self.old.engine.spare }
+        ensures setup { KeepsSetup self.old.engine self.new.engine }
         ensures bounded { OnOk result (IsWithinBound self.new) }
         ensures unmoved { OnErr result (self.new.engine.store ≡ self.old.engine.store) }
         ensures next_ticket { KeepsNextTicket self.old self.new }
@@ -54,8 +54,7 @@ impl<D: Domain> Session<D> {
     /// [`UndoError::Nothing`] exactly where no program is before the present one, and [`UndoError::Memory`] when memory runs
     /// out. The session is then as it was.
     pub fn undo(&mut self, alloc: Global) -> Result<u32, UndoError>
-        ensures domain { self.new.engine.domain ≡ self.old.engine.domain }
-        ensures spare { self.new.engine.spare ≡ self.old.engine.spare }
+        ensures setup { KeepsSetup self.old.engine self.new.engine }
         ensures bounded { OnOk result (IsWithinBound self.new) }
         ensures unmoved { OnErr result (self.new.engine.store ≡ self.old.engine.store) }
         ensures next_ticket { KeepsNextTicket self.old self.new }
@@ -71,8 +70,7 @@ impl<D: Domain> Session<D> {
     /// [`UndoError::Nothing`] exactly where no program is after the present one, and [`UndoError::Memory`] when memory runs
     /// out. The session is then as it was.
     pub fn redo(&mut self, alloc: Global) -> Result<u32, UndoError>
-        ensures domain { self.new.engine.domain ≡ self.old.engine.domain }
-        ensures spare { self.new.engine.spare ≡ self.old.engine.spare }
+        ensures setup { KeepsSetup self.old.engine self.new.engine }
         ensures bounded { OnOk result (IsWithinBound self.new) }
         ensures unmoved { OnErr result (self.new.engine.store ≡ self.old.engine.store) }
         ensures next_ticket { KeepsNextTicket self.old self.new }

@@ -27,7 +27,7 @@ fill_now-requires g c =
 pub returns-clause-bounded : goal.returns-clause-bounded
 returns-clause-bounded g c =
     let new = c.fill_now.new.self.engine in
-    subst (λ n. IsBounded n new.store) (sym (c.fill_now.ensures.spare ∙ c.sweep.ensures.spare))
+    subst (λ n. IsBounded n new.store) (sym (c.fill_now.ensures.setup.1 ∙ c.sweep.ensures.spare))
     (filled-bounded c.args.self.now.engine.spare c.sweep.new.self.store new.store c.sweep.ensures.bounded c.fill_now.ensures.adds_few)
 
 pub returns-clause-filled : goal.returns-clause-filled

@@ -51,7 +51,7 @@ returns-in_err-count-clause-ready g c =
     let ops = g.D.Domain.operations in
     let new = c.fill_all.new.engine.store in
     let ts = map target_of c.in_ok-going.going.targets in
-    subst (λ d. IsReady (ops d) new s.book) (sym c.fill_all.ensures.domain) (fills_ready (ops s.engine.domain) s.book s.engine.store new ts (cells_added s.engine.store new) c.requires.ready c.fill_all.ensures.fills)
+    subst (λ d. IsReady (ops d) new s.book) (sym c.fill_all.ensures.setup.0) (fills_ready (ops s.engine.domain) s.book s.engine.store new ts (cells_added s.engine.store new) c.requires.ready c.fill_all.ensures.fills)
 
 pub returns-in_err-count-clause-fails : goal.returns-in_err-count-clause-fails
 returns-in_err-count-clause-fails g c = λ m h.
@@ -64,7 +64,7 @@ returns-in_err-count-clause-fails g c = λ m h.
     let ts = map target_of c.in_ok-going.going.targets in
     let going = subst (λ (p : Plan). IsGoing dom p s.engine.store l string c.in_ok-going.going) c.flow-flow.ensures.is c.in_ok-going.ensures.going in
     let p = err_from_is_err_and c.from_residual-in_err-count.result c.from_residual-in_err-count.ensures.1 in
-    rw (p.1, p.2) (subst (λ d. IsBetween (missing_at dom l string m) m (Holds (ops d) new s.book)) (sym c.fill_all.ensures.domain) (
+    rw (p.1, p.2) (subst (λ d. IsBetween (missing_at dom l string m) m (Holds (ops d) new s.book)) (sym c.fill_all.ensures.setup.0) (
     between_some dom s.book s.engine.store new l string ts (cells_added s.engine.store new) c.requires.ready.right.checked going.asked c.fill_all.ensures.fills (c.questions_keep_cells.ensures.question s.engine.domain) m h))
 
 pub returns-clause-ready : goal.returns-clause-ready
@@ -73,7 +73,7 @@ returns-clause-ready g c =
     let ops = g.D.Domain.operations in
     let new = c.fill_all.new.engine.store in
     let ts = map target_of c.in_ok-going.going.targets in
-    subst (λ d. IsReady (ops d) new s.book) (sym c.fill_all.ensures.domain) (fills_ready (ops s.engine.domain) s.book s.engine.store new ts (cells_added s.engine.store new) c.requires.ready c.fill_all.ensures.fills)
+    subst (λ d. IsReady (ops d) new s.book) (sym c.fill_all.ensures.setup.0) (fills_ready (ops s.engine.domain) s.book s.engine.store new ts (cells_added s.engine.store new) c.requires.ready c.fill_all.ensures.fills)
 
 pub returns-clause-targets : goal.returns-clause-targets
 returns-clause-targets g c =
@@ -119,5 +119,5 @@ returns-clause-unanswered g c = λ m h.
     let going = subst (λ (p : Plan). IsGoing dom p s.engine.store l string c.in_ok-going.going) c.flow-flow.ensures.is c.in_ok-going.ensures.going in
     let ops = g.D.Domain.operations in
     let new = c.fill_all.new.engine.store in
-    subst (λ d. IsBetween (missing_at dom l string m) m (Holds (ops d) new s.book)) (sym c.fill_all.ensures.domain) (
+    subst (λ d. IsBetween (missing_at dom l string m) m (Holds (ops d) new s.book)) (sym c.fill_all.ensures.setup.0) (
     between_some dom s.book s.engine.store new l string (map target_of c.in_ok-going.going.targets) (cells_added s.engine.store new) c.requires.ready.right.checked going.asked c.fill_all.ensures.fills (c.questions_keep_cells.ensures.question s.engine.domain) m h)

@@ -100,7 +100,7 @@ returns-clause-found g c =
     let f = c.in_ok-finding.finding in
     on_ok c.push.result c.push.ensures.added (λ a m h. (
     found_one dom m n there.0 there.1 (checked_at m.program n) c.args.found.now c.push.new.self f (checked_is dom s.engine.store s.book m n h there) a (
-    subst (λ d. f ≡ record { id = n; check = kind_of there.1; verdict = verdict_on (ops d) m.engine there.0 (answer_at dom (Before n) [] m) }) c.known_before.ensures.domain (
+    subst (λ d. f ≡ record { id = n; check = kind_of there.1; verdict = verdict_on (ops d) m.engine there.0 (answer_at dom (Before n) [] m) }) c.known_before.ensures.setup.0 (
     c.in_ok-finding.ensures.is m.engine (answer_at dom (Before n) [] m) there.0 there.1 (c.in_ok-known.ensures.tells m h) (ap (λ (ps : List Procedure). checked_at ps n) c.known_before.ensures.program ∙ there.2)))))
 
 pub returns-clause-ticked : goal.returns-clause-ticked

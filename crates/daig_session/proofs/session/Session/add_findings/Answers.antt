@@ -26,8 +26,8 @@ loop-stmt-preserved g c =
     let stands = λ (m : Machine) (h : Holds dom old.engine.store old.book m). subst (λ d. Holds (ops d) mid.engine.store mid.book (then m)) (sym inv.domain) (inv.all m h) in
     record {
       ready = c.ready-in-loop-stmt.ensures.ready;
-      domain = c.add_finding-added.ensures.domain ∙ inv.domain;
-      spare = c.add_finding-added.ensures.spare ∙ inv.spare;
+      domain = c.add_finding-added.ensures.setup.0 ∙ inv.domain;
+      spare = c.add_finding-added.ensures.setup.1 ∙ inv.spare;
       stays_bounded = λ b. c.add_finding-added.ensures.stays_bounded (inv.stays_bounded b);
       all = λ m h. next_all dom m ns i n there mid.book.cost new.engine.store new.book (subst (λ d. HoldsAll (ops d) (then m) new.engine.store new.book (checked_at m.program n)) inv.domain (c.in_ok-added.ensures.keeps_all (then m) (stands m h)));
       found = λ m h. next_found dom m ns i n there c.args.found.now c.loop-stmt.found c.add_finding-added.new.found (inv.found m h) (subst (λ d. c.add_finding-added.new.found ≡ c.loop-stmt.found ++ findings (ops d) (then m) (checked_at m.program n)) inv.domain (c.in_ok-added.ensures.found (then m) (stands m h)));
@@ -110,7 +110,7 @@ returns-in_err-added-clause-ticked_filled g c = λ m h.
     let stands = λ (m : Machine) (h : Holds dom old.engine.store old.book m). subst (λ d. Holds (ops d) mid.engine.store mid.book (then m)) (sym inv.domain) (inv.all m h) in
     failed_most dom m ns i n there old.engine.store mid.engine.store new.engine.store old.book mid.book new.book c.args.steps.now c.loop-stmt.steps c.add_finding-added.new.steps (g.D.Domain.counted old.engine.domain) c.ready.ensures.ready h
     (subst (λ d. IsReady (ops d) mid.engine.store mid.book) inv.domain inv.ready) (inv.all m h)
-    (subst (λ d. IsReady (ops d) new.engine.store new.book) (c.add_finding-added.ensures.domain ∙ inv.domain) c.ready-in-loop-stmt.ensures.ready)
+    (subst (λ d. IsReady (ops d) new.engine.store new.book) (c.add_finding-added.ensures.setup.0 ∙ inv.domain) c.ready-in-loop-stmt.ensures.ready)
     (subst (λ d. HoldsPart (ops d) (then m) new.engine.store new.book (checked_at m.program n)) inv.domain (c.add_finding-added.ensures.keeps_part (then m) (stands m h)))
     (inv.ticked m h)
     (subst (λ d. c.add_finding-added.new.steps ≤ c.loop-stmt.steps + g.D.Domain.counted d * suc (cells_added mid.engine.store new.engine.store + 2 * chain_count (routines_of m.program) (checked_at m.program n))) inv.domain (c.add_finding-added.ensures.ticked_filled (then m) (stands m h)))

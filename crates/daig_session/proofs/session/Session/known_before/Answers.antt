@@ -22,7 +22,7 @@ returns-in-Ok-clause-program g c =
     let n = c.args.id in
     same_program dom s.engine.store new.engine.store s.book new.book (λ _. checked_one n Skip (Some (IsCell 0))) c.ready.ensures.ready (λ m h. (
     one_asked dom m n Skip (IsCell 0) new.engine.store new.book (checked_here dom s.engine.store s.book m h c.ready.ensures.ready.order.fine.fit) c.query.result (
-    subst (λ d. Questions dom m (Holds (ops d) new.engine.store new.book) (Before n) [] c.query.result) c.query.ensures.domain (c.query.ensures.answers m h))))
+    subst (λ d. Questions dom m (Holds (ops d) new.engine.store new.book) (Before n) [] c.query.result) c.query.ensures.setup.0 (c.query.ensures.answers m h))))
 
 pub returns-in-Ok-clause-keeps_part : goal.returns-in-Ok-clause-keeps_part
 returns-in-Ok-clause-keeps_part g c = λ m e k h.
@@ -32,7 +32,7 @@ returns-in-Ok-clause-keeps_part g c = λ m e k h.
     let new = c.query.new.self in
     let n = c.args.id in
     one_asked dom m n e k new.engine.store new.book (checked_here dom s.engine.store s.book m h c.ready.ensures.ready.order.fine.fit) c.query.result (
-    subst (λ d. Questions dom m (Holds (ops d) new.engine.store new.book) (Before n) [] c.query.result) c.query.ensures.domain (c.query.ensures.answers m h))
+    subst (λ d. Questions dom m (Holds (ops d) new.engine.store new.book) (Before n) [] c.query.result) c.query.ensures.setup.0 (c.query.ensures.answers m h))
 
 pub returns-in-Err-Refused-clause-program : goal.returns-in-Err-Refused-clause-program
 returns-in-Err-Refused-clause-program g c =
@@ -43,7 +43,7 @@ returns-in-Err-Refused-clause-program g c =
     let n = c.args.id in
     same_program dom s.engine.store new.engine.store s.book new.book (λ _. checked_one n Skip (Some (IsCell 0))) c.ready.ensures.ready (λ m h. (
     one_asked dom m n Skip (IsCell 0) new.engine.store new.book (checked_here dom s.engine.store s.book m h c.ready.ensures.ready.order.fine.fit) c.query.result (
-    subst (λ d. Questions dom m (Holds (ops d) new.engine.store new.book) (Before n) [] c.query.result) c.query.ensures.domain (c.query.ensures.answers m h))))
+    subst (λ d. Questions dom m (Holds (ops d) new.engine.store new.book) (Before n) [] c.query.result) c.query.ensures.setup.0 (c.query.ensures.answers m h))))
 
 pub returns-in-Err-Refused-clause-keeps_part : goal.returns-in-Err-Refused-clause-keeps_part
 returns-in-Err-Refused-clause-keeps_part g c = λ m e k h.
@@ -53,7 +53,7 @@ returns-in-Err-Refused-clause-keeps_part g c = λ m e k h.
     let new = c.query.new.self in
     let n = c.args.id in
     one_asked dom m n e k new.engine.store new.book (checked_here dom s.engine.store s.book m h c.ready.ensures.ready.order.fine.fit) c.query.result (
-    subst (λ d. Questions dom m (Holds (ops d) new.engine.store new.book) (Before n) [] c.query.result) c.query.ensures.domain (c.query.ensures.answers m h))
+    subst (λ d. Questions dom m (Holds (ops d) new.engine.store new.book) (Before n) [] c.query.result) c.query.ensures.setup.0 (c.query.ensures.answers m h))
 
 pub returns-clause-program : goal.returns-clause-program
 returns-clause-program g c =
@@ -64,7 +64,7 @@ returns-clause-program g c =
     let n = c.args.id in
     same_program dom s.engine.store new.engine.store s.book new.book (λ _. checked_one n Skip (Some (IsCell 0))) c.ready.ensures.ready (λ m h. (
     one_asked dom m n Skip (IsCell 0) new.engine.store new.book (checked_here dom s.engine.store s.book m h c.ready.ensures.ready.order.fine.fit) c.query.result (
-    subst (λ d. Questions dom m (Holds (ops d) new.engine.store new.book) (Before n) [] c.query.result) c.query.ensures.domain (c.query.ensures.answers m h))))
+    subst (λ d. Questions dom m (Holds (ops d) new.engine.store new.book) (Before n) [] c.query.result) c.query.ensures.setup.0 (c.query.ensures.answers m h))))
 
 pub returns-clause-keeps_part : goal.returns-clause-keeps_part
 returns-clause-keeps_part g c = λ m e k h.
@@ -74,7 +74,7 @@ returns-clause-keeps_part g c = λ m e k h.
     let new = c.query.new.self in
     let n = c.args.id in
     one_asked dom m n e k new.engine.store new.book (checked_here dom s.engine.store s.book m h c.ready.ensures.ready.order.fine.fit) c.query.result (
-    subst (λ d. Questions dom m (Holds (ops d) new.engine.store new.book) (Before n) [] c.query.result) c.query.ensures.domain (c.query.ensures.answers m h))
+    subst (λ d. Questions dom m (Holds (ops d) new.engine.store new.book) (Before n) [] c.query.result) c.query.ensures.setup.0 (c.query.ensures.answers m h))
 
 pub returns-in-Ok-clause-keeps_all : goal.returns-in-Ok-clause-keeps_all
 returns-in-Ok-clause-keeps_all g c = λ m e k h.
@@ -83,7 +83,7 @@ returns-in-Ok-clause-keeps_all g c = λ m e k h.
     let dom = ops s.engine.domain in
     let new = c.query.new.self in
     let n = c.args.id in
-    one_answered dom m n e k new.engine.store new.book (subst (λ d. Holds (ops d) new.engine.store new.book (after_question dom (Before n) [] m)) c.query.ensures.domain (c.in-Ok.ensures.answers m h).1)
+    one_answered dom m n e k new.engine.store new.book (subst (λ d. Holds (ops d) new.engine.store new.book (after_question dom (Before n) [] m)) c.query.ensures.setup.0 (c.in-Ok.ensures.answers m h).1)
 
 pub returns-in-Ok-clause-tells : goal.returns-in-Ok-clause-tells
 returns-in-Ok-clause-tells g c = λ m h. (c.in-Ok.ensures.answers m h).0
@@ -102,7 +102,7 @@ returns-in-Err-Refused-clause-keeps_all g c = λ m e k h.
     let new = c.query.new.self in
     let n = c.args.id in
     let q = subst (λ (r : QueryError). Questions dom m (Holds (ops new.engine.domain) new.engine.store new.book) (Before n) [] (Err r)) c.in-Err-Refused.field-0-is (c.in-Err-Refused.ensures.answers m h) in
-    one_refused dom m n e k new.engine.store new.book c.in-Err-Refused.why (checked_here dom s.engine.store s.book m h c.ready.ensures.ready.order.fine.fit) q.0 (subst (λ d. Holds (ops d) new.engine.store new.book m) c.query.ensures.domain q.1)
+    one_refused dom m n e k new.engine.store new.book c.in-Err-Refused.why (checked_here dom s.engine.store s.book m h c.ready.ensures.ready.order.fine.fit) q.0 (subst (λ d. Holds (ops d) new.engine.store new.book m) c.query.ensures.setup.0 q.1)
 
 pub returns-in-Err-Refused-clause-tells : goal.returns-in-Err-Refused-clause-tells
 returns-in-Err-Refused-clause-tells g c = λ m h.

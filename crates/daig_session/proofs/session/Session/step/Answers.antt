@@ -27,7 +27,7 @@ step_now-requires g c =
 pub returns-clause-bounded : goal.returns-clause-bounded
 returns-clause-bounded g c =
     let new = c.step_now.new.self.engine in
-    subst (λ n. IsBounded n new.store) (sym (c.step_now.ensures.spare ∙ c.sweep.ensures.spare))
+    subst (λ n. IsBounded n new.store) (sym (c.step_now.ensures.setup.1 ∙ c.sweep.ensures.spare))
     (filled-bounded c.self.inside.parts.engine.spare c.sweep.new.self.store new.store c.sweep.ensures.bounded c.step_now.ensures.adds_few)
 
 pub returns-clause-steps : goal.returns-clause-steps
