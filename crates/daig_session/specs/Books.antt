@@ -1,14 +1,16 @@
 -- What a session keeps beside its engine.
-use Rattle.std.specs.Prelude.{◌≡◌, ℕ, ◌<◌, ◌≤◌, List, [], ◌∷◌, map, Some, slice_get, slice_set}
+use Rattle.std.specs.Prelude.{◌≡◌, ℕ, ◌<◌, ◌≤◌, List, [], ◌∷◌, map, take, Some, slice_get, slice_set}
 use Rattle.std.specs.List.{All}
 use Rattle.imp_syntax.specs.Plain.{Procedure, program_numbers}
 use Rattle.imp_check.specs.Fine.{IsFine}
 use Rattle.imp_check.specs.Slots.{routines_of}
 use Rattle.batch_meaning.specs.Batch.{LoopOptions}
-use Rattle.call_contexts.specs.Settings.{setting_of}
+use Rattle.imp_table.specs.declared.change.Change.{Change}
+use Rattle.call_contexts.specs.Settings.{setting_of, Setting}
 use Rattle.cell_names.specs.Paths.{CellName}
 use Rattle.imp_flow.specs.Plans.{Plan}
 use Rattle.edit_keeps.specs.Apart.{IsEdited, flow_of}
+use Rattle.edit_history.specs.After.{changed_program, Leads}
 use Rattle.daig_machine.specs.Machine.{Machine}
 use Rattle.daig_tickets.specs.Tickets.{anew, tickets, AreOpen}
 use Rattle.daig_tickets.specs.declared.tickets.OpenTicket.{OpenTicket}
@@ -22,6 +24,22 @@ flow_in b = flow_of b.setting.engine b.history.now
 -- the setting is that of the present program
 abbrev pub IsSet : Book → Type 0
 IsSet b = b.setting ≡ setting_of b.setting.engine (routines_of b.history.now)
+
+-- the setting of a program, by how its loops are interpreted, ..
+abbrev pub IsSettingOf : LoopOptions → List Procedure → Setting → Type 0
+IsSettingOf engine program setting = setting ≡ setting_of engine (routines_of program)
+
+-- .. which stays as it is in a book
+abbrev pub IsSetFor : Book → List Procedure → Setting → Type 0
+IsSetFor b program setting = IsSettingOf b.setting.engine program setting
+
+-- A change leads on from the present program, ..
+abbrev pub LeadsFrom : Book → Change → Type 0
+LeadsFrom b change = Leads b.history.places b.history.now change
+
+-- .. to this one.
+abbrev pub program_after : Book → Change → List Procedure
+program_after b change = changed_program b.history.now change
 
 -- the numbers of a program are below the next one
 abbrev pub AreBelow : (next : ℕ) → List Procedure → Type 0
@@ -48,6 +66,18 @@ pub record IsInOrder (b : Book) : Type 0 where
   pub behind : AreBehind b.next b.history.now b.history.past
   pub ahead : AreAhead b.next b.history.now b.history.future
   pub are_open : AreOpen b.tickets
+
+-- what holds of the ticket at a place
+abbrev pub OfTicketAt : List (OpenTicket Going) → (place : ℕ) → (OpenTicket Going → Type 0) → Type 0
+OfTicketAt tickets place holds = (o : OpenTicket Going) → slice_get tickets place ≡ Some o → holds o
+
+-- The ticket at a place is another one now, made of the one that was there; the others are as they were.
+abbrev pub RemakesAt : (place : ℕ) → (OpenTicket Going → OpenTicket Going) → (old new : List (OpenTicket Going)) → Type 0
+RemakesAt place made old new = OfTicketAt old place (λ o. new ≡ slice_set old place (made o))
+
+-- a ticket that has come so far
+abbrev pub come_to : Going → OpenTicket Going → OpenTicket Going
+come_to going o = record o { going = Some going }
 
 -- the machine with these kept names
 abbrev pub machine_of : Book → (kept : List CellName) → Machine
@@ -85,6 +115,10 @@ pub record IsTurned (old : Book) (program : List Procedure) (past future : List 
   pub anew_all : new.tickets.open_ones.items ≡ map anew old.tickets.open_ones.items
   pub next_ticket : new.tickets.next ≡ old.tickets.next
   pub cost : new.cost ≡ old.cost
+
+-- The program that a change makes is the present one; the one that was is the last of 64 before it, and none is after it.
+abbrev pub IsTurnedBy : (old : Book) → Change → (next : ℕ) → (new : Book) → Type 0
+IsTurnedBy old change next new = IsTurned old (program_after old change) (take 64 (old.history.now ∷ old.history.past)) [] next new
 
 -- The ticket at a place begins anew; all else is as it was.
 pub record IsWithout (place : ℕ) (old new : Book) : Type 0 where

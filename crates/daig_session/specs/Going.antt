@@ -8,6 +8,7 @@ use Rattle.batch_meaning.specs.Values as plain
 use Rattle.cell_rows.specs.Targets.{Target, targets}
 use Rattle.imp_flow.specs.Plans.{Plan}
 use Rattle.imp_flow.specs.Reached.{target_of}
+use Rattle.imp_flow.specs.declared.steps.Target.{Target as Reached}
 use Rattle.daig_query.specs.declared.store.Store.{Store}
 use Rattle.daig_query.specs.Walked.{IsGood}
 use Rattle.daig_tickets.specs.declared.tickets.OpenTicket.{OpenTicket}
@@ -22,6 +23,10 @@ pub record IsAsked (program : List Routine) (l : Location) (string : List ℕ) (
   pub are : targets program place l string ≡ Some ts
   pub some : ts ≡ [] → ⊥
   pub short : nat_lt 2 (length string) ≡ false
+
+-- these are the targets of a question, as they are computed
+abbrev pub AreAsked : List Routine → Location → (string : List ℕ) → List Reached → Type 0
+AreAsked program l string ts = IsAsked program l string (map target_of ts)
 
 -- an answer that is no refusal, and the refusal that an error tells
 abbrev pub IsAnswered : {S : Type 0} → Answer S → Type 0

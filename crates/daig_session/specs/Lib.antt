@@ -1,4 +1,5 @@
 pub mod Books
+pub mod Engines
 pub mod Going
 pub mod Holds
 pub mod Moves

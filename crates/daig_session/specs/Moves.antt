@@ -3,6 +3,7 @@ use Rattle.std.specs.Prelude.{◌≡◌, ◌↔◌, ℕ, ◌≤◌, true, List, 
 use Rattle.imp_syntax.specs.Plain.{Procedure}
 use Rattle.imp_syntax.specs.declared.edit.Edit.{Edit}
 use Rattle.imp_check.specs.Slots.{routines_of}
+use Rattle.imp_table.specs.Tabled.{Tabled}
 use Rattle.imp_table.specs.declared.change.Change.{Change}
 use Rattle.imp_edit.specs.Edited.{edited, next_after, Continues}
 use Rattle.imp_edit.specs.Refusals.{edit_refusal, IsRefusal}
@@ -18,8 +19,9 @@ use Rattle.cell_graph.specs.Same.{same_name}
 use Rattle.cell_removal.specs.Removal.{Removes}
 use Rattle.edit_invalidate.specs.Touched.{IsTouched}
 use Rattle.edit_invalidate.specs.Claims.{edit_of}
-use Rattle.edit_keeps.specs.Apart.{flow_of}
+use Rattle.edit_keeps.specs.Apart.{flow_of, AreOneApart}
 use Rattle.edit_history.specs.After.{changed_program, Leads, LeadsOn}
+use Rattle.daig_query.specs.declared.engine.Engine.{Engine}
 use Rattle.daig_query.specs.declared.store.Store.{Store}
 use Rattle.daig_query.specs.Kept.{kept}
 use Rattle.daig_query.specs.Right.{IsRight}
@@ -29,7 +31,7 @@ use Rattle.daig_session.specs.declared.book.Book.{Book}
 use Rattle.daig_session.specs.declared.moving.Moving.{Moving}
 use Rattle.daig_session.specs.declared.edits.Planned.{Planned}
 use Rattle.daig_session.specs.declared.parts.Parts.{Parts}
-use Rattle.daig_session.specs.Books.{AreBelow}
+use Rattle.daig_session.specs.Books.{AreBelow, IsSame}
 use Rattle.daig_session.specs.Sessions.{StandsFor}
 
 -- A plan of removal takes away what the change from one program to the other empties.
@@ -38,10 +40,23 @@ pub record Empties {S : Type 0} (old new : Plan) (store : Store S) (plan : List 
   pub changed : AreChanged old new stmts
   pub removes : Removes store.graph.cells (IsTouched old new store.names.names store.graph.cells stmts) plan
 
+-- The change leads on from a table's program.
+abbrev pub LeadsIn : Tabled → Change → Type 0
+LeadsIn table change = Leads table.places table.program change
+
+-- A plan takes away what the change empties.
+abbrev pub EmptiesBy : {S : Type 0} → LoopOptions → Tabled → Change → Store S → (plan : List ℕ) → Type 0
+EmptiesBy engine table change store plan =
+    Empties (flow_of engine table.program) (flow_of engine (changed_program table.program change)) store plan
+
 -- the setting of the program that is moved to, and the plan of what the move empties
 pub record IsMoving {S : Type 0} (store : Store S) (engine : LoopOptions) (old new : List Procedure) (m : Moving) : Type 0 where
   pub set : m.setting ≡ setting_of engine (routines_of new)
   pub empties : Empties (flow_of engine old) (flow_of engine new) store m.plan
+
+-- a move to the program that a change makes
+abbrev pub IsMovingBy : {S : Type 0} → Store S → LoopOptions → Tabled → Change → Moving → Type 0
+IsMovingBy store engine table change m = IsMoving store engine table.program (changed_program table.program change) m
 
 -- a move to the first of these programs
 abbrev pub IsMovingTo : {S : Type 0} → Store S → LoopOptions → List Procedure → List (List Procedure) → Moving → Type 0
@@ -57,6 +72,12 @@ pub record Leaves {S : Type 0} (dom : Operations S) (old new : Plan) (before aft
   pub right : IsRight dom new after
   pub names : (x : CellName) → (kept after x ≡ true) ↔ IsKept dom (edit_of old new) same_name (kept before) x
 
+-- Once a plan has taken away what an edit empties, the kept names are left, and all is right for the new program.
+abbrev pub LeavesBy : {D S : Type 0} → (operations : D → Operations S) → (old new : Engine D S) → (plan : List ℕ) → Type 0
+LeavesBy operations old new plan = (e : LoopOptions) (before after : List Procedure) → AreOneApart before after →
+    IsRight (operations old.domain) (flow_of e before) old.store → Empties (flow_of e before) (flow_of e after) old.store plan →
+    Leaves (operations old.domain) (flow_of e before) (flow_of e after) old.store new.store
+
 -- All that an accepted edit needs is there.
 pub record IsPlanned {S : Type 0} (store : Store S) (book : Book) (e : Edit) (p : Planned) : Type 0 where
   pub leads : Leads book.history.places book.history.now p.edited.change
@@ -70,6 +91,10 @@ pub record IsPlanned {S : Type 0} (store : Store S) (book : Book) (e : Edit) (p 
 -- the same for a session
 abbrev pub IsPlannedFor : {D S : Type 0} → Parts D S → Edit → Planned → Type 0
 IsPlannedFor session e p = IsPlanned session.engine.store session.book e p
+
+-- A session is as it was, except which places the table has.
+abbrev pub IsStill : {D S : Type 0} → (old new : Parts D S) → Type 0
+IsStill old new = (new.engine ≡ old.engine) × IsSame old.book new.book
 
 -- An edit has no fault in the present program, or this one.
 abbrev pub IsAccepted : Book → Edit → Type 0

@@ -1,5 +1,5 @@
 -- What a question does to a session: what it fills, what it answers, and what is counted for it.
-use Rattle.std.specs.Prelude.{◌≡◌, ◌+◌, ◌*◌, ℕ, List, length, map, slice_get, Option, Some, Result, IfOk, IfErr, IfSome, MatchOption}
+use Rattle.std.specs.Prelude.{◌≡◌, ◌+◌, ◌*◌, ℕ, List, length, map, slice_get, Some, Result, Err, IfOk, IfErr, IfSome, MatchOption}
 use Rattle.imp_syntax.specs.declared.edit.Location.{Location}
 use Rattle.imp_check.specs.Slots.{routines_of}
 use Rattle.imp_flow.specs.Reached.{target_of}
@@ -7,24 +7,24 @@ use Rattle.domain_laws.specs.Operations.{Operations}
 use Rattle.concrete_sem.specs.Values.{Variables, Heap}
 use Rattle.daig_graph.specs.declared.value.Value.{Value}
 use Rattle.daig_query.specs.Answered.{AreFilled, Covers}
-use Rattle.daig_query.specs.Filled.{missing}
-use Rattle.daig_query.specs.declared.store.Store.{Store}
 use Rattle.daig_machine.specs.Machine.{Machine, ticket_of}
 use Rattle.daig_machine.specs.Turns.{after_question, missing_at, targets_of, IsBetween}
 use Rattle.why_slice.specs.Claims.{Suffices}
+use Rattle.daig_tickets.specs.declared.tickets.NoTicket.{NoTicket}
 use Rattle.daig_tickets.specs.declared.tickets.OpenTicket.{OpenTicket}
 use Rattle.daig_tickets.specs.Tickets.{ticket as ticket_in}
-use Rattle.daig_session.specs.declared.book.Book.{Book}
 use Rattle.daig_session.specs.declared.book.Going.{Going}
+use Rattle.daig_session.specs.declared.error.AskError.{AskError}
 use Rattle.daig_session.specs.declared.error.QueryError.{QueryError}
 use Rattle.daig_session.specs.declared.error.StepError.{StepError}
 use Rattle.daig_session.specs.declared.parts.Parts.{Parts}
+use Rattle.daig_session.specs.declared.queries.Filled.{Filled}
 use Rattle.daig_session.specs.declared.stepping.StepResult.{StepResult}
 use Rattle.daig_session.specs.Books.{flow_in}
 use Rattle.daig_session.specs.Going.{IsAsked}
 use Rattle.daig_session.specs.Holds.{Holds}
 use Rattle.daig_session.specs.Sessions.{FromEach, StandsFor, TicksAtMost, TicksFilling}
-use Rattle.daig_session.specs.Turns.{work_of, CoversDone, Explains, Fails, IsStep, IsStepOf, Questions}
+use Rattle.daig_session.specs.Turns.{work_of, Cancels, CoversDone, Explains, Fails, IsStep, IsStepOf, Opens, Questions}
 
 -- a question that a session's program has, with these targets
 abbrev pub Asks : {D S : Type 0} → Parts D S → Location → List ℕ → Going → Type 0
@@ -38,13 +38,13 @@ HasFilled operations old new going =
 -- What comes of a question, from each machine that the session stood for.
 module _ {D S : Type 0} (operations : D → Operations S) (old new : Parts D S) (l : Location) (string : List ℕ) where
   -- Just what was missing is filled, ..
-  abbrev pub FillsMissing : {F E : Type 0} → Result F E → (count : F → ℕ) → Type 0
-  FillsMissing result count = FromEach operations old new (λ dom m _. IfOk result (λ f. count f ≡ length (missing_at dom l string m)))
+  abbrev pub FillsMissing : {E : Type 0} → Result Filled E → Type 0
+  FillsMissing result = FromEach operations old new (λ dom m _. IfOk result (λ f. f.count ≡ length (missing_at dom l string m)))
 
   -- .. so that the machine after the question stands, once the cost is told.
-  abbrev pub StandsAnswered : {F E : Type 0} → Result F E → (count : F → ℕ) → Type 0
-  StandsAnswered result count = FromEach operations old new (λ dom m _. IfOk result (λ f.
-      Holds dom new.engine.store (record old.book { cost = count f }) (after_question dom l string m)))
+  abbrev pub StandsAnswered : {E : Type 0} → Result Filled E → Type 0
+  StandsAnswered result = FromEach operations old new (λ dom m _. IfOk result (λ f.
+      Holds dom new.engine.store (record old.book { cost = f.count }) (after_question dom l string m)))
 
   -- Before that some of what was missing is kept.
   abbrev pub StandsBetween : {F E : Type 0} → Result F E → Type 0
@@ -84,6 +84,19 @@ CoversIn covers session l string v = Covers (covers session.engine.domain) (rout
 abbrev pub SufficesIn : {D S : Type 0} → (operations : D → Operations S) → Parts D S → Location → List ℕ → List ℕ → Type 0
 SufficesIn operations session l string = Suffices (operations session.engine.domain) session.book.setting.engine session.book.history.now l string
 
+-- What comes of opening a ticket, from each machine that the session stood for, ..
+abbrev pub OpensFrom : {D S : Type 0} → (operations : D → Operations S) → (old new : Parts D S) → Location → List ℕ → Result ℕ AskError → Type 0
+OpensFrom operations old new l string result = FromEach operations old new (λ dom m stands. Opens dom m stands l string result)
+
+-- .. where an error tells that none is opened, and the session stays, ..
+abbrev pub StaysUnopened : {D S F : Type 0} → (operations : D → Operations S) → Parts D S → Location → List ℕ → Result F AskError → Type 0
+StaysUnopened operations session l string result = FromEach operations session session (λ dom m stands.
+    IfErr result (λ e. Opens dom m stands l string (Err e)))
+
+-- .. and of closing one.
+abbrev pub CancelsFrom : {D S : Type 0} → (operations : D → Operations S) → (old new : Parts D S) → (ticket : ℕ) → Result (Unit {0}) NoTicket → Type 0
+CancelsFrom operations old new ticket result = FromEach operations old new (λ _ m stands. Cancels m stands ticket (ticket_of ticket m.tickets) result)
+
 -- What comes of a step of a ticket, from each machine that the session stood for.
 module _ {D S : Type 0} (operations : D → Operations S) (old new : Parts D S) (ticket : ℕ) where
   abbrev pub StepsFrom : (most : ℕ) → Result (StepResult S) StepError → Type 0
@@ -103,10 +116,6 @@ module _ {D S : Type 0} (operations : D → Operations S) (old new : Parts D S) 
   abbrev pub TicksForSomeStep : (counted : D → ℕ) → (before after : ℕ) → Type 0
   TicksForSomeStep counted before after = (m : Machine) → StandsFor operations old m → MatchOption (ticket_of ticket m.tickets) (after ≡ before) (λ t.
       TicksFilling counted old new before after (2 * length (targets_of m t.at t.string)))
-
--- how many cells are missing for a question that has come so far
-abbrev pub missing_count : {S : Type 0} → Operations S → Book → Going → Store S → ℕ
-missing_count dom book going store = length (missing dom (flow_in book) (map target_of going.targets) store)
 
 -- The same of the ticket at a place.
 module _ {D S : Type 0} (operations : D → Operations S) (old new : Parts D S) (place : ℕ) where

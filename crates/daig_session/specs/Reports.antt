@@ -1,6 +1,7 @@
 -- Reports: the checked statements of a program one after another, what is missing of them in turn, and what is found.
-use Rattle.std.specs.Prelude.{◌≡◌, ℕ, ◌+◌, ◌*◌, List, [], ◌∷◌, ◌++◌, map, take, length, Option, Some, None, Result, Ok, Err, Contains, IfOk, OnOk}
+use Rattle.std.specs.Prelude.{◌≡◌, ℕ, ◌+◌, ◌*◌, List, [], ◌∷◌, ◌++◌, map, take, length, Option, Some, None, Result, Ok, Err, Contains, IfOk, IsSome, OnOk}
 use Rattle.imp_syntax.specs.Plain.{Procedure}
+use Rattle.imp_syntax.specs.declared.edit.Location.TheVariants.{Before}
 use Rattle.imp_slots.specs.Plain.{Act, DoBreak, Does, Effect, Routine}
 use Rattle.imp_slots.specs.ActionViews.{act_of}
 use Rattle.imp_slots.specs.declared.actions.SlotStmt.{SlotStmt}
@@ -13,7 +14,7 @@ use Rattle.base_values.specs.declared.error.Memory.{Memory}
 use Rattle.imp_words.specs.declared.findings.Finding.{Finding}
 use Rattle.imp_words.specs.declared.refusal.QueryRefusal.{QueryRefusal}
 use Rattle.domain_laws.specs.Operations.{Operations}
-use Rattle.domain_laws.specs.Checks.{Check, check_of, kind_of}
+use Rattle.domain_laws.specs.Checks.{Check, check_of, kind_in, kind_of}
 use Rattle.alarm_report.specs.Reporting.{verdict_for}
 use Rattle.alarm_report.specs.declared.Found.{Found}
 use Rattle.batch_meaning.specs.Answers.{Answer, Refuses}
@@ -30,7 +31,7 @@ use Rattle.daig_graph.specs.declared.value.Value.{Value}
 use Rattle.daig_query.specs.declared.store.Store.{Store}
 use Rattle.daig_query.specs.Answered.{Says}
 use Rattle.daig_machine.specs.Machine.{Machine, keeping}
-use Rattle.daig_machine.specs.Turns.{IsBetween, cell_value, is_kept, missing_for_report, after_report}
+use Rattle.daig_machine.specs.Turns.{IsBetween, answer_at, cell_value, is_kept, missing_for_report, after_report}
 use Rattle.daig_session.specs.declared.book.Book.{Book}
 use Rattle.daig_session.specs.declared.error.QueryError.{QueryError}
 use Rattle.daig_session.specs.declared.error.QueryError.TheVariants as query
@@ -67,6 +68,10 @@ checked_at program n = checked_entry n (entry_of (entries_of program) n)
 
 abbrev pub checked_among : List Procedure → List ℕ → List CheckedStatement
 checked_among program ns = checked_by (entry_of (entries_of program)) ns
+
+-- what a statement does has a check
+abbrev pub IsChecked : SlotStmt → Type 0
+IsChecked s = IsSome (kind_in (act_of s))
 
 -- a statement that has a check
 abbrev pub HasCheck : List Procedure → ℕ → Type 0
@@ -155,6 +160,14 @@ module _ {D S : Type 0} (operations : D → Operations S) (old new : Parts D S) 
   -- What is found of them comes after what was found before.
   abbrev pub Finds : (Machine → List CheckedStatement) → (before after : List Finding) → Type 0
   Finds checked before after = FromEach operations old new (λ dom m _. after ≡ before ++ findings dom m (checked m))
+
+  -- All that is found is what is found of all of them.
+  abbrev pub FindsAll : (found : List Finding) → Type 0
+  FindsAll found = FromEach operations old new (λ dom m _. found ≡ findings dom m (all_checked m))
+
+  -- What is known before a statement is the answer there under the empty call string.
+  abbrev pub TellsBefore : ℕ → Result (Value S) QueryRefusal → Type 0
+  TellsBefore id known = FromEach operations old new (λ dom m _. Tells (answer_at dom (Before id) [] m) known)
 
   -- The work for them is counted, ..
   abbrev pub TicksForAll : (counted : D → ℕ) → (Machine → List CheckedStatement) → (before after : ℕ) → Type 0

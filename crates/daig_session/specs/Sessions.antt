@@ -1,10 +1,12 @@
 -- What is said of a session as a whole, by the operations of its domain.
-use Rattle.std.specs.Prelude.{◌≤◌, ◌+◌, ◌*◌, ℕ, suc}
+use Rattle.std.specs.Prelude.{◌≡◌, ◌≤◌, ◌+◌, ℕ, suc, length}
+use Rattle.std.specs.FinMap.{len}
 use Rattle.domain_laws.specs.Operations.{Operations}
 use Rattle.daig_query.specs.Filled.{cells_added}
 use Rattle.daig_query.specs.Swept.{IsBounded}
 use Rattle.daig_machine.specs.Machine.{Machine}
 use Rattle.daig_session.specs.declared.parts.Parts.{Parts}
+use Rattle.daig_session.specs.Engines.{WorksAtMost}
 use Rattle.daig_session.specs.Holds.{Holds, IsReady}
 
 -- Its cells are right for the present program, and all else of it is in order.
@@ -21,13 +23,29 @@ abbrev pub FromEach : {D S : Type 0} → (operations : D → Operations S) → (
 FromEach operations old new comes =
     (m : Machine) → StandsFor operations old m → comes (operations old.engine.domain) m (StandsFor operations new)
 
+-- what holds of each machine that the session stands for
+abbrev pub OfEachMachine : {D S : Type 0} → (operations : D → Operations S) → Parts D S → (Machine → Type 0) → Type 0
+OfEachMachine operations session holds = (m : Machine) → StandsFor operations session m → holds m
+
+-- The number of the next ticket stays.
+abbrev pub KeepsNextTicket : {D S : Type 0} → (old new : Parts D S) → Type 0
+KeepsNextTicket old new = new.book.tickets.next ≡ old.book.tickets.next
+
+-- The states and operations that are kept are within their bound, by the number of its cells.
+abbrev pub IsWithinBound : {D S : Type 0} → Parts D S → Type 0
+IsWithinBound session = IsBounded session.engine.spare session.engine.store
+
+-- There are no more names than cells.
+abbrev pub HasNamesOfCells : {D S : Type 0} → Parts D S → Type 0
+HasNamesOfCells session = length session.engine.store.names.names ≤ len session.engine.store.graph.cells
+
 -- how many cells a call fills
 abbrev pub cells_filled : {D S : Type 0} → (old new : Parts D S) → ℕ
 cells_filled old new = cells_added old.engine.store new.engine.store
 
 -- So much work is counted at most, each piece as one operation of the session's domain.
 abbrev pub TicksAtMost : {D S : Type 0} → (counted : D → ℕ) → Parts D S → (before after work : ℕ) → Type 0
-TicksAtMost counted session before after work = after ≤ before + counted session.engine.domain * work
+TicksAtMost counted session before after work = WorksAtMost counted session.engine before after work
 
 -- What is counted for a call: an operation for each cell that it fills, one more, and so much beside.
 abbrev pub TicksFilling : {D S : Type 0} → (counted : D → ℕ) → (old new : Parts D S) → (before after beside : ℕ) → Type 0
@@ -35,7 +53,7 @@ TicksFilling counted old new before after beside = TicksAtMost counted old befor
 
 -- A call leaves the kept cells within their bound where they were.
 abbrev pub StaysBounded : {D S : Type 0} → (old new : Parts D S) → Type 0
-StaysBounded old new = IsBounded old.engine.spare old.engine.store → IsBounded new.engine.spare new.engine.store
+StaysBounded old new = IsWithinBound old → IsWithinBound new
 
 -- The same with nothing beside.
 abbrev pub TicksForFilled : {D S : Type 0} → (counted : D → ℕ) → (old new : Parts D S) → (before after : ℕ) → Type 0

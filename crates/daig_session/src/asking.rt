@@ -1,13 +1,8 @@
 //! Questions, and their answers from cells.
-ghost use Rattle.std.specs.Prelude.{ℕ, ◌+◌, ◌*◌, ◌≤◌, List, length, map, Some, IfOk, IfErr};
-ghost use Rattle.imp_syntax.specs.declared.edit.Location.{Location};
-ghost use Rattle.batch_meaning.specs.Answers.{answer};
-ghost use Rattle.cell_rows.specs.Targets.{Target as PlainTarget};
-ghost use Rattle.imp_flow.specs.Plans.{Plan};
-ghost use Rattle.imp_flow.specs.Reached.{target_of};
-ghost use Rattle.daig_query.specs.Answered.{AreFilled, Covers, Says};
-ghost use Rattle.daig_query.specs.Right.{IsRight};
-ghost use Rattle.daig_session.specs.Going.{IsAsked, IsGoing, IsRefused};
+ghost use Rattle.std.specs.Prelude.{◌≤◌, IfOk, IfErr};
+ghost use Rattle.daig_session.specs.Going.{AreAsked};
+ghost use Rattle.daig_session.specs.Engines.{IsRightFor, HasCome, RefusesBy, IsFilledForOne};
+ghost use Rattle.daig_session.specs.Engines.{SaysForFilled, CoversForFilled, TicksForTargets};
 
 use crate::book::Going;
 use crate::error::QueryError;
@@ -31,12 +26,9 @@ fn asked_targets<D: Domain>(
     at: &Location,
     string: &[u32],
 ) -> Result<Items<Target>, QueryError>
-    requires right { IsRight (D.operations engine.now.domain) flow.now engine.now.store }
-    ensures asked { IfOk result (λ ts. IsAsked flow.now.program at.now string.now
-        (map target_of ts)) }
-    ensures refused { IfErr result (IsRefused
-        (answer (D.operations engine.now.domain) flow.now.engine flow.now.program at.now
-        string.now)) }
+    requires right { IsRightFor D.operations engine.now flow.now }
+    ensures asked { IfOk result (AreAsked flow.now.program at.now string.now) }
+    ensures refused { IfErr result (RefusesBy D.operations engine.now flow.now at.now string.now) }
 {
     let _domain = engine.domain();
     if string.len() > 2 {
@@ -61,12 +53,9 @@ pub(crate) fn begun<D: Domain>(
     at: &Location,
     string: &[u32],
 ) -> Result<Going, QueryError>
-    requires right { IsRight (D.operations engine.now.domain) flow.now engine.now.store }
-    ensures going { IfOk result (IsGoing (D.operations engine.now.domain) flow.now engine.now.store
-        at.now string.now) }
-    ensures refused { IfErr result (IsRefused
-        (answer (D.operations engine.now.domain) flow.now.engine flow.now.program at.now
-        string.now)) }
+    requires right { IsRightFor D.operations engine.now flow.now }
+    ensures going { IfOk result (HasCome D.operations engine.now flow.now at.now string.now) }
+    ensures refused { IfErr result (RefusesBy D.operations engine.now flow.now at.now string.now) }
 {
     let targets = asked_targets(alloc, engine, flow, at, string)?;
     let walk = Walk::new(alloc);
@@ -80,22 +69,11 @@ pub(crate) fn read_answer<D: Domain, L: Ledger>(
     walk: &Walk,
     steps: &mut Steps<L>,
 ) -> Result<Value<D::State>, Memory>
-    requires filled { (plan : Plan) × (l : Location) × (string : List ℕ) × (ts : List PlainTarget) ×
-        IsAsked plan.program l string ts × AreFilled (D.operations engine.now.domain)
-        engine.now.store walk.now plan ts }
-    ensures says { (plan : Plan) (l : Location) (string : List ℕ) (ts : List PlainTarget) →
-        IsAsked plan.program l string ts →
-        AreFilled (D.operations engine.now.domain) engine.now.store walk.now plan ts →
-        IfOk result (λ v. Says (answer (D.operations engine.now.domain) plan.engine plan.program
-        l string) (Some v)) }
-    ensures sound { (plan : Plan) (l : Location) (string : List ℕ) (ts : List PlainTarget) →
-        IsAsked plan.program l string ts →
-        AreFilled (D.operations engine.now.domain) engine.now.store walk.now plan ts →
-        IfOk result (λ v. Covers (D.covers engine.now.domain) plan.program l string (Some v)) }
+    requires filled { IsFilledForOne D.operations engine.now walk.now }
+    ensures says { SaysForFilled D.operations engine.now walk.now result }
+    ensures sound { CoversForFilled D.operations engine.now walk.now D.covers result }
     ensures least { steps.old ≤ steps.new }
-    ensures ticked { (plan : Plan) (ts : List PlainTarget) →
-        AreFilled (D.operations engine.now.domain) engine.now.store walk.now plan ts →
-        steps.new ≤ steps.old + D.counted engine.now.domain * (2 * length ts) }
+    ensures ticked { TicksForTargets D.operations engine.now walk.now D.counted steps.old steps.new }
 {
     match engine.read(alloc, walk, steps)? {
         Some(value) => Ok(value),

@@ -1,12 +1,11 @@
 //! What a session keeps beside its engine.
-ghost use Rattle.std.specs.Prelude.{◌≡◌, ◌<◌, [], ◌∷◌, length, take, IfOk};
+ghost use Rattle.std.specs.Prelude.{◌≡◌, IfOk};
 ghost use Rattle.imp_check.specs.Fine.{IsFine};
-ghost use Rattle.imp_check.specs.Slots.{routines_of};
-ghost use Rattle.call_contexts.specs.Settings.{engine_of, setting_of};
-ghost use Rattle.edit_history.specs.After.{changed_program, Leads};
-ghost use Rattle.daig_session.specs.Books.{flow_in, IsFirst, IsSet, IsTurned};
+ghost use Rattle.call_contexts.specs.Settings.{engine_of};
+ghost use Rattle.daig_session.specs.Books.{flow_in, IsFirst, IsSet, IsSetFor, LeadsFrom};
+ghost use Rattle.daig_session.specs.Books.{program_after, IsTurnedBy};
 ghost use Rattle.daig_session.specs.Moves.{IsNearest};
-ghost use Rattle.daig_session.specs.Sides.{programs_of, IsTurnedTo};
+ghost use Rattle.daig_session.specs.Sides.{programs_of, TurnsTo, TakesNearest, HasNearest};
 
 use base_values::{Items, Memory};
 use call_contexts::Setting;
@@ -53,8 +52,8 @@ impl Book {
         widening: Widening,
     ) -> Result<Book, Memory>
         ensures fine { IfOk result (λ _. IsFine table.program) }
-        ensures first { IfOk result (λ b. IsFirst b table.program
-            (engine_of budget widening) next) }
+        ensures first { IfOk result
+            (λ b. IsFirst b table.program (engine_of budget widening) next) }
     {
         table.procs();
         let setting = Setting::new(alloc, &table.view(), budget, widening)?;
@@ -79,11 +78,9 @@ impl Book {
 
     /// Puts a change in, with the setting of the program that it makes and the next number.
     pub(crate) fn remember(&mut self, change: Change, next: u32, setting: Setting)
-        requires leads { Leads self.old.history.places self.old.history.now change }
-        requires set { setting ≡ setting_of self.old.setting.engine
-            (routines_of (changed_program self.old.history.now change)) }
-        ensures turned { IsTurned self.old (changed_program self.old.history.now change)
-            (take 64 (self.old.history.now ∷ self.old.history.past)) [] next self.new }
+        requires leads { LeadsFrom self.old change }
+        requires set { IsSetFor self.old (program_after self.old change) setting }
+        ensures turned { IsTurnedBy self.old change next self.new }
     {
         self.history.remember(change);
         self.setting = setting;
@@ -93,12 +90,9 @@ impl Book {
 
     /// Goes back to the program before, which has this setting.
     pub(crate) fn back(&mut self, setting: Setting)
-        requires there { 0 < length self.old.history.past }
-        ensures past { self.new.history.now ∷ self.new.history.past ≡ self.old.history.past }
-        ensures turned { setting ≡ setting_of self.old.setting.engine
-            (routines_of self.new.history.now) →
-            IsTurned self.old self.new.history.now self.new.history.past
-            (self.old.history.now ∷ self.old.history.future) self.old.next self.new }
+        requires there { HasNearest Side.Behind self.old }
+        ensures past { TakesNearest Side.Behind self.old self.new }
+        ensures turned { TurnsTo Side.Behind setting self.old self.new }
     {
         self.history.back();
         self.setting = setting;
@@ -107,12 +101,9 @@ impl Book {
 
     /// Goes on to the program after, which has this setting.
     pub(crate) fn forth(&mut self, setting: Setting)
-        requires there { 0 < length self.old.history.future }
-        ensures future { self.new.history.now ∷ self.new.history.future ≡ self.old.history.future }
-        ensures turned { setting ≡ setting_of self.old.setting.engine
-            (routines_of self.new.history.now) →
-            IsTurned self.old self.new.history.now (self.old.history.now ∷ self.old.history.past)
-            self.new.history.future self.old.next self.new }
+        requires there { HasNearest Side.Ahead self.old }
+        ensures future { TakesNearest Side.Ahead self.old self.new }
+        ensures turned { TurnsTo Side.Ahead setting self.old self.new }
     {
         self.history.forth();
         self.setting = setting;
@@ -131,11 +122,9 @@ impl Book {
 
     /// Goes to the nearest program of a side, which has this setting.
     pub(crate) fn turn(&mut self, side: Side, setting: Setting)
-        requires there { 0 < length (programs_of side self.old) }
-        ensures nearest { self.new.history.now ∷ programs_of side self.new ≡
-            programs_of side self.old }
-        ensures turned { setting ≡ setting_of self.old.setting.engine
-            (routines_of self.new.history.now) → IsTurnedTo side self.old self.new }
+        requires there { HasNearest side self.old }
+        ensures nearest { TakesNearest side self.old self.new }
+        ensures turned { TurnsTo side setting self.old self.new }
     {
         match side {
             Side::Behind => self.back(setting),

@@ -1,11 +1,8 @@
 //! The statements of a program that have a check.
-ghost use Rattle.std.specs.Prelude.{◌≡◌, ◌++◌, ℕ, IfOk, IfSome, IsSome, OnOk};
+ghost use Rattle.std.specs.Prelude.{◌≡◌, ◌++◌, ℕ, IfOk, IfSome, OnOk};
 ghost use Rattle.std.specs.Option.{option_copied};
 ghost use Rattle.imp_syntax.specs.Plain.{program_numbers};
-ghost use Rattle.imp_slots.specs.ActionViews.{act_of};
-ghost use Rattle.imp_slots.specs.declared.actions.SlotStmt.{SlotStmt as AnyStmt};
-ghost use Rattle.domain_laws.specs.Checks.{kind_in};
-ghost use Rattle.daig_session.specs.Reports.{checked_at, checked_form, checked_stmt};
+ghost use Rattle.daig_session.specs.Reports.{checked_at, checked_form, checked_stmt, IsChecked};
 
 use base_values::{Items, Memory};
 use call_contexts::procedure_count;
@@ -42,7 +39,7 @@ pub(crate) fn all_statements(alloc: Global, view: &View<'_>) -> Result<Items<Stm
 /// What a statement does, if it has a check.
 fn checked_in(form: &SlotForm) -> Option<&SlotStmt>
     ensures is { (n : ℕ) → checked_stmt n (option_copied result) ≡ checked_form n form.now }
-    ensures asks { IfSome (option_copied result) (λ (s : AnyStmt). IsSome (kind_in (act_of s))) }
+    ensures asks { IfSome (option_copied result) IsChecked }
 {
     let SlotForm::Stmt(stmt) = form else {
         return None;
@@ -56,7 +53,7 @@ fn checked_in(form: &SlotForm) -> Option<&SlotStmt>
 /// What the statement of a number does, if it has a check. It takes constant time.
 pub(crate) fn checked_stmt<'a>(view: &View<'a>, id: StmtId) -> Option<&'a SlotStmt>
     ensures is { checked_stmt id (option_copied result) ≡ checked_at view.now id }
-    ensures asks { IfSome (option_copied result) (λ (s : AnyStmt). IsSome (kind_in (act_of s))) }
+    ensures asks { IfSome (option_copied result) IsChecked }
 {
     match view.entry(id) {
         Some(entry) => checked_in(&entry.form),

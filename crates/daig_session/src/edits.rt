@@ -3,12 +3,13 @@ ghost use Rattle.std.specs.Prelude.{◌≡◌, IfOk, IfErr};
 ghost use Rattle.std.specs.Borrow.{sem, RestsIfErr};
 ghost use Rattle.imp_syntax.specs.declared.edit.Edit.{Edit as AnyEdit};
 ghost use Rattle.imp_edit.specs.Edited.{next_after, Continues};
-ghost use Rattle.daig_query.specs.Swept.{IsBounded};
-ghost use Rattle.daig_machine.specs.Machine.{Machine};
 ghost use Rattle.daig_session.specs.contracts.session.Session.{the_row};
 ghost use Rattle.daig_session.specs.Books.{IsSame};
-ghost use Rattle.daig_session.specs.Sessions.{IsReadyBy, StandsFor};
+ghost use Rattle.daig_session.specs.Sessions.{IsReadyBy, StandsFor, OfEachMachine, KeepsNextTicket};
+ghost use Rattle.daig_session.specs.Sessions.{IsWithinBound};
 ghost use Rattle.daig_session.specs.Moves.{IsPlannedFor, IsAccepted, IsRefusedFor, Commits};
+ghost use Rattle.daig_session.specs.Moves.{IsStill};
+ghost use Rattle.daig_session.specs.Engines.{KeepsSetup};
 
 use crate::moving::{Moving, leave, planned_move};
 use crate::parts::Parts;
@@ -53,10 +54,9 @@ impl<D: Domain> Parts<D> {
         requires ready { IsReadyBy D.operations self.old }
         requires planned { (e : AnyEdit) × IsPlannedFor self.old e planned }
         ensures ready { IsReadyBy D.operations self.new }
-        ensures domain { self.new.engine.domain ≡ self.old.engine.domain }
-        ensures spare { self.new.engine.spare ≡ self.old.engine.spare }
-        ensures bounded { IsBounded self.new.engine.spare self.new.engine.store }
-        ensures next_ticket { self.new.book.tickets.next ≡ self.old.book.tickets.next }
+        ensures setup { KeepsSetup self.old.engine self.new.engine }
+        ensures bounded { IsWithinBound self.new }
+        ensures next_ticket { KeepsNextTicket self.old self.new }
         ensures committed { Commits D.operations self.old self.new planned }
     {
         let Planned { edited, moving } = planned;
@@ -90,20 +90,16 @@ impl<D: Domain> Session<D> {
     /// program; or [`EditError::Memory`] when memory runs out. The session is then as it was.
     pub fn prepare(&mut self, alloc: Global, edit: &Edit) -> Result<Prepared<'_, D>, EditError>
         requires continues { Continues edit.now self.old.book.next }
-        ensures* rests { sem 𝓛 (RestsIfErr
-            (the_row D.row D.State.row D.Domain D.State.PartialEq
+        ensures* rests { sem 𝓛 (RestsIfErr (the_row D.row D.State.row D.Domain D.State.PartialEq
             (record { hash_input = D.State.Hash.hash_input })) self.entry
-            (λ p. p.session.ghost_name) result
-            (λ s. (s.engine ≡ self.old.engine) × IsSame self.old.book s.book)) }
+            (λ p. p.session.ghost_name) result (IsStill self.old)) }
         ensures same_reference { IfOk result (λ p. p.session.ghost_name ≡ self.entry.ghost_name) }
         ensures planned { IfOk result (λ p. IsPlannedFor p.session.now edit.now p.planned) }
-        ensures holds { (m : Machine) → StandsFor D.operations self.old m →
-            IfOk result (λ p. StandsFor D.operations p.session.now m) }
-        ensures domain { IfOk result (λ p. p.session.now.engine.domain ≡ self.old.engine.domain) }
-        ensures spare { IfOk result (λ p. p.session.now.engine.spare ≡ self.old.engine.spare) }
+        ensures holds { OfEachMachine D.operations self.old
+            (λ m. IfOk result (λ p. StandsFor D.operations p.session.now m)) }
+        ensures setup { IfOk result (λ p. KeepsSetup self.old.engine p.session.now.engine) }
         ensures unmoved { IfOk result (λ p. p.session.now.engine.store ≡ self.old.engine.store) }
-        ensures next_ticket { IfOk result
-            (λ p. p.session.now.book.tickets.next ≡ self.old.book.tickets.next) }
+        ensures next_ticket { IfOk result (λ p. KeepsNextTicket self.old p.session.now) }
         ensures accepted { IfOk result (λ _. IsAccepted self.old.book edit.now) }
         ensures refused { IfErr result (IsRefusedFor self.old.book edit.now) }
     {
@@ -128,11 +124,9 @@ impl<D: Domain> Prepared<'_, D, Planned> {
     /// memory for new tables of names alone, and keeps the old ones where there is none.
     pub fn commit(self)
         requires planned { (e : AnyEdit) × IsPlannedFor self.session.now e self.planned }
-        ensures domain { self.exit.0.now.engine.domain ≡ self.entry.session.now.engine.domain }
-        ensures spare { self.exit.0.now.engine.spare ≡ self.entry.session.now.engine.spare }
-        ensures bounded { IsBounded self.exit.0.now.engine.spare self.exit.0.now.engine.store }
-        ensures next_ticket { self.exit.0.now.book.tickets.next ≡
-            self.entry.session.now.book.tickets.next }
+        ensures setup { KeepsSetup self.entry.session.now.engine self.exit.0.now.engine }
+        ensures bounded { IsWithinBound self.exit.0.now }
+        ensures next_ticket { KeepsNextTicket self.entry.session.now self.exit.0.now }
         ensures committed { Commits D.operations self.entry.session.now self.exit.0.now
             self.entry.planned }
     {

@@ -1,8 +1,9 @@
 //! Giving back at once what no kept cell needs, for `stays` of `give_back`.
-ghost use Rattle.std.specs.Prelude.{◌≡◌, ◌≤◌, length, OnErr, OnOk};
+ghost use Rattle.std.specs.Prelude.{◌≡◌, OnErr, OnOk};
 ghost use Rattle.std.specs.FinMap.{len};
 ghost use Rattle.daig_query.specs.Swept.{IsWithin};
-ghost use Rattle.daig_session.specs.Sessions.{IsReadyBy, FromEach};
+ghost use Rattle.daig_session.specs.Sessions.{FromEach, KeepsNextTicket, HasNamesOfCells};
+ghost use Rattle.daig_session.specs.Engines.{KeepsSetup};
 
 use crate::session::Session;
 use base_values::Memory;
@@ -20,13 +21,12 @@ impl<D: Domain> Session<D> {
     ///
     /// [`Memory`] when memory runs out. The names alone are not given back then.
     pub fn give_back(&mut self) -> Result<(), Memory>
-        ensures domain { self.new.engine.domain ≡ self.old.engine.domain }
-        ensures spare { self.new.engine.spare ≡ self.old.engine.spare }
+        ensures setup { KeepsSetup self.old.engine self.new.engine }
         ensures within { IsWithin (len self.new.engine.store.graph.cells) self.new.engine.store }
-        ensures few { OnOk result (length self.new.engine.store.names.names ≤
-            len self.new.engine.store.graph.cells) }
-        ensures err { OnErr result (self.new.engine.store.names ≡ self.old.engine.store.names) }
-        ensures next_ticket { self.new.book.tickets.next ≡ self.old.book.tickets.next }
+        ensures names_fit { OnOk result (HasNamesOfCells self.new) }
+        ensures names_stay { OnErr result
+            (self.new.engine.store.names ≡ self.old.engine.store.names) }
+        ensures next_ticket { KeepsNextTicket self.old self.new }
         ensures stays { FromEach D.operations self.old self.new (λ _ m stands. stands m) }
     {
         self.parts.book.tickets.begin_anew();

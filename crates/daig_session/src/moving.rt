@@ -1,15 +1,12 @@
 //! Moves from one program to another: what a move empties is planned beside what stands, and taken away at once.
-ghost use Rattle.std.specs.Prelude.{◌≡◌, IfOk, List};
-ghost use Rattle.imp_syntax.specs.Plain.{Procedure};
-ghost use Rattle.imp_check.specs.Slots.{routines_of};
-ghost use Rattle.batch_meaning.specs.Batch.{LoopOptions};
-ghost use Rattle.call_contexts.specs.Settings.{setting_of};
+ghost use Rattle.std.specs.Prelude.{IfOk};
 ghost use Rattle.cell_removal.specs.Removal.{IsOrder};
-ghost use Rattle.edit_keeps.specs.Apart.{flow_of, AreOneApart};
-ghost use Rattle.edit_history.specs.After.{changed_program, Leads};
-ghost use Rattle.daig_query.specs.Right.{IsRight};
+ghost use Rattle.edit_keeps.specs.Apart.{flow_of};
+ghost use Rattle.edit_history.specs.After.{changed_program};
 ghost use Rattle.daig_query.specs.Swept.{IsBounded, IsInTables};
-ghost use Rattle.daig_session.specs.Moves.{Empties, IsMoving, Leaves};
+ghost use Rattle.daig_session.specs.Moves.{LeadsIn, EmptiesBy, IsMovingBy, LeavesBy};
+ghost use Rattle.daig_session.specs.Engines.{IsRightFor, KeepsSetup};
+ghost use Rattle.daig_session.specs.Books.{IsSettingOf};
 
 use base_values::Memory;
 use call_contexts::Setting;
@@ -37,15 +34,14 @@ fn emptied<D: Domain>(
     setting: &Setting,
     other: &Setting,
 ) -> Result<RemovalOrder, Memory>
-    requires right { IsRight (D.operations engine.now.domain)
-        (flow_of setting.now.engine table.now.program) engine.now.store }
-    requires leads { Leads table.now.places table.now.program change.now }
-    requires set { setting.now ≡ setting_of setting.now.engine (routines_of table.now.program) }
-    requires set_other { other.now ≡ setting_of setting.now.engine
-        (routines_of (changed_program table.now.program change.now)) }
-    ensures empties { IfOk result (Empties (flow_of setting.now.engine table.now.program)
-        (flow_of setting.now.engine (changed_program table.now.program change.now))
-        engine.now.store) }
+    requires right { IsRightFor D.operations engine.now
+        (flow_of setting.now.engine table.now.program) }
+    requires leads { LeadsIn table.now change.now }
+    requires set { IsSettingOf setting.now.engine table.now.program setting.now }
+    requires set_other { IsSettingOf setting.now.engine
+        (changed_program table.now.program change.now) other.now }
+    ensures empties { IfOk result
+        (EmptiesBy setting.now.engine table.now change.now engine.now.store) }
 {
     let changed = points_changed(alloc, table, change, setting, other)?;
     let old = Flow::new(table.view(), setting);
@@ -73,12 +69,12 @@ pub(crate) fn planned_move<D: Domain>(
     change: &Change,
     setting: &Setting,
 ) -> Result<Moving, Memory>
-    requires right { IsRight (D.operations engine.now.domain)
-        (flow_of setting.now.engine table.now.program) engine.now.store }
-    requires leads { Leads table.now.places table.now.program change.now }
-    requires set { setting.now ≡ setting_of setting.now.engine (routines_of table.now.program) }
-    ensures moving { IfOk result (IsMoving engine.now.store setting.now.engine table.now.program
-        (changed_program table.now.program change.now)) }
+    requires right { IsRightFor D.operations engine.now
+        (flow_of setting.now.engine table.now.program) }
+    requires leads { LeadsIn table.now change.now }
+    requires set { IsSettingOf setting.now.engine table.now.program setting.now }
+    ensures moving { IfOk result
+        (IsMovingBy engine.now.store setting.now.engine table.now change.now) }
 {
     let other = setting.after(alloc, table, change)?;
     let plan = emptied(alloc, engine, table, change, setting, &other)?;
@@ -94,13 +90,8 @@ pub(crate) fn planned_move<D: Domain>(
 pub(crate) fn leave<D: Domain>(engine: &mut Engine<D>, plan: RemovalOrder)
     requires order { IsOrder engine.old.store.graph.cells plan }
     requires held { IsInTables engine.old.store }
-    ensures leaves { (e : LoopOptions) (old new : List Procedure) → AreOneApart old new →
-        IsRight (D.operations engine.old.domain) (flow_of e old) engine.old.store →
-        Empties (flow_of e old) (flow_of e new) engine.old.store plan →
-        Leaves (D.operations engine.old.domain) (flow_of e old) (flow_of e new) engine.old.store
-        engine.new.store }
-    ensures domain { engine.new.domain ≡ engine.old.domain }
-    ensures spare { engine.new.spare ≡ engine.old.spare }
+    ensures leaves { LeavesBy D.operations engine.old engine.new plan }
+    ensures setup { KeepsSetup engine.old engine.new }
     ensures bounded { IsBounded engine.new.spare engine.new.store }
 {
     engine.empty(plan);

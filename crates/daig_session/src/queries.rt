@@ -1,19 +1,16 @@
 //! Queries, for `answers` and `sound` of `query`, and for `explains` and `stays` of `why`.
-ghost use Rattle.std.specs.Prelude.{◌≡◌, ℕ, suc, ◌+◌, ◌*◌, ◌≤◌, List, map, IfErr, IfOk, OnOk};
-ghost use Rattle.imp_syntax.specs.declared.edit.Location.{Location};
-ghost use Rattle.imp_flow.specs.Reached.{target_of};
-ghost use Rattle.daig_query.specs.Answered.{AreFilled};
-ghost use Rattle.daig_query.specs.Filled.{cells_added, missing, Fills};
-ghost use Rattle.daig_query.specs.Swept.{FillsFew, IsBounded};
-ghost use Rattle.daig_session.specs.Books.{flow_in};
-ghost use Rattle.daig_session.specs.Going.{IsGoing};
-ghost use Rattle.daig_session.specs.Holds.{IsReady};
+ghost use Rattle.std.specs.Prelude.{◌≡◌, ◌≤◌, IfErr, IfOk, OnOk};
+ghost use Rattle.daig_query.specs.Swept.{FillsFew};
 ghost use Rattle.daig_session.specs.Sessions.{IsReadyBy, TicksAtMost, TicksForFilled, cells_filled};
+ghost use Rattle.daig_session.specs.Sessions.{KeepsNextTicket, IsWithinBound};
 ghost use Rattle.daig_session.specs.Reports.{IsUnticked};
 ghost use Rattle.daig_session.specs.Questions.{Asks, HasFilled, FillsMissing, StandsAnswered};
-ghost use Rattle.daig_session.specs.Questions.{missing_count, StandsBetween, FailsFrom};
-ghost use Rattle.daig_session.specs.Questions.{QuestionsFrom, ExplainsFrom, TicksForMissing};
-ghost use Rattle.daig_session.specs.Questions.{TicksForAnswer, TicksForSome, CoversIn, SufficesIn};
+ghost use Rattle.daig_session.specs.Questions.{StandsBetween, FailsFrom, QuestionsFrom};
+ghost use Rattle.daig_session.specs.Questions.{ExplainsFrom, TicksForMissing, TicksForAnswer};
+ghost use Rattle.daig_session.specs.Questions.{TicksForSome, CoversIn, SufficesIn};
+ghost use Rattle.daig_session.specs.Engines.{IsReadyWith, IsUnderWay, missing_for, WorksAtMost};
+ghost use Rattle.daig_session.specs.Engines.{IsAdded, TicksForAdded, FillsFirst, HasAll};
+ghost use Rattle.daig_session.specs.Engines.{KeepsSetup};
 
 use crate::asking::{begun, read_answer};
 use crate::book::{Book, Going};
@@ -39,25 +36,19 @@ fn fill_all<D: Domain, L: Ledger>(
     going: &mut Going,
     steps: &mut Steps<L>,
 ) -> Result<usize, Memory>
-    requires ready { IsReady (D.operations engine.old.domain) engine.old.store book.now }
-    requires going { (l : Location) × (string : List ℕ) × IsGoing (D.operations engine.old.domain)
-        (flow_in book.now) engine.old.store l string going.old }
-    ensures domain { engine.new.domain ≡ engine.old.domain }
-    ensures spare { engine.new.spare ≡ engine.old.spare }
+    requires ready { IsReadyWith D.operations engine.old book.now }
+    requires going { IsUnderWay D.operations engine.old book.now going.old }
+    ensures setup { KeepsSetup engine.old engine.new }
     ensures targets { going.new.targets ≡ going.old.targets }
-    ensures fills { Fills (D.operations engine.old.domain) (flow_in book.now)
-        (map target_of going.old.targets) engine.old.store engine.new.store
-        (cells_added engine.old.store engine.new.store) }
-    ensures few { FillsFew engine.old.store engine.new.store }
-    ensures counted { IfOk result (λ n. n ≡ cells_added engine.old.store engine.new.store) }
-    ensures all { IfOk result (λ n. n ≡
-        missing_count (D.operations engine.old.domain) book.now going.old engine.old.store) }
-    ensures filled { OnOk result (AreFilled (D.operations engine.old.domain) engine.new.store
-        going.new.walk (flow_in book.now) (map target_of going.old.targets)) }
+    ensures fills { FillsFirst D.operations engine.old engine.new book.now going.old }
+    ensures adds_few { FillsFew engine.old.store engine.new.store }
+    ensures counted { IfOk result (IsAdded engine.old engine.new) }
+    ensures missing { IfOk result (λ n. n ≡ missing_for D.operations engine.old book.now going.old) }
+    ensures filled { OnOk result
+        (HasAll D.operations engine.old engine.new book.now going.old going.new) }
     ensures least { steps.old ≤ steps.new }
-    ensures ticked { IfOk result (λ n. steps.new ≤ steps.old + D.counted engine.old.domain * n) }
-    ensures most { steps.new ≤ steps.old
-        + D.counted engine.old.domain * suc (cells_added engine.old.store engine.new.store) }
+    ensures ticked { IfOk result (WorksAtMost D.counted engine.old steps.old steps.new) }
+    ensures ticked_filled { TicksForAdded engine.old engine.new D.counted steps.old steps.new }
 {
     let flow = book.flow();
     let Going { targets, walk } = going;
@@ -82,24 +73,21 @@ impl<D: Domain> Parts<D> {
     ) -> Result<Filled, QueryError>
         requires ready { IsReadyBy D.operations self.old }
         ensures ready { IsReadyBy D.operations self.new }
-        ensures domain { self.new.engine.domain ≡ self.old.engine.domain }
-        ensures spare { self.new.engine.spare ≡ self.old.engine.spare }
+        ensures setup { KeepsSetup self.old.engine self.new.engine }
         ensures book { self.new.book ≡ self.old.book }
-        ensures few { FillsFew self.old.engine.store self.new.engine.store }
+        ensures adds_few { FillsFew self.old.engine.store self.new.engine.store }
         ensures targets { IfOk result (λ f. Asks self.old at.now string.now f.going) }
         ensures filled { IfOk result (λ f. HasFilled D.operations self.old self.new f.going) }
         ensures counted { IfOk result (λ f. f.count ≡ cells_filled self.old self.new) }
-        ensures all { FillsMissing D.operations self.old self.new at.now string.now result
-            (λ f. f.count) }
-        ensures answered { StandsAnswered D.operations self.old self.new at.now string.now result
-            (λ f. f.count) }
+        ensures missing { FillsMissing D.operations self.old self.new at.now string.now result }
+        ensures answered { StandsAnswered D.operations self.old self.new at.now string.now result }
         ensures unanswered { StandsBetween D.operations self.old self.new at.now string.now result }
         ensures fails { FailsFrom D.operations self.old self.new at.now string.now result }
         ensures least { steps.old ≤ steps.new }
-        ensures unticked { IfErr result (IsUnticked steps.old steps.new) }
-        ensures ticked { IfOk result (λ f. TicksAtMost D.counted self.old steps.old
-            steps.new f.count) }
-        ensures most { TicksForFilled D.counted self.old self.new steps.old steps.new }
+        ensures unticked_refusal { IfErr result (IsUnticked steps.old steps.new) }
+        ensures ticked { IfOk result
+            (λ f. TicksAtMost D.counted self.old steps.old steps.new f.count) }
+        ensures ticked_filled { TicksForFilled D.counted self.old self.new steps.old steps.new }
     {
         questions_keep_cells::<D>();
         let flow = self.book.flow();
@@ -118,24 +106,21 @@ impl<D: Domain> Parts<D> {
     ) -> Result<Filled, QueryError>
         requires ready { IsReadyBy D.operations self.old }
         ensures ready { IsReadyBy D.operations self.new }
-        ensures domain { self.new.engine.domain ≡ self.old.engine.domain }
-        ensures spare { self.new.engine.spare ≡ self.old.engine.spare }
+        ensures setup { KeepsSetup self.old.engine self.new.engine }
         ensures book { self.new.book ≡ self.old.book }
-        ensures bounded { IsBounded self.new.engine.spare self.new.engine.store }
+        ensures bounded { IsWithinBound self.new }
         ensures targets { IfOk result (λ f. Asks self.old at.now string.now f.going) }
         ensures filled { IfOk result (λ f. HasFilled D.operations self.old self.new f.going) }
         ensures counted { IfOk result (λ f. f.count ≡ cells_filled self.old self.new) }
-        ensures all { FillsMissing D.operations self.old self.new at.now string.now result
-            (λ f. f.count) }
-        ensures answered { StandsAnswered D.operations self.old self.new at.now string.now result
-            (λ f. f.count) }
+        ensures missing { FillsMissing D.operations self.old self.new at.now string.now result }
+        ensures answered { StandsAnswered D.operations self.old self.new at.now string.now result }
         ensures unanswered { StandsBetween D.operations self.old self.new at.now string.now result }
         ensures fails { FailsFrom D.operations self.old self.new at.now string.now result }
         ensures least { steps.old ≤ steps.new }
-        ensures unticked { IfErr result (IsUnticked steps.old steps.new) }
-        ensures ticked { IfOk result (λ f. TicksAtMost D.counted self.old steps.old
-            steps.new f.count) }
-        ensures most { TicksForFilled D.counted self.old self.new steps.old steps.new }
+        ensures unticked_refusal { IfErr result (IsUnticked steps.old steps.new) }
+        ensures ticked { IfOk result
+            (λ f. TicksAtMost D.counted self.old steps.old steps.new f.count) }
+        ensures ticked_filled { TicksForFilled D.counted self.old self.new steps.old steps.new }
     {
         self.engine.sweep();
         self.fill_now(alloc, at, string, steps)
@@ -163,18 +148,17 @@ impl<D: Domain> Session<D> {
         string: &[u32],
         steps: &mut Steps<L>,
     ) -> Result<Value<D::State>, QueryError>
-        ensures domain { self.new.engine.domain ≡ self.old.engine.domain }
-        ensures spare { self.new.engine.spare ≡ self.old.engine.spare }
-        ensures bounded { IsBounded self.new.engine.spare self.new.engine.store }
-        ensures next_ticket { self.new.book.tickets.next ≡ self.old.book.tickets.next }
+        ensures setup { KeepsSetup self.old.engine self.new.engine }
+        ensures bounded { IsWithinBound self.new }
+        ensures next_ticket { KeepsNextTicket self.old self.new }
         ensures answers { QuestionsFrom D.operations self.old self.new at.now string.now result }
         ensures sound { IfOk result (CoversIn D.covers self.old at.now string.now) }
         ensures least { steps.old ≤ steps.new }
-        ensures unticked { IfErr result (IsUnticked steps.old steps.new) }
+        ensures unticked_refusal { IfErr result (IsUnticked steps.old steps.new) }
         ensures ticked { TicksForAnswer D.operations self.old self.new at.now string.now D.counted
             steps.old steps.new result }
-        ensures most { TicksForSome D.operations self.old self.new at.now string.now D.counted
-            steps.old steps.new }
+        ensures ticked_filled { TicksForSome D.operations self.old self.new at.now string.now
+            D.counted steps.old steps.new }
     {
         let filled = self.parts.fill_for(alloc, at, string, steps)?;
         let value = read_answer(alloc, &self.parts.engine, &filled.going.walk, steps)?;
@@ -202,17 +186,16 @@ impl<D: Domain> Session<D> {
         string: &[u32],
         steps: &mut Steps<L>,
     ) -> Result<Items<StmtId>, QueryError>
-        ensures domain { self.new.engine.domain ≡ self.old.engine.domain }
-        ensures spare { self.new.engine.spare ≡ self.old.engine.spare }
-        ensures bounded { IsBounded self.new.engine.spare self.new.engine.store }
-        ensures next_ticket { self.new.book.tickets.next ≡ self.old.book.tickets.next }
+        ensures setup { KeepsSetup self.old.engine self.new.engine }
+        ensures bounded { IsWithinBound self.new }
+        ensures next_ticket { KeepsNextTicket self.old self.new }
         ensures explains { ExplainsFrom D.operations self.old self.new at.now string.now result }
         ensures stays { IfOk result (SufficesIn D.operations self.old at.now string.now) }
         ensures least { steps.old ≤ steps.new }
-        ensures unticked { IfErr result (IsUnticked steps.old steps.new) }
+        ensures unticked_refusal { IfErr result (IsUnticked steps.old steps.new) }
         ensures ticked { TicksForMissing D.operations self.old self.new at.now string.now D.counted
             steps.old steps.new result }
-        ensures most { TicksForFilled D.counted self.old self.new steps.old steps.new }
+        ensures ticked_filled { TicksForFilled D.counted self.old self.new steps.old steps.new }
     {
         answers_stay::<D>();
         let filled = self.parts.fill_for(alloc, at, string, steps)?;

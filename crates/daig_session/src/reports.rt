@@ -1,18 +1,16 @@
 //! Reports out of the cells, for `reports` and `sound` of `report`.
-ghost use Rattle.std.specs.Prelude.{◌≡◌, ◌≤◌, [], IfOk, IsFalse, IsSome, IsTrue, OnOk, Some};
-ghost use Rattle.imp_syntax.specs.declared.edit.Location.TheVariants.{Before};
+ghost use Rattle.std.specs.Prelude.{◌≡◌, ◌≤◌, [], IfOk, IsFalse, IsTrue, OnOk, Some};
 ghost use Rattle.imp_slots.specs.ActionViews.{act_of};
-ghost use Rattle.domain_laws.specs.Checks.{kind_in};
 ghost use Rattle.daig_query.specs.Answered.{Says};
-ghost use Rattle.daig_query.specs.Swept.{IsBounded};
-ghost use Rattle.daig_machine.specs.Turns.{answer_at};
-ghost use Rattle.daig_session.specs.Sessions.{FromEach, StaysBounded};
+ghost use Rattle.daig_session.specs.Sessions.{StaysBounded, KeepsNextTicket, IsWithinBound};
 ghost use Rattle.daig_session.specs.Reports.{checked_act, checked_at, GivesVerdict, GivesFinding};
 ghost use Rattle.daig_session.specs.Reports.{checked_here, checked_in, all_checked, KeepsAll};
 ghost use Rattle.daig_session.specs.Reports.{KeepsPart, Finds, TicksForAll, TicksForPart};
 ghost use Rattle.daig_session.specs.Reports.{KeepsAllOfOne, KeepsPartOfOne, TicksForOne};
 ghost use Rattle.daig_session.specs.Reports.{TicksForPartOfOne, ReportsFrom, TicksForReport};
-ghost use Rattle.daig_session.specs.Reports.{AreFindingsSound, findings, HasCheck, Tells};
+ghost use Rattle.daig_session.specs.Reports.{AreFindingsSound, HasCheck, Tells, IsChecked};
+ghost use Rattle.daig_session.specs.Reports.{FindsAll, TellsBefore};
+ghost use Rattle.daig_session.specs.Engines.{KeepsSetup};
 
 use crate::checks::{all_statements, checked_stmt};
 use crate::error::QueryError;
@@ -61,7 +59,7 @@ fn finding<D: Domain>(
     stmt: &SlotStmt,
     known: &Result<Value<D::State>, QueryRefusal>,
 ) -> Result<Finding, Memory>
-    requires asks { IsSome (kind_in (act_of stmt.now)) }
+    requires asks { IsChecked stmt.now }
     ensures is { GivesFinding (D.operations dom.now) id known.now
         (checked_act id (act_of stmt.now)) result }
 {
@@ -103,18 +101,16 @@ impl<D: Domain> Session<D> {
         id: StmtId,
         steps: &mut Steps<L>,
     ) -> Result<Result<Value<D::State>, QueryRefusal>, Memory>
-        ensures bounded { IsBounded self.new.engine.spare self.new.engine.store }
-        ensures domain { self.new.engine.domain ≡ self.old.engine.domain }
-        ensures spare { self.new.engine.spare ≡ self.old.engine.spare }
+        ensures bounded { IsWithinBound self.new }
+        ensures setup { KeepsSetup self.old.engine self.new.engine }
         ensures program { self.new.book.history.now ≡ self.old.book.history.now }
-        ensures part { KeepsPartOfOne D.operations self.old self.new id }
-        ensures all { OnOk result (KeepsAllOfOne D.operations self.old self.new id) }
-        ensures tells { IfOk result (λ known. FromEach D.operations self.old self.new
-            (λ dom m _. Tells (answer_at dom (Before id) [] m) known)) }
+        ensures keeps_part { KeepsPartOfOne D.operations self.old self.new id }
+        ensures keeps_all { OnOk result (KeepsAllOfOne D.operations self.old self.new id) }
+        ensures tells { IfOk result (TellsBefore D.operations self.old self.new id) }
         ensures least { steps.old ≤ steps.new }
-        ensures ticked { OnOk result (TicksForOne D.operations self.old self.new D.counted id
-            steps.old steps.new) }
-        ensures most { TicksForPartOfOne D.operations self.old self.new D.counted id
+        ensures ticked { OnOk result
+            (TicksForOne D.operations self.old self.new D.counted id steps.old steps.new) }
+        ensures ticked_filled { TicksForPartOfOne D.operations self.old self.new D.counted id
             steps.old steps.new }
     {
         self.ready();
@@ -134,17 +130,16 @@ impl<D: Domain> Session<D> {
         steps: &mut Steps<L>,
     ) -> Result<(), Memory>
         ensures stays_bounded { StaysBounded self.old self.new }
-        ensures domain { self.new.engine.domain ≡ self.old.engine.domain }
-        ensures spare { self.new.engine.spare ≡ self.old.engine.spare }
-        ensures part { KeepsPart D.operations self.old self.new (checked_here id) }
-        ensures all { OnOk result (KeepsAll D.operations self.old self.new (checked_here id)) }
-        ensures found { OnOk result (Finds D.operations self.old self.new (checked_here id)
-            found.old found.new) }
+        ensures setup { KeepsSetup self.old.engine self.new.engine }
+        ensures keeps_part { KeepsPart D.operations self.old self.new (checked_here id) }
+        ensures keeps_all { OnOk result (KeepsAll D.operations self.old self.new (checked_here id)) }
+        ensures found { OnOk result
+            (Finds D.operations self.old self.new (checked_here id) found.old found.new) }
         ensures least { steps.old ≤ steps.new }
         ensures ticked { OnOk result (TicksForAll D.operations self.old self.new D.counted
             (checked_here id) steps.old steps.new) }
-        ensures most { TicksForPart D.operations self.old self.new D.counted (checked_here id)
-            steps.old steps.new }
+        ensures ticked_filled { TicksForPart D.operations self.old self.new D.counted
+            (checked_here id) steps.old steps.new }
     {
         if !self.has_check(id) {
             return Ok(());
@@ -163,17 +158,17 @@ impl<D: Domain> Session<D> {
         steps: &mut Steps<L>,
     ) -> Result<(), Memory>
         ensures stays_bounded { StaysBounded self.old self.new }
-        ensures domain { self.new.engine.domain ≡ self.old.engine.domain }
-        ensures spare { self.new.engine.spare ≡ self.old.engine.spare }
-        ensures part { KeepsPart D.operations self.old self.new (checked_in stmts.now) }
-        ensures all { OnOk result (KeepsAll D.operations self.old self.new (checked_in stmts.now)) }
-        ensures found { OnOk result (Finds D.operations self.old self.new (checked_in stmts.now)
-            found.old found.new) }
+        ensures setup { KeepsSetup self.old.engine self.new.engine }
+        ensures keeps_part { KeepsPart D.operations self.old self.new (checked_in stmts.now) }
+        ensures keeps_all { OnOk result
+            (KeepsAll D.operations self.old self.new (checked_in stmts.now)) }
+        ensures found { OnOk result
+            (Finds D.operations self.old self.new (checked_in stmts.now) found.old found.new) }
         ensures least { steps.old ≤ steps.new }
         ensures ticked { OnOk result (TicksForAll D.operations self.old self.new D.counted
             (checked_in stmts.now) steps.old steps.new) }
-        ensures most { TicksForPart D.operations self.old self.new D.counted (checked_in stmts.now)
-            steps.old steps.new }
+        ensures ticked_filled { TicksForPart D.operations self.old self.new D.counted
+            (checked_in stmts.now) steps.old steps.new }
     {
         self.ready();
         for stmt in stmts {
@@ -191,16 +186,14 @@ impl<D: Domain> Session<D> {
         steps: &mut Steps<L>,
     ) -> Result<Findings, Memory>
         ensures stays_bounded { StaysBounded self.old self.new }
-        ensures domain { self.new.engine.domain ≡ self.old.engine.domain }
-        ensures spare { self.new.engine.spare ≡ self.old.engine.spare }
-        ensures part { KeepsPart D.operations self.old self.new all_checked }
-        ensures all { OnOk result (KeepsAll D.operations self.old self.new all_checked) }
-        ensures found { IfOk result (λ found. FromEach D.operations self.old self.new
-            (λ dom m _. found ≡ findings dom m (all_checked m))) }
+        ensures setup { KeepsSetup self.old.engine self.new.engine }
+        ensures keeps_part { KeepsPart D.operations self.old self.new all_checked }
+        ensures keeps_all { OnOk result (KeepsAll D.operations self.old self.new all_checked) }
+        ensures found { IfOk result (FindsAll D.operations self.old self.new) }
         ensures least { steps.old ≤ steps.new }
-        ensures ticked { OnOk result (TicksForAll D.operations self.old self.new D.counted
-            all_checked steps.old steps.new) }
-        ensures most { TicksForPart D.operations self.old self.new D.counted all_checked
+        ensures ticked { OnOk result
+            (TicksForAll D.operations self.old self.new D.counted all_checked steps.old steps.new) }
+        ensures ticked_filled { TicksForPart D.operations self.old self.new D.counted all_checked
             steps.old steps.new }
     {
         self.ready();
@@ -216,16 +209,15 @@ impl<D: Domain> Session<D> {
         alloc: Global,
         steps: &mut Steps<L>,
     ) -> Result<Findings, Memory>
-        ensures domain { self.new.engine.domain ≡ self.old.engine.domain }
-        ensures spare { self.new.engine.spare ≡ self.old.engine.spare }
+        ensures setup { KeepsSetup self.old.engine self.new.engine }
         ensures stays_bounded { StaysBounded self.old self.new }
-        ensures next_ticket { self.new.book.tickets.next ≡ self.old.book.tickets.next }
+        ensures next_ticket { KeepsNextTicket self.old self.new }
         ensures reports { ReportsFrom D.operations self.old self.new result }
         ensures sound { IfOk result (AreFindingsSound self.old) }
         ensures least { steps.old ≤ steps.new }
-        ensures ticked { TicksForReport D.operations self.old self.new D.counted steps.old
-            steps.new result }
-        ensures most { TicksForPart D.operations self.old self.new D.counted all_checked
+        ensures ticked { TicksForReport D.operations self.old self.new D.counted
+            steps.old steps.new result }
+        ensures ticked_filled { TicksForPart D.operations self.old self.new D.counted all_checked
             steps.old steps.new }
     {
         reports_are_sound::<D>();
@@ -260,16 +252,15 @@ impl<D: Domain> Session<D> {
         alloc: Global,
         steps: &mut Steps<L>,
     ) -> Result<Findings, Memory>
-        ensures domain { self.new.engine.domain ≡ self.old.engine.domain }
-        ensures spare { self.new.engine.spare ≡ self.old.engine.spare }
-        ensures bounded { IsBounded self.new.engine.spare self.new.engine.store }
-        ensures next_ticket { self.new.book.tickets.next ≡ self.old.book.tickets.next }
+        ensures setup { KeepsSetup self.old.engine self.new.engine }
+        ensures bounded { IsWithinBound self.new }
+        ensures next_ticket { KeepsNextTicket self.old self.new }
         ensures reports { ReportsFrom D.operations self.old self.new result }
         ensures sound { IfOk result (AreFindingsSound self.old) }
         ensures least { steps.old ≤ steps.new }
-        ensures ticked { TicksForReport D.operations self.old self.new D.counted steps.old
-            steps.new result }
-        ensures most { TicksForPart D.operations self.old self.new D.counted all_checked
+        ensures ticked { TicksForReport D.operations self.old self.new D.counted
+            steps.old steps.new result }
+        ensures ticked_filled { TicksForPart D.operations self.old self.new D.counted all_checked
             steps.old steps.new }
     {
         self.parts.engine.sweep();

@@ -2,10 +2,9 @@
 ghost use Rattle.std.specs.Prelude.{◌≡◌, ◌+◌, ◌*◌, ◌<◌, ◌≤◌, length, IfOk, option_copied};
 ghost use Rattle.std.specs.Prelude.{option_map};
 ghost use Rattle.call_contexts.specs.Settings.{engine_of};
-ghost use Rattle.daig_query.specs.Swept.{IsBounded};
-ghost use Rattle.daig_machine.specs.Machine.{first_machine, ticket_of, Machine, Ticket};
+ghost use Rattle.daig_machine.specs.Machine.{first_machine, ticket_of, Ticket};
 ghost use Rattle.daig_session.specs.Books.{AreBelow};
-ghost use Rattle.daig_session.specs.Sessions.{IsReadyBy, StandsFor};
+ghost use Rattle.daig_session.specs.Sessions.{IsReadyBy, StandsFor, OfEachMachine, IsWithinBound};
 
 use crate::book::Book;
 use crate::parts::Parts;
@@ -67,7 +66,7 @@ impl<D: Domain + Drop> Session<D> {
         requires memo { 0 < memo }
         ensures domain { IfOk result (λ s. s.engine.domain ≡ domain) }
         ensures spare { IfOk result (λ s. s.engine.spare ≤ 4 * memo + 4096) }
-        ensures bounded { IfOk result (λ s. IsBounded s.engine.spare s.engine.store) }
+        ensures bounded { IfOk result IsWithinBound }
         ensures begins { IfOk result (λ s. StandsFor D.operations s
             (first_machine table.program (engine_of budget widening) next)) }
     {
@@ -96,15 +95,14 @@ impl<D: Domain> Session<D> {
 
     /// The present program.
     pub fn program(&self) -> &Table
-        ensures is { (m : Machine) → StandsFor D.operations self.now m →
-            result.now.program ≡ m.program }
+        ensures is { OfEachMachine D.operations self.now (λ m. result.now.program ≡ m.program) }
     {
         self.parts.book.history.table()
     }
 
     /// The number of the next new statement.
     pub fn next(&self) -> u32
-        ensures is { (m : Machine) → StandsFor D.operations self.now m → result ≡ m.next }
+        ensures is { OfEachMachine D.operations self.now (λ m. result ≡ m.next) }
         ensures same { result ≡ self.now.book.next }
     {
         self.parts.book.next
@@ -112,21 +110,21 @@ impl<D: Domain> Session<D> {
 
     /// How many cells the last answered query, report, step or `why` filled.
     pub fn cost(&self) -> u64
-        ensures is { (m : Machine) → StandsFor D.operations self.now m → result ≡ m.cost }
+        ensures is { OfEachMachine D.operations self.now (λ m. result ≡ m.cost) }
     {
         self.parts.book.cost
     }
 
     /// How many cells are kept.
     pub fn kept_count(&self) -> usize
-        ensures is { (m : Machine) → StandsFor D.operations self.now m → result ≡ length m.kept }
+        ensures is { OfEachMachine D.operations self.now (λ m. result ≡ length m.kept) }
     {
         self.parts.engine.kept_count()
     }
 
     /// The number of the next ticket.
     pub fn next_ticket(&self) -> u64
-        ensures is { (m : Machine) → StandsFor D.operations self.now m → result ≡ m.next_ticket }
+        ensures is { OfEachMachine D.operations self.now (λ m. result ≡ m.next_ticket) }
         ensures same { result ≡ self.now.book.tickets.next }
     {
         self.parts.book.tickets.next
@@ -135,8 +133,8 @@ impl<D: Domain> Session<D> {
     /// Where an open ticket asks; `None` where no ticket of this number is open. It takes time linear in the open tickets,
     /// which are few.
     pub fn ticket_at(&self, ticket: u64) -> Option<&Location>
-        ensures is { (m : Machine) → StandsFor D.operations self.now m →
-            option_copied result ≡ option_map (λ (t : Ticket). t.at) (ticket_of ticket m.tickets) }
+        ensures is { OfEachMachine D.operations self.now (λ m. option_copied result ≡ option_map
+            (λ (t : Ticket). t.at) (ticket_of ticket m.tickets)) }
     {
         match self.parts.book.tickets.place_of(ticket) {
             None => None,

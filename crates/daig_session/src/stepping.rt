@@ -1,22 +1,15 @@
 //! Steps of tickets.
-ghost use Rattle.std.specs.Prelude.{◌≡◌, ◌+◌, ◌*◌, ◌<◌, ◌≤◌, ◌↔◌, ℕ, suc, List, length, map, min};
-ghost use Rattle.std.specs.Prelude.{Some, IfOk, IfErr, IsTrue, slice_get};
-ghost use Rattle.imp_syntax.specs.declared.edit.Location.{Location};
-ghost use Rattle.batch_meaning.specs.Answers.{answer};
-ghost use Rattle.imp_check.specs.Slots.{routines_of};
-ghost use Rattle.imp_flow.specs.Reached.{target_of};
-ghost use Rattle.daig_query.specs.Answered.{AreFilled};
-ghost use Rattle.daig_query.specs.Filled.{cells_added, missing, Fills};
-ghost use Rattle.daig_query.specs.Swept.{FillsFew, IsBounded};
-ghost use Rattle.daig_tickets.specs.declared.tickets.OpenTicket.{OpenTicket};
-ghost use Rattle.daig_session.specs.declared.book.Going.{Going as AnyGoing};
-ghost use Rattle.daig_session.specs.Books.{flow_in, IsWithout};
-ghost use Rattle.daig_session.specs.Going.{IsGoing, IsRefused};
-ghost use Rattle.daig_session.specs.Holds.{IsAtPlace, IsReady};
-ghost use Rattle.daig_session.specs.Sessions.{IsReadyBy};
-ghost use Rattle.daig_session.specs.Questions.{StepsFrom, CoversStep, TicksForStep, missing_count};
-ghost use Rattle.daig_session.specs.Questions.{StepsThere, CoversThere, TicksForThere};
-ghost use Rattle.daig_session.specs.Questions.{TicksForSomeThere, TicksForSomeStep};
+ghost use Rattle.std.specs.Prelude.{◌≡◌, ◌<◌, ◌≤◌, ◌↔◌, length, min, IfOk, IsTrue};
+ghost use Rattle.daig_query.specs.Swept.{FillsFew};
+ghost use Rattle.daig_session.specs.Books.{IsWithout};
+ghost use Rattle.daig_session.specs.Holds.{IsAtPlace};
+ghost use Rattle.daig_session.specs.Sessions.{IsReadyBy, KeepsNextTicket, IsWithinBound};
+ghost use Rattle.daig_session.specs.Questions.{StepsFrom, CoversStep, TicksForStep, StepsThere};
+ghost use Rattle.daig_session.specs.Questions.{CoversThere, TicksForThere, TicksForSomeThere};
+ghost use Rattle.daig_session.specs.Questions.{TicksForSomeStep};
+ghost use Rattle.daig_session.specs.Engines.{IsReadyWith, IsUnderWay, ResumesAt, RefusesAt};
+ghost use Rattle.daig_session.specs.Engines.{missing_for, WorksAtMost, IsAdded, TicksForAdded};
+ghost use Rattle.daig_session.specs.Engines.{FillsFirst, GoesOn, HasAll, KeepsSetup};
 
 use crate::asking::{begun, read_answer};
 use crate::book::{Book, Going};
@@ -48,17 +41,11 @@ fn resumed<D: Domain>(
     book: &mut Book,
     place: usize,
 ) -> Result<Going, QueryError>
-    requires ready { IsReady (D.operations engine.now.domain) engine.now.store book.old }
+    requires ready { IsReadyWith D.operations engine.now book.old }
     requires there { place < length book.old.tickets.open_ones.items }
     ensures left { IsWithout place book.old book.new }
-    ensures going { (o : OpenTicket AnyGoing) →
-        slice_get book.old.tickets.open_ones.items place ≡ Some o →
-        IfOk result (IsGoing (D.operations engine.now.domain) (flow_in book.old) engine.now.store
-        o.at o.string) }
-    ensures refused { (o : OpenTicket AnyGoing) →
-        slice_get book.old.tickets.open_ones.items place ≡ Some o →
-        IfErr result (IsRefused (answer (D.operations engine.now.domain) book.old.setting.engine
-        (routines_of book.old.history.now) o.at o.string)) }
+    ensures going { ResumesAt D.operations engine.now book.old place result }
+    ensures refused { RefusesAt D.operations engine.now book.old place result }
 {
     match take_going(&mut book.tickets.open_ones, place) {
         Some(going) => Ok(going),
@@ -79,32 +66,23 @@ fn fill_some<D: Domain, L: Ledger>(
     most: usize,
     steps: &mut Steps<L>,
 ) -> Result<Progress, Memory>
-    requires ready { IsReady (D.operations engine.old.domain) engine.old.store book.now }
-    requires going { (l : Location) × (string : List ℕ) × IsGoing (D.operations engine.old.domain)
-        (flow_in book.now) engine.old.store l string going.old }
-    ensures domain { engine.new.domain ≡ engine.old.domain }
-    ensures spare { engine.new.spare ≡ engine.old.spare }
-    ensures fills { Fills (D.operations engine.old.domain) (flow_in book.now)
-        (map target_of going.old.targets) engine.old.store engine.new.store
-        (cells_added engine.old.store engine.new.store) }
-    ensures few { FillsFew engine.old.store engine.new.store }
-    ensures going { (l : Location) (string : List ℕ) →
-        IsGoing (D.operations engine.old.domain) (flow_in book.now) engine.old.store
-        l string going.old → IsGoing (D.operations engine.old.domain) (flow_in book.now)
-        engine.new.store l string going.new }
-    ensures counted { IfOk result (λ p. p.filled ≡ cells_added engine.old.store engine.new.store) }
-    ensures first { IfOk result (λ p. p.filled ≡ min most
-        (missing_count (D.operations engine.old.domain) book.now going.old engine.old.store)) }
-    ensures all { IfOk result (λ p. IsTrue p.done ↔
-        (missing_count (D.operations engine.old.domain) book.now going.old engine.old.store ≤ most)) }
+    requires ready { IsReadyWith D.operations engine.old book.now }
+    requires going { IsUnderWay D.operations engine.old book.now going.old }
+    ensures setup { KeepsSetup engine.old engine.new }
+    ensures fills { FillsFirst D.operations engine.old engine.new book.now going.old }
+    ensures adds_few { FillsFew engine.old.store engine.new.store }
+    ensures going { GoesOn D.operations engine.old engine.new book.now going.old going.new }
+    ensures counted { IfOk result (λ p. IsAdded engine.old engine.new p.filled) }
+    ensures first { IfOk result
+        (λ p. p.filled ≡ min most (missing_for D.operations engine.old book.now going.old)) }
+    ensures done { IfOk result
+        (λ p. IsTrue p.done ↔ (missing_for D.operations engine.old book.now going.old ≤ most)) }
     ensures filled { IfOk result (λ p. IsTrue p.done →
-        AreFilled (D.operations engine.old.domain) engine.new.store going.new.walk
-        (flow_in book.now) (map target_of going.old.targets)) }
+        HasAll D.operations engine.old engine.new book.now going.old going.new) }
     ensures least { steps.old ≤ steps.new }
-    ensures ticked { IfOk result (λ p.
-        steps.new ≤ steps.old + D.counted engine.old.domain * p.filled) }
-    ensures most { steps.new ≤ steps.old
-        + D.counted engine.old.domain * suc (cells_added engine.old.store engine.new.store) }
+    ensures ticked { IfOk result
+        (λ p. WorksAtMost D.counted engine.old steps.old steps.new p.filled) }
+    ensures ticked_filled { TicksForAdded engine.old engine.new D.counted steps.old steps.new }
 {
     let flow = book.flow();
     let Going { targets, walk } = going;
@@ -125,17 +103,16 @@ impl<D: Domain> Parts<D> {
         requires there { IsAtPlace (D.operations self.old.engine.domain) self.old.engine.store
             self.old.book place going }
         ensures ready { IsReadyBy D.operations self.new }
-        ensures domain { self.new.engine.domain ≡ self.old.engine.domain }
-        ensures spare { self.new.engine.spare ≡ self.old.engine.spare }
-        ensures few { FillsFew self.old.engine.store self.new.engine.store }
-        ensures next_ticket { self.new.book.tickets.next ≡ self.old.book.tickets.next }
+        ensures setup { KeepsSetup self.old.engine self.new.engine }
+        ensures adds_few { FillsFew self.old.engine.store self.new.engine.store }
+        ensures next_ticket { KeepsNextTicket self.old self.new }
         ensures steps { StepsThere D.operations self.old self.new place most result }
         ensures sound { CoversThere D.operations self.old self.new place D.covers result }
         ensures least { steps.old ≤ steps.new }
-        ensures ticked { TicksForThere D.operations self.old self.new place D.counted steps.old
-            steps.new result }
-        ensures most { TicksForSomeThere D.operations self.old self.new place D.counted steps.old
-            steps.new }
+        ensures ticked { TicksForThere D.operations self.old self.new place D.counted
+            steps.old steps.new result }
+        ensures ticked_filled { TicksForSomeThere D.operations self.old self.new place D.counted
+            steps.old steps.new }
     {
         questions_keep_cells::<D>();
         let progress = fill_some(alloc, &mut self.engine, &self.book, &mut going, most, steps)?;
@@ -161,17 +138,16 @@ impl<D: Domain> Parts<D> {
     ) -> Result<StepResult<D::State>, StepError>
         requires ready { IsReadyBy D.operations self.old }
         ensures ready { IsReadyBy D.operations self.new }
-        ensures domain { self.new.engine.domain ≡ self.old.engine.domain }
-        ensures spare { self.new.engine.spare ≡ self.old.engine.spare }
-        ensures few { FillsFew self.old.engine.store self.new.engine.store }
-        ensures next_ticket { self.new.book.tickets.next ≡ self.old.book.tickets.next }
+        ensures setup { KeepsSetup self.old.engine self.new.engine }
+        ensures adds_few { FillsFew self.old.engine.store self.new.engine.store }
+        ensures next_ticket { KeepsNextTicket self.old self.new }
         ensures steps { StepsFrom D.operations self.old self.new ticket most result }
         ensures sound { CoversStep D.operations self.old self.new ticket D.covers result }
         ensures least { steps.old ≤ steps.new }
-        ensures ticked { TicksForStep D.operations self.old self.new ticket D.counted steps.old
-            steps.new result }
-        ensures most { TicksForSomeStep D.operations self.old self.new ticket D.counted steps.old
-            steps.new }
+        ensures ticked { TicksForStep D.operations self.old self.new ticket D.counted
+            steps.old steps.new result }
+        ensures ticked_filled { TicksForSomeStep D.operations self.old self.new ticket D.counted
+            steps.old steps.new }
     {
         let Some(place) = self.book.tickets.place_of(ticket) else {
             return Err(StepError::NoTicket);
@@ -204,17 +180,16 @@ impl<D: Domain> Session<D> {
         most: u32,
         steps: &mut Steps<L>,
     ) -> Result<StepResult<D::State>, StepError>
-        ensures domain { self.new.engine.domain ≡ self.old.engine.domain }
-        ensures spare { self.new.engine.spare ≡ self.old.engine.spare }
-        ensures bounded { IsBounded self.new.engine.spare self.new.engine.store }
-        ensures next_ticket { self.new.book.tickets.next ≡ self.old.book.tickets.next }
+        ensures setup { KeepsSetup self.old.engine self.new.engine }
+        ensures bounded { IsWithinBound self.new }
+        ensures next_ticket { KeepsNextTicket self.old self.new }
         ensures steps { StepsFrom D.operations self.old self.new ticket most result }
         ensures sound { CoversStep D.operations self.old self.new ticket D.covers result }
         ensures least { steps.old ≤ steps.new }
-        ensures ticked { TicksForStep D.operations self.old self.new ticket D.counted steps.old
-            steps.new result }
-        ensures most { TicksForSomeStep D.operations self.old self.new ticket D.counted steps.old
-            steps.new }
+        ensures ticked { TicksForStep D.operations self.old self.new ticket D.counted
+            steps.old steps.new result }
+        ensures ticked_filled { TicksForSomeStep D.operations self.old self.new ticket D.counted
+            steps.old steps.new }
     {
         self.parts.engine.sweep();
         self.parts.step_now(alloc, ticket, most, steps)

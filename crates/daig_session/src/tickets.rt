@@ -1,14 +1,10 @@
 //! Tickets: questions that are answered in steps.
-ghost use Rattle.std.specs.Prelude.{◌≡◌, ◌+◌, ◌<◌, ◌≤◌, ◌^◌, length, Err, IfErr, IfOk, OnOk, Some};
-ghost use Rattle.std.specs.Prelude.{slice_get, slice_set};
-ghost use Rattle.daig_machine.specs.Machine.{Machine, ticket_of};
-ghost use Rattle.daig_tickets.specs.declared.tickets.OpenTicket.{OpenTicket as AnyOpen};
+ghost use Rattle.std.specs.Prelude.{◌≡◌, ◌+◌, ◌<◌, ◌≤◌, ◌^◌, length, IfOk, OnOk};
 ghost use Rattle.daig_tickets.specs.Tickets.{anew};
-ghost use Rattle.daig_session.specs.declared.book.Going.{Going as AnyGoing};
-ghost use Rattle.daig_session.specs.Books.{flow_in};
-ghost use Rattle.daig_session.specs.Going.{IsGoing};
-ghost use Rattle.daig_session.specs.Sessions.{IsReadyBy, StandsFor, FromEach};
-ghost use Rattle.daig_session.specs.Turns.{Cancels, Opens};
+ghost use Rattle.daig_session.specs.Books.{flow_in, OfTicketAt, RemakesAt, come_to};
+ghost use Rattle.daig_session.specs.Sessions.{IsReadyBy, KeepsNextTicket};
+ghost use Rattle.daig_session.specs.Engines.{HasCome, KeepsSetup};
+ghost use Rattle.daig_session.specs.Questions.{OpensFrom, StaysUnopened, CancelsFrom};
 
 use crate::asking::begun;
 use crate::book::Going;
@@ -25,10 +21,8 @@ use std::alloc::Global;
 /// Takes what a ticket has come to: it is to begin anew.
 pub(crate) fn take_going(open_ones: &mut Vec<OpenTicket<Going>>, place: usize) -> Option<Going>
     requires there { place < length open_ones.old.items }
-    ensures taken { (o : AnyOpen AnyGoing) → slice_get open_ones.old.items place ≡ Some o →
-        result ≡ o.going }
-    ensures left { (o : AnyOpen AnyGoing) → slice_get open_ones.old.items place ≡ Some o →
-        open_ones.new.items ≡ slice_set open_ones.old.items place (anew o) }
+    ensures taken { OfTicketAt open_ones.old.items place (λ o. result ≡ o.going) }
+    ensures left { RemakesAt place anew open_ones.old.items open_ones.new.items }
 {
     let one = &mut open_ones[place];
     one.going.take()
@@ -37,9 +31,7 @@ pub(crate) fn take_going(open_ones: &mut Vec<OpenTicket<Going>>, place: usize) -
 /// Puts back what a ticket has come to.
 pub(crate) fn put_going(open_ones: &mut Vec<OpenTicket<Going>>, place: usize, going: Going)
     requires there { place < length open_ones.old.items }
-    ensures put { (o : AnyOpen AnyGoing) → slice_get open_ones.old.items place ≡ Some o →
-        open_ones.new.items ≡ slice_set open_ones.old.items place
-        (record o { going = Some going }) }
+    ensures put { RemakesAt place (come_to going) open_ones.old.items open_ones.new.items }
 {
     let one = &mut open_ones[place];
     one.going = Some(going);
@@ -63,12 +55,10 @@ impl<D: Domain> Parts<D> {
     /// A question that a ticket is to be opened for, or why none is opened.
     fn asked_going(&self, alloc: Global, at: &Location, string: &[u32]) -> Result<Going, AskError>
         requires ready { IsReadyBy D.operations self.now }
-        ensures few { OnOk result (length self.now.book.tickets.open_ones.items < 16) }
-        ensures going { IfOk result (IsGoing (D.operations self.now.engine.domain)
-            (flow_in self.now.book) self.now.engine.store at.now string.now) }
-        ensures unopened { (m : Machine) → StandsFor D.operations self.now m →
-            IfErr result (λ e. Opens (D.operations self.now.engine.domain) m
-            (StandsFor D.operations self.now) at.now string.now (Err e)) }
+        ensures not_full { OnOk result (length self.now.book.tickets.open_ones.items < 16) }
+        ensures going { IfOk result
+            (HasCome D.operations self.now.engine (flow_in self.now.book) at.now string.now) }
+        ensures unopened { StaysUnopened D.operations self.now at.now string.now result }
     {
         if string.len() > 2 {
             return Err(AskError::Refused(QueryRefusal::LongString));
@@ -92,12 +82,10 @@ impl<D: Domain> Session<D> {
     /// session is then as it was.
     pub fn ask(&mut self, alloc: Global, at: Location, string: Items<u32>) -> Result<u64, AskError>
         requires room { self.old.book.tickets.next < 2 ^ 63 }
-        ensures domain { self.new.engine.domain ≡ self.old.engine.domain }
-        ensures spare { self.new.engine.spare ≡ self.old.engine.spare }
+        ensures setup { KeepsSetup self.old.engine self.new.engine }
         ensures unmoved { self.new.engine.store ≡ self.old.engine.store }
         ensures rises { self.new.book.tickets.next ≤ self.old.book.tickets.next + 1 }
-        ensures opens { FromEach D.operations self.old self.new
-            (λ dom m stands. Opens dom m stands at string result) }
+        ensures opens { OpensFrom D.operations self.old self.new at string result }
     {
         let going = self.parts.asked_going(alloc, &at, string.as_slice())?;
         let number = self.parts.book.tickets.add(at, string, going)?;
@@ -110,12 +98,10 @@ impl<D: Domain> Session<D> {
     ///
     /// [`NoTicket`] exactly where no ticket of this number is open.
     pub fn cancel(&mut self, ticket: u64) -> Result<(), NoTicket>
-        ensures domain { self.new.engine.domain ≡ self.old.engine.domain }
-        ensures spare { self.new.engine.spare ≡ self.old.engine.spare }
+        ensures setup { KeepsSetup self.old.engine self.new.engine }
         ensures unmoved { self.new.engine.store ≡ self.old.engine.store }
-        ensures next_ticket { self.new.book.tickets.next ≡ self.old.book.tickets.next }
-        ensures cancels { FromEach D.operations self.old self.new
-            (λ _ m stands. Cancels m stands ticket (ticket_of ticket m.tickets) result) }
+        ensures next_ticket { KeepsNextTicket self.old self.new }
+        ensures cancels { CancelsFrom D.operations self.old self.new ticket result }
     {
         match self.parts.book.tickets.place_of(ticket) {
             None => Err(NoTicket),

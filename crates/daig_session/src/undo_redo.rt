@@ -1,11 +1,9 @@
 //! Undo and redo.
 ghost use Rattle.std.specs.Prelude.{◌≡◌, IfOk, IfErr, OnErr, OnOk};
-ghost use Rattle.daig_query.specs.Swept.{IsBounded};
-ghost use Rattle.daig_machine.specs.Turns.{redone, undone};
-ghost use Rattle.daig_session.specs.Sessions.{IsReadyBy, FromEach};
-ghost use Rattle.daig_session.specs.Moves.{IsMovingTo};
-ghost use Rattle.daig_session.specs.Sides.{gone_to, programs_of, side_of};
-ghost use Rattle.daig_session.specs.Turns.{Goes, IsStopped};
+ghost use Rattle.daig_session.specs.Sessions.{IsReadyBy, KeepsNextTicket, IsWithinBound};
+ghost use Rattle.daig_session.specs.Sides.{programs_of, IsMovingAlong, GoesAlong};
+ghost use Rattle.daig_session.specs.Turns.{IsStopped};
+ghost use Rattle.daig_session.specs.Engines.{KeepsSetup};
 
 use crate::book::Side;
 use crate::error::UndoError;
@@ -19,8 +17,7 @@ impl<D: Domain> Parts<D> {
     /// The move to the nearest program of a side, if there is one.
     fn nearest_move(&self, alloc: Global, side: Side) -> Result<Moving, UndoError>
         requires ready { IsReadyBy D.operations self.now }
-        ensures moving { IfOk result (IsMovingTo self.now.engine.store self.now.book.setting.engine
-            self.now.book.history.now (programs_of side self.now.book)) }
+        ensures moving { IfOk result (IsMovingAlong side self.now) }
         ensures stopped { IfErr result (IsStopped (programs_of side self.now.book)) }
     {
         let Some(change) = self.book.nearest(side) else {
@@ -35,13 +32,11 @@ impl<D: Domain> Parts<D> {
     fn go(&mut self, alloc: Global, side: Side) -> Result<u32, UndoError>
         requires ready { IsReadyBy D.operations self.old }
         ensures ready { IsReadyBy D.operations self.new }
-        ensures domain { self.new.engine.domain ≡ self.old.engine.domain }
-        ensures spare { self.new.engine.spare ≡ self.old.engine.spare }
-        ensures bounded { OnOk result (IsBounded self.new.engine.spare self.new.engine.store) }
+        ensures setup { KeepsSetup self.old.engine self.new.engine }
+        ensures bounded { OnOk result (IsWithinBound self.new) }
         ensures unmoved { OnErr result (self.new.engine.store ≡ self.old.engine.store) }
-        ensures next_ticket { self.new.book.tickets.next ≡ self.old.book.tickets.next }
-        ensures goes { FromEach D.operations self.old self.new
-            (λ dom m stands. Goes m stands (side_of side m) (gone_to side dom m) result) }
+        ensures next_ticket { KeepsNextTicket self.old self.new }
+        ensures goes { GoesAlong side D.operations self.old self.new result }
     {
         let Moving { setting, plan } = self.nearest_move(alloc, side)?;
         leave(&mut self.engine, plan);
@@ -59,13 +54,11 @@ impl<D: Domain> Session<D> {
     /// [`UndoError::Nothing`] exactly where no program is before the present one, and [`UndoError::Memory`] when memory runs
     /// out. The session is then as it was.
     pub fn undo(&mut self, alloc: Global) -> Result<u32, UndoError>
-        ensures domain { self.new.engine.domain ≡ self.old.engine.domain }
-        ensures spare { self.new.engine.spare ≡ self.old.engine.spare }
-        ensures bounded { OnOk result (IsBounded self.new.engine.spare self.new.engine.store) }
+        ensures setup { KeepsSetup self.old.engine self.new.engine }
+        ensures bounded { OnOk result (IsWithinBound self.new) }
         ensures unmoved { OnErr result (self.new.engine.store ≡ self.old.engine.store) }
-        ensures next_ticket { self.new.book.tickets.next ≡ self.old.book.tickets.next }
-        ensures goes { FromEach D.operations self.old self.new
-            (λ dom m stands. Goes m stands m.past (undone dom m) result) }
+        ensures next_ticket { KeepsNextTicket self.old self.new }
+        ensures goes { GoesAlong Side.Behind D.operations self.old self.new result }
     {
         self.parts.go(alloc, Side::Behind)
     }
@@ -77,13 +70,11 @@ impl<D: Domain> Session<D> {
     /// [`UndoError::Nothing`] exactly where no program is after the present one, and [`UndoError::Memory`] when memory runs
     /// out. The session is then as it was.
     pub fn redo(&mut self, alloc: Global) -> Result<u32, UndoError>
-        ensures domain { self.new.engine.domain ≡ self.old.engine.domain }
-        ensures spare { self.new.engine.spare ≡ self.old.engine.spare }
-        ensures bounded { OnOk result (IsBounded self.new.engine.spare self.new.engine.store) }
+        ensures setup { KeepsSetup self.old.engine self.new.engine }
+        ensures bounded { OnOk result (IsWithinBound self.new) }
         ensures unmoved { OnErr result (self.new.engine.store ≡ self.old.engine.store) }
-        ensures next_ticket { self.new.book.tickets.next ≡ self.old.book.tickets.next }
-        ensures goes { FromEach D.operations self.old self.new
-            (λ dom m stands. Goes m stands m.future (redone dom m) result) }
+        ensures next_ticket { KeepsNextTicket self.old self.new }
+        ensures goes { GoesAlong Side.Ahead D.operations self.old self.new result }
     {
         self.parts.go(alloc, Side::Ahead)
     }

@@ -27,5 +27,5 @@ advance-requires-clause-walk g c =
     subst (λ (xs : List Target). IsGood dom c.flow-flow.result (map target_of xs) store c.args.going.now.walk) (sym c.as_slice.ensures.same) (
     subst (λ (p : Plan). IsGood dom p (map target_of c.args.going.now.targets) store c.args.going.now.walk) (sym c.flow-flow.ensures.is) c.requires.going.2.good)
 
-pub returns-clause-few : goal.returns-clause-few
-returns-clause-few g c = fills-few _ _ _ _ _ c.advance.ensures.fills
+pub returns-clause-adds_few : goal.returns-clause-adds_few
+returns-clause-adds_few g c = fills-few _ _ _ _ _ c.advance.ensures.fills

@@ -19,7 +19,7 @@ returns-in-Ok-line_of-clause-turn g c = λ m h.
     let held = c.in-Ok.ensures.holds m h in
     let made = c.commit.ensures.committed c.args.edit.now m planned held in
     edit_follows g.D.Domain.operations now.engine.domain now.engine.store now.book c.args.edit.now m h _ then.engine.domain then.engine.store then.book c.next.result _
-    held c.in-Ok.ensures.domain c.in-Ok.ensures.accepted (c.next.ensures.is c.args.edit.now planned) (search rules) c.in-Ok-line_of.ensures.line
+    held c.in-Ok.ensures.setup.0 c.in-Ok.ensures.accepted (c.next.ensures.is c.args.edit.now planned) (search rules) c.in-Ok-line_of.ensures.line
 
 pub returns-in-Err-line_of-clause-unchanged : goal.returns-in-Err-line_of-clause-unchanged
 returns-in-Err-line_of-clause-unchanged g c = λ m h.

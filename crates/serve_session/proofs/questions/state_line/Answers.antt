@@ -20,7 +20,7 @@ returns-in-Ok-clause-turn g c = λ m h.
     let is : Questions dom m stands at c.args.query.now.string (Ok c.in-Ok.value) = subst (λ (s : List ℕ). Questions dom m stands at s (Ok c.in-Ok.value)) string (c.in-Ok.ensures.answers m h) in
     let a = answer_at dom at c.args.query.now.string m in
     follows c.value_line.result (λ v. v.items) (state_turn dom c.args.query.now m) stands (answer_reply dom (layout_at (routines_of m.program) at) a) (state_answered dom m stands c.args.query.now c.in-Ok.value is)
-    (subst (λ (d : g.row.D.Denot). Writes c.value_line.result (λ v. v.items) (answer_reply (g.D.Domain.operations d) (layout_at (routines_of m.program) at) a)) c.query.ensures.domain
+    (subst (λ (d : g.row.D.Denot). Writes c.value_line.result (λ v. v.items) (answer_reply (g.D.Domain.operations d) (layout_at (routines_of m.program) at) a)) c.query.ensures.setup.0
     (c.value_line.ensures.line (after_question dom at c.args.query.now.string m) a is.1 is.0))
 
 pub returns-clause-turn : goal.returns-clause-turn

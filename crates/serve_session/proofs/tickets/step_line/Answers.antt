@@ -16,7 +16,7 @@ returns-in-Ok-clause-turn g c = λ m h.
     let there : Some c.in_ok-at.at ≡ option_map (λ (t : Ticket). t.at) o = ap Some c.in_ok-at.ensures.same ∙ c.in-Some.ensures.is m h in
     step_follows dom m stands c.args.n c.turn_line.result (λ v. v.items) o c.in_ok-at.at (checked_here dom now.engine.store now.book m c.ready.ensures.ready h) (ticket_short dom now.engine.store now.book m c.args.ticket c.ready.ensures.ready h) there
     c.in-Ok.turn (c.in-Ok.ensures.steps m h)
-    (subst (λ (d : g.row.D.Denot). TellsTurn c.turn_line.result (λ v. v.items) (g.D.Domain.operations d) stands c.in_ok-at.at c.in-Ok.turn) c.step.ensures.domain c.turn_line.ensures.tells)
+    (subst (λ (d : g.row.D.Denot). TellsTurn c.turn_line.result (λ v. v.items) (g.D.Domain.operations d) stands c.in_ok-at.at c.in-Ok.turn) c.step.ensures.setup.0 c.turn_line.ensures.tells)
 
 pub returns-in-Ok-clause-between : goal.returns-in-Ok-clause-between
 returns-in-Ok-clause-between g c = λ m h.

@@ -43,8 +43,8 @@ returns-in_err-going-clause-unopened g c = λ m h.
     let p = err_from_is_err_and c.from_residual.result c.from_residual.ensures.1 in
     rw (p.1, p.2) (ask_refused dom s.book s.engine.store m c.args.at.now c.args.string.now c.in_err-going.field-0.0 h few is)
 
-pub returns-clause-few : goal.returns-clause-few
-returns-clause-few g c = grind (arith, nat_tests, c.if-is_full.false, c.is_full.ensures.is)
+pub returns-clause-not_full : goal.returns-clause-not_full
+returns-clause-not_full g c = grind (arith, nat_tests, c.if-is_full.false, c.is_full.ensures.is)
 
 pub returns-clause-going : goal.returns-clause-going
 returns-clause-going g c =

@@ -27,8 +27,8 @@ fill_now-requires g c =
 pub returns-clause-bounded : goal.returns-clause-bounded
 returns-clause-bounded g c =
     let new = c.fill_now.new.self.engine in
-    subst (λ n. IsBounded n new.store) (sym (c.fill_now.ensures.spare ∙ c.sweep.ensures.spare))
-    (filled-bounded c.args.self.now.engine.spare c.sweep.new.self.store new.store c.sweep.ensures.bounded c.fill_now.ensures.few)
+    subst (λ n. IsBounded n new.store) (sym (c.fill_now.ensures.setup.1 ∙ c.sweep.ensures.spare))
+    (filled-bounded c.args.self.now.engine.spare c.sweep.new.self.store new.store c.sweep.ensures.bounded c.fill_now.ensures.adds_few)
 
 pub returns-clause-filled : goal.returns-clause-filled
 returns-clause-filled g c =
@@ -38,14 +38,14 @@ pub returns-clause-counted : goal.returns-clause-counted
 returns-clause-counted g c =
     subst (λ n. IfOk c.fill_now.result (λ f. f.count ≡ n)) (swept-added c.args.self.now.engine.store c.sweep.new.self.store c.fill_now.new.self.engine.store c.sweep.ensures.swept) c.fill_now.ensures.counted
 
-pub returns-clause-all : goal.returns-clause-all
-returns-clause-all g c = λ m h.
+pub returns-clause-missing : goal.returns-clause-missing
+returns-clause-missing g c = λ m h.
     let s = c.args.self.now in
     let ops = g.D.Domain.operations in
     let mid = c.sweep.new.self in
     let stood = behind-holds (ops s.engine.domain) (ops mid.domain) (ap ops c.sweep.ensures.domain) s.engine.store mid.store c.sweep.ensures.swept s.book in
     subst (λ d. IfOk c.fill_now.result (λ f. f.count ≡ length (missing_at (g.D.Domain.operations d) c.args.at.now c.args.string.now m))) c.sweep.ensures.domain
-    (c.fill_now.ensures.all m (stood m h))
+    (c.fill_now.ensures.missing m (stood m h))
 
 pub returns-clause-answered : goal.returns-clause-answered
 returns-clause-answered g c = λ m h.
@@ -80,9 +80,9 @@ pub returns-clause-ticked : goal.returns-clause-ticked
 returns-clause-ticked g c =
     subst (λ d. IfOk c.fill_now.result (λ f. c.fill_now.new.steps ≤ c.args.steps.now + g.D.Domain.counted d * f.count)) c.sweep.ensures.domain c.fill_now.ensures.ticked
 
-pub returns-clause-most : goal.returns-clause-most
-returns-clause-most g c =
+pub returns-clause-ticked_filled : goal.returns-clause-ticked_filled
+returns-clause-ticked_filled g c =
     let new = c.fill_now.new.self.engine.store in
     let same = swept-added c.args.self.now.engine.store c.sweep.new.self.store new c.sweep.ensures.swept in
     subst (λ d. c.fill_now.new.steps ≤ c.args.steps.now + g.D.Domain.counted d * suc (cells_added c.args.self.now.engine.store new)) c.sweep.ensures.domain
-    (subst (λ n. c.fill_now.new.steps ≤ c.args.steps.now + g.D.Domain.counted c.sweep.new.self.domain * suc n) same c.fill_now.ensures.most)
+    (subst (λ n. c.fill_now.new.steps ≤ c.args.steps.now + g.D.Domain.counted c.sweep.new.self.domain * suc n) same c.fill_now.ensures.ticked_filled)

@@ -28,7 +28,7 @@ returns-clause-ready g c =
     let move = first_move s.engine.store s.book.setting.engine s.book.history.now after.history.now (programs_of side after) (programs_of side s.book) c.in_ok-setting.field-0 c.turn.ensures.nearest c.in_ok-setting.ensures.moving in
     let turned = c.turn.ensures.turned move.set in
     let left = c.leave.ensures.leaves s.book.setting.engine s.book.history.now after.history.now (go_apart (ops s.engine.domain) s.engine.store side s.book after c.requires.ready c.turn.ensures.nearest) c.requires.ready.right move.empties in
-    subst (λ d. IsReady (ops d) c.leave.new.engine.store after) (sym c.leave.ensures.domain) (go_ready (ops s.engine.domain) s.engine.store c.leave.new.engine.store side s.book after c.requires.ready c.turn.ensures.nearest turned left)
+    subst (λ d. IsReady (ops d) c.leave.new.engine.store after) (sym c.leave.ensures.setup.0) (go_ready (ops s.engine.domain) s.engine.store c.leave.new.engine.store side s.book after c.requires.ready c.turn.ensures.nearest turned left)
 
 pub returns-clause-goes : goal.returns-clause-goes
 returns-clause-goes g c = λ m h.
@@ -42,7 +42,7 @@ returns-clause-goes g c = λ m h.
     let some = moving_some s.engine.store s.book.setting.engine s.book.history.now (programs_of side s.book) c.in_ok-setting.field-0 c.in_ok-setting.ensures.moving in (
       subst (λ (z : Machine). 0 < length (side_of side z)) h.is (subst (λ ps. 0 < length ps) (side_here side s.book m.kept) some),
       turned.next_is ∙ ap (λ (z : Machine). z.next) h.is,
-      subst (λ d. Holds (ops d) c.leave.new.engine.store after (gone_to side (ops s.engine.domain) m)) (sym c.leave.ensures.domain) (go_holds (ops s.engine.domain) s.engine.store c.leave.new.engine.store side s.book after c.requires.ready c.turn.ensures.nearest turned left m h),
+      subst (λ d. Holds (ops d) c.leave.new.engine.store after (gone_to side (ops s.engine.domain) m)) (sym c.leave.ensures.setup.0) (go_holds (ops s.engine.domain) s.engine.store c.leave.new.engine.store side s.book after c.requires.ready c.turn.ensures.nearest turned left m h),
     )
 
 pub returns-clause-next_ticket : goal.returns-clause-next_ticket

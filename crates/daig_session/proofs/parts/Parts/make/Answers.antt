@@ -30,11 +30,11 @@ returns-clause-ready g c =
     let e = c.requires.planned.0 in
     let p = c.requires.planned.1 in
     let left = c.leave.ensures.leaves s.book.setting.engine s.book.history.now (edited e s.book.history.now) (inl (edit_apart (ops s.engine.domain) s.engine.store s.book c.args.planned e c.requires.ready p)) c.requires.ready.right p.moving.empties in
-    subst (λ d. IsReady (ops d) c.leave.new.engine.store c.remember.new.self) (sym c.leave.ensures.domain) (edit_ready (ops s.engine.domain) s.engine.store c.leave.new.engine.store s.book c.remember.new.self c.args.planned e c.requires.ready p c.remember.ensures.turned left)
+    subst (λ d. IsReady (ops d) c.leave.new.engine.store c.remember.new.self) (sym c.leave.ensures.setup.0) (edit_ready (ops s.engine.domain) s.engine.store c.leave.new.engine.store s.book c.remember.new.self c.args.planned e c.requires.ready p c.remember.ensures.turned left)
 
 pub returns-clause-committed : goal.returns-clause-committed
 returns-clause-committed g c = λ e m p h.
     let s = c.args.self.now in
     let ops = g.D.Domain.operations in
     let left = c.leave.ensures.leaves s.book.setting.engine s.book.history.now (edited e s.book.history.now) (inl (edit_apart (ops s.engine.domain) s.engine.store s.book c.args.planned e c.requires.ready p)) c.requires.ready.right p.moving.empties in
-    subst (λ d. Holds (ops d) c.leave.new.engine.store c.remember.new.self (after_edit (ops s.engine.domain) e m)) (sym c.leave.ensures.domain) (edit_holds (ops s.engine.domain) s.engine.store c.leave.new.engine.store s.book c.remember.new.self c.args.planned e c.requires.ready p c.remember.ensures.turned left m h)
+    subst (λ d. Holds (ops d) c.leave.new.engine.store c.remember.new.self (after_edit (ops s.engine.domain) e m)) (sym c.leave.ensures.setup.0) (edit_holds (ops s.engine.domain) s.engine.store c.leave.new.engine.store s.book c.remember.new.self c.args.planned e c.requires.ready p c.remember.ensures.turned left m h)

@@ -24,14 +24,14 @@ returns-in_default-clause-steps g c = λ m h.
     let none = subst (λ r. MatchOption r (ticket_of c.args.ticket (tickets s.book.tickets) ≡ None) (IsAt s.book.tickets c.args.ticket)) c.in_default.is c.place_of.ensures.is in
     subst (λ o. IsStepOf dom m (Holds dom s.engine.store s.book) c.args.most o (Err NoTicket)) (sym (no_ticket dom s.engine.store s.book m c.args.ticket h none)) (refl, h)
 
-pub returns-in_default-clause-few : goal.returns-in_default-clause-few
-returns-in_default-clause-few g c = few-none c.args.self.now.engine.store
+pub returns-in_default-clause-adds_few : goal.returns-in_default-clause-adds_few
+returns-in_default-clause-adds_few g c = few-none c.args.self.now.engine.store
 
-pub returns-in-Err-Refused-clause-few : goal.returns-in-Err-Refused-clause-few
-returns-in-Err-Refused-clause-few g c = few-none c.args.self.now.engine.store
+pub returns-in-Err-Refused-clause-adds_few : goal.returns-in-Err-Refused-clause-adds_few
+returns-in-Err-Refused-clause-adds_few g c = few-none c.args.self.now.engine.store
 
-pub returns-in-Err-Memory-clause-few : goal.returns-in-Err-Memory-clause-few
-returns-in-Err-Memory-clause-few g c = few-none c.args.self.now.engine.store
+pub returns-in-Err-Memory-clause-adds_few : goal.returns-in-Err-Memory-clause-adds_few
+returns-in-Err-Memory-clause-adds_few g c = few-none c.args.self.now.engine.store
 
 pub resumed-requires-clause-there : goal.resumed-requires-clause-there
 resumed-requires-clause-there g c = slice_get_within c.args.self.now.book.tickets.open_ones.items c.in-Some.place c.in-Some.ensures.is.one c.in-Some.ensures.is.there
@@ -131,8 +131,8 @@ returns-in-Err-Memory-clause-steps g c = λ m h.
     subst (λ o. IsStepOf dom m (Holds dom s.engine.store c.resumed.new.book) c.args.most o (Err Memory)) (sym (ticket_here dom s.engine.store s.book m c.args.ticket c.in-Some.place at.one h c.requires.ready.order.are_open at.there at.same)) (
     between_none (missing_at dom at.one.at at.one.string m) m (Holds dom s.engine.store c.resumed.new.book) (without_holds dom s.engine.store c.in-Some.place s.book c.resumed.new.book w at.one at.there m h))
 
-pub returns-in_default-clause-most : goal.returns-in_default-clause-most
-returns-in_default-clause-most g c = λ m h.
+pub returns-in_default-clause-ticked_filled : goal.returns-in_default-clause-ticked_filled
+returns-in_default-clause-ticked_filled g c = λ m h.
     let s = c.args.self.now in
     let dom = g.D.Domain.operations s.engine.domain in
     let each = g.D.Domain.counted s.engine.domain in
@@ -140,8 +140,8 @@ returns-in_default-clause-most g c = λ m h.
     let none = subst (λ r. MatchOption r (ticket_of c.args.ticket (tickets s.book.tickets) ≡ None) (IsAt s.book.tickets c.args.ticket)) c.in_default.is c.place_of.ensures.is in
     subst (λ o. MatchOption o (steps ≡ steps) (λ t. steps ≤ steps + each * suc (cells_added s.engine.store s.engine.store + 2 * length (targets_of m t.at t.string)))) (sym (no_ticket dom s.engine.store s.book m c.args.ticket h none)) refl
 
-pub returns-in-Ok-clause-most : goal.returns-in-Ok-clause-most
-returns-in-Ok-clause-most g c = λ m h.
+pub returns-in-Ok-clause-ticked_filled : goal.returns-in-Ok-clause-ticked_filled
+returns-in-Ok-clause-ticked_filled g c = λ m h.
     let s = c.args.self.now in
     let dom = g.D.Domain.operations s.engine.domain in
     let each = g.D.Domain.counted s.engine.domain in
@@ -149,10 +149,10 @@ returns-in-Ok-clause-most g c = λ m h.
     let w = c.resumed.ensures.left in
     let new = c.step_on.new.self in
     subst (λ o. MatchOption o (c.step_on.new.steps ≡ c.args.steps.now) (λ t. c.step_on.new.steps ≤ c.args.steps.now + each * suc (cells_added s.engine.store new.engine.store + 2 * length (targets_of m t.at t.string)))) (sym (ticket_here dom s.engine.store s.book m c.args.ticket c.in-Some.place at.one h c.requires.ready.order.are_open at.there at.same)) (
-    c.step_on.ensures.most m (anew at.one) (without_holds dom s.engine.store c.in-Some.place s.book c.resumed.new.book w at.one at.there m h) (without_there dom s.engine.store c.in-Some.place s.book c.resumed.new.book w at.one at.there))
+    c.step_on.ensures.ticked_filled m (anew at.one) (without_holds dom s.engine.store c.in-Some.place s.book c.resumed.new.book w at.one at.there m h) (without_there dom s.engine.store c.in-Some.place s.book c.resumed.new.book w at.one at.there))
 
-pub returns-in-Err-Refused-clause-most : goal.returns-in-Err-Refused-clause-most
-returns-in-Err-Refused-clause-most g c = λ m h.
+pub returns-in-Err-Refused-clause-ticked_filled : goal.returns-in-Err-Refused-clause-ticked_filled
+returns-in-Err-Refused-clause-ticked_filled g c = λ m h.
     let s = c.args.self.now in
     let dom = g.D.Domain.operations s.engine.domain in
     let each = g.D.Domain.counted s.engine.domain in
@@ -160,8 +160,8 @@ returns-in-Err-Refused-clause-most g c = λ m h.
     let at = c.in-Some.ensures.is in
     subst (λ o. MatchOption o (steps ≡ steps) (λ t. steps ≤ steps + each * suc (cells_added s.engine.store s.engine.store + 2 * length (targets_of m t.at t.string)))) (sym (ticket_here dom s.engine.store s.book m c.args.ticket c.in-Some.place at.one h c.requires.ready.order.are_open at.there at.same)) (omega arith)
 
-pub returns-in-Err-Memory-clause-most : goal.returns-in-Err-Memory-clause-most
-returns-in-Err-Memory-clause-most g c = λ m h.
+pub returns-in-Err-Memory-clause-ticked_filled : goal.returns-in-Err-Memory-clause-ticked_filled
+returns-in-Err-Memory-clause-ticked_filled g c = λ m h.
     let s = c.args.self.now in
     let dom = g.D.Domain.operations s.engine.domain in
     let each = g.D.Domain.counted s.engine.domain in

@@ -30,7 +30,7 @@ returns-in_err-progress-clause-ready g c =
     let ops = g.D.Domain.operations in
     let new = c.fill_some.new.engine.store in
     let ts = map target_of c.args.going.targets in
-    subst (λ d. IsReady (ops d) new s.book) (sym c.fill_some.ensures.domain) (fills_ready (ops s.engine.domain) s.book s.engine.store new ts (cells_added s.engine.store new) c.requires.ready c.fill_some.ensures.fills)
+    subst (λ d. IsReady (ops d) new s.book) (sym c.fill_some.ensures.setup.0) (fills_ready (ops s.engine.domain) s.book s.engine.store new ts (cells_added s.engine.store new) c.requires.ready c.fill_some.ensures.fills)
 
 pub returns-in_err-progress-clause-steps : goal.returns-in_err-progress-clause-steps
 returns-in_err-progress-clause-steps g c = λ m o h e.
@@ -41,7 +41,7 @@ returns-in_err-progress-clause-steps g c = λ m o h e.
     let ts = map target_of c.args.going.targets in
     let a = subst (λ (x : OpenTicket Going). IsAsked (flow_in s.book).program x.at x.string ts) (same_Some c.requires.there.one o (sym c.requires.there.there ∙ e)) c.requires.there.going.asked in
     let p = err_from_is_err_and c.from_residual.result c.from_residual.ensures.1 in
-    rw (p.1, p.2) (subst (λ d. IsBetween (missing_at dom o.at o.string m) m (Holds (ops d) new s.book)) (sym c.fill_some.ensures.domain) (
+    rw (p.1, p.2) (subst (λ d. IsBetween (missing_at dom o.at o.string m) m (Holds (ops d) new s.book)) (sym c.fill_some.ensures.setup.0) (
     between_some dom s.book s.engine.store new o.at o.string ts (cells_added s.engine.store new) c.requires.ready.right.checked a c.fill_some.ensures.fills (c.questions_keep_cells.ensures.question s.engine.domain) m h))
 
 pub put_going-requires : goal.put_going-requires
@@ -64,7 +64,7 @@ returns-then-not-progress-clause-ready g c =
     let t = record s.book.tickets { open_ones = c.put_going.new.open_ones } in
     let q = ticketed_ready dom new s.book t r (still_open s.book.tickets t r.order.are_open (ap (map number) items ∙ numbers_set os c.args.place one more there refl) refl)
     (subst (AreWaiting dom (flow_in s.book) new) (sym items) (waiting_set dom (flow_in s.book) new os c.args.place more r.waiting (record { short = waits.short; going = c.fill_some.ensures.going one.at one.string c.requires.there.going }))) in
-    subst (λ d. IsReady (ops d) new (record s.book { tickets = t; cost = c.in_ok-progress.progress.filled })) (sym c.fill_some.ensures.domain) (ready_costing dom new (record s.book { tickets = t }) c.in_ok-progress.progress.filled q)
+    subst (λ d. IsReady (ops d) new (record s.book { tickets = t; cost = c.in_ok-progress.progress.filled })) (sym c.fill_some.ensures.setup.0) (ready_costing dom new (record s.book { tickets = t }) c.in_ok-progress.progress.filled q)
 
 pub returns-then-not-progress-clause-steps : goal.returns-then-not-progress-clause-steps
 returns-then-not-progress-clause-steps g c = λ m o h e.
@@ -81,12 +81,12 @@ returns-then-not-progress-clause-steps g c = λ m o h e.
     let a = subst (λ (x : OpenTicket Going). IsAsked (flow_in s.book).program x.at x.string ts) (same_Some c.requires.there.one o (sym c.requires.there.there ∙ e)) c.requires.there.going.asked in
     let missing = missing_here dom s.book s.engine.store new m o.at o.string ts h a in
     let undone : c.in_ok-progress.progress.done ≡ false = grind (arith, c.if-not-progress.true) in
-    let left = subst (λ xs. c.args.most < length xs) missing (is_more c.in_ok-progress.progress.done _ c.args.most c.in_ok-progress.ensures.all undone) in
-    let full = as_many_as n c.args.most _ c.in_ok-progress.ensures.first (is_more c.in_ok-progress.progress.done _ c.args.most c.in_ok-progress.ensures.all undone) in
+    let left = subst (λ xs. c.args.most < length xs) missing (is_more c.in_ok-progress.progress.done _ c.args.most c.in_ok-progress.ensures.done undone) in
+    let full = as_many_as n c.args.most _ c.in_ok-progress.ensures.first (is_more c.in_ok-progress.progress.done _ c.args.most c.in_ok-progress.ensures.done undone) in
     record {
       filled = full;
       more = left;
-      after = subst (λ d. Holds (ops d) new (record s.book { tickets = t; cost = n }) (after_step dom (ticket o) c.args.most m)) (sym c.fill_some.ensures.domain) (
+      after = subst (λ d. Holds (ops d) new (record s.book { tickets = t; cost = n }) (after_step dom (ticket o) c.args.most m)) (sym c.fill_some.ensures.setup.0) (
           pending_holds dom s.book s.engine.store new o ts n c.requires.ready.right.checked a (subst (Fills dom (flow_in s.book) ts s.engine.store new) (sym c.in_ok-progress.ensures.counted) c.fill_some.ensures.fills) (c.questions_keep_cells.ensures.question s.engine.domain) m h t c.args.most
           (ap (map ticket) items ∙ tickets_set os c.args.place o more e refl) refl full left);
     }
@@ -99,7 +99,7 @@ read_answer-requires g c =
     let ts = map target_of c.args.going.targets in
     let one = c.requires.there.one in
     let done : c.in_ok-progress.progress.done ≡ true = grind (arith, c.if-not-progress.false) in
-    record { filled = (flow_in s.book, one.at, one.string, ts, c.requires.there.going.asked, subst (λ d. AreFilled (ops d) new c.fill_some.new.going.walk (flow_in s.book) ts) (sym c.fill_some.ensures.domain) (c.in_ok-progress.ensures.filled done)) }
+    record { filled = (flow_in s.book, one.at, one.string, ts, c.requires.there.going.asked, subst (λ d. AreFilled (ops d) new c.fill_some.new.going.walk (flow_in s.book) ts) (sym c.fill_some.ensures.setup.0) (c.in_ok-progress.ensures.filled done)) }
 
 pub returns-in_err-value-clause-ready : goal.returns-in_err-value-clause-ready
 returns-in_err-value-clause-ready g c =
@@ -107,7 +107,7 @@ returns-in_err-value-clause-ready g c =
     let ops = g.D.Domain.operations in
     let new = c.fill_some.new.engine.store in
     let ts = map target_of c.args.going.targets in
-    subst (λ d. IsReady (ops d) new s.book) (sym c.fill_some.ensures.domain) (fills_ready (ops s.engine.domain) s.book s.engine.store new ts (cells_added s.engine.store new) c.requires.ready c.fill_some.ensures.fills)
+    subst (λ d. IsReady (ops d) new s.book) (sym c.fill_some.ensures.setup.0) (fills_ready (ops s.engine.domain) s.book s.engine.store new ts (cells_added s.engine.store new) c.requires.ready c.fill_some.ensures.fills)
 
 pub returns-in_err-value-clause-steps : goal.returns-in_err-value-clause-steps
 returns-in_err-value-clause-steps g c = λ m o h e.
@@ -118,7 +118,7 @@ returns-in_err-value-clause-steps g c = λ m o h e.
     let ts = map target_of c.args.going.targets in
     let a = subst (λ (x : OpenTicket Going). IsAsked (flow_in s.book).program x.at x.string ts) (same_Some c.requires.there.one o (sym c.requires.there.there ∙ e)) c.requires.there.going.asked in
     let p = err_from_is_err_and c.from_residual-in_err-value.result c.from_residual-in_err-value.ensures.1 in
-    rw (p.1, p.2) (subst (λ d. IsBetween (missing_at dom o.at o.string m) m (Holds (ops d) new s.book)) (sym c.fill_some.ensures.domain) (
+    rw (p.1, p.2) (subst (λ d. IsBetween (missing_at dom o.at o.string m) m (Holds (ops d) new s.book)) (sym c.fill_some.ensures.setup.0) (
     between_some dom s.book s.engine.store new o.at o.string ts (cells_added s.engine.store new) c.requires.ready.right.checked a c.fill_some.ensures.fills (c.questions_keep_cells.ensures.question s.engine.domain) m h))
 
 pub close-requires-clause-tickets : goal.close-requires-clause-tickets
@@ -136,7 +136,7 @@ returns-clause-ready g c =
     let ts = map target_of c.args.going.targets in
     let r = fills_ready dom s.book s.engine.store new ts (cells_added s.engine.store new) c.requires.ready c.fill_some.ensures.fills in
     let q = closed_ready dom s.book new c.close.new.self c.args.place r c.close.ensures.tickets c.close.ensures.rest in
-    subst (λ d. IsReady (ops d) new (record s.book { tickets = c.close.new.self; cost = c.in_ok-progress.progress.filled })) (sym c.fill_some.ensures.domain) (ready_costing dom new (record s.book { tickets = c.close.new.self }) c.in_ok-progress.progress.filled q)
+    subst (λ d. IsReady (ops d) new (record s.book { tickets = c.close.new.self; cost = c.in_ok-progress.progress.filled })) (sym c.fill_some.ensures.setup.0) (ready_costing dom new (record s.book { tickets = c.close.new.self }) c.in_ok-progress.progress.filled q)
 
 pub returns-clause-steps : goal.returns-clause-steps
 returns-clause-steps g c = λ m o h e.
@@ -149,15 +149,15 @@ returns-clause-steps g c = λ m o h e.
     let v = c.in_ok-value.value in
     let done : c.in_ok-progress.progress.done ≡ true = grind (arith, c.if-not-progress.false) in
     let a = subst (λ (x : OpenTicket Going). IsAsked (flow_in s.book).program x.at x.string ts) (same_Some c.requires.there.one o (sym c.requires.there.there ∙ e)) c.requires.there.going.asked in
-    let filled = subst (λ d. AreFilled (ops d) new c.fill_some.new.going.walk (flow_in s.book) ts) (sym c.fill_some.ensures.domain) (c.in_ok-progress.ensures.filled done) in
+    let filled = subst (λ d. AreFilled (ops d) new c.fill_some.new.going.walk (flow_in s.book) ts) (sym c.fill_some.ensures.setup.0) (c.in_ok-progress.ensures.filled done) in
     let missing = missing_here dom s.book s.engine.store new m o.at o.string ts h a in
-    let few = c.in_ok-progress.ensures.all.0 done in
+    let few = c.in_ok-progress.ensures.done.0 done in
     let all = ap length missing in
-    let says = subst (λ d. Says (answer (ops d) (flow_in s.book).engine (flow_in s.book).program o.at o.string) (Some v)) c.fill_some.ensures.domain (c.in_ok-value.ensures.says (flow_in s.book) o.at o.string ts a filled) in
+    let says = subst (λ d. Says (answer (ops d) (flow_in s.book).engine (flow_in s.book).program o.at o.string) (Some v)) c.fill_some.ensures.setup.0 (c.in_ok-value.ensures.says (flow_in s.book) o.at o.string ts a filled) in
     record {
       few = subst (λ k. k ≤ c.args.most) all few;
       says = says_here dom s.book s.engine.store m o.at o.string v h says;
-      after = subst (λ d. Holds (ops d) new (record s.book { tickets = c.close.new.self; cost = n }) (after_last_step dom (ticket o) m)) (sym c.fill_some.ensures.domain) (
+      after = subst (λ d. Holds (ops d) new (record s.book { tickets = c.close.new.self; cost = n }) (after_last_step dom (ticket o) m)) (sym c.fill_some.ensures.setup.0) (
           done_holds dom s.book s.engine.store new o ts n c.requires.ready.right.checked a (subst (Fills dom (flow_in s.book) ts s.engine.store new) (sym c.in_ok-progress.ensures.counted) c.fill_some.ensures.fills) (c.questions_keep_cells.ensures.question s.engine.domain) m h c.close.new.self
           (c.close.ensures.closed o.number (record { one = o; there = e; same = refl })) c.close.ensures.next (all_of n c.args.most _ _ c.in_ok-progress.ensures.first few all));
     }
@@ -170,8 +170,8 @@ returns-clause-sound g c = λ o e.
     let ts = map target_of c.args.going.targets in
     let done : c.in_ok-progress.progress.done ≡ true = grind (arith, c.if-not-progress.false) in
     let a = subst (λ (x : OpenTicket Going). IsAsked (flow_in s.book).program x.at x.string ts) (same_Some c.requires.there.one o (sym c.requires.there.there ∙ e)) c.requires.there.going.asked in
-    let filled = subst (λ d. AreFilled (ops d) new c.fill_some.new.going.walk (flow_in s.book) ts) (sym c.fill_some.ensures.domain) (c.in_ok-progress.ensures.filled done) in
-    subst (λ d. Covers (g.D.Domain.covers d) (routines_of s.book.history.now) o.at o.string (Some c.in_ok-value.value)) c.fill_some.ensures.domain (c.in_ok-value.ensures.sound (flow_in s.book) o.at o.string ts a filled)
+    let filled = subst (λ d. AreFilled (ops d) new c.fill_some.new.going.walk (flow_in s.book) ts) (sym c.fill_some.ensures.setup.0) (c.in_ok-progress.ensures.filled done) in
+    subst (λ d. Covers (g.D.Domain.covers d) (routines_of s.book.history.now) o.at o.string (Some c.in_ok-value.value)) c.fill_some.ensures.setup.0 (c.in_ok-value.ensures.sound (flow_in s.book) o.at o.string ts a filled)
 
 pub returns-clause-ticked : goal.returns-clause-ticked
 returns-clause-ticked g c = λ m o h e.
@@ -184,23 +184,23 @@ returns-clause-ticked g c = λ m o h e.
     let n = c.in_ok-progress.progress.filled in
     let done : c.in_ok-progress.progress.done ≡ true = grind (arith, c.if-not-progress.false) in
     let a = subst (λ (x : OpenTicket Going). IsAsked (flow_in s.book).program x.at x.string ts) (same_Some c.requires.there.one o (sym c.requires.there.there ∙ e)) c.requires.there.going.asked in
-    let filled = subst (λ d. AreFilled (ops d) new c.fill_some.new.going.walk (flow_in s.book) ts) (sym c.fill_some.ensures.domain) (c.in_ok-progress.ensures.filled done) in
+    let filled = subst (λ d. AreFilled (ops d) new c.fill_some.new.going.walk (flow_in s.book) ts) (sym c.fill_some.ensures.setup.0) (c.in_ok-progress.ensures.filled done) in
     let missing = missing_here dom s.book s.engine.store new m o.at o.string ts h a in
-    let read = subst (λ d. c.read_answer.new.steps ≤ c.fill_some.new.steps + g.D.Domain.counted d * (2 * length ts)) c.fill_some.ensures.domain (c.read_answer.ensures.ticked (flow_in s.book) ts filled) in
-    work_here dom s.book s.engine.store m o.at o.string ts c.args.steps.now c.read_answer.new.steps each n h a (all_of n c.args.most _ _ c.in_ok-progress.ensures.first (c.in_ok-progress.ensures.all.0 done) (ap length missing)) (work_both c.args.steps.now c.fill_some.new.steps c.read_answer.new.steps each n (2 * length ts) c.in_ok-progress.ensures.ticked read)
+    let read = subst (λ d. c.read_answer.new.steps ≤ c.fill_some.new.steps + g.D.Domain.counted d * (2 * length ts)) c.fill_some.ensures.setup.0 (c.read_answer.ensures.ticked (flow_in s.book) ts filled) in
+    work_here dom s.book s.engine.store m o.at o.string ts c.args.steps.now c.read_answer.new.steps each n h a (all_of n c.args.most _ _ c.in_ok-progress.ensures.first (c.in_ok-progress.ensures.done.0 done) (ap length missing)) (work_both c.args.steps.now c.fill_some.new.steps c.read_answer.new.steps each n (2 * length ts) c.in_ok-progress.ensures.ticked read)
 
-pub returns-in_err-progress-clause-most : goal.returns-in_err-progress-clause-most
-returns-in_err-progress-clause-most g c = λ m o h e.
+pub returns-in_err-progress-clause-ticked_filled : goal.returns-in_err-progress-clause-ticked_filled
+returns-in_err-progress-clause-ticked_filled g c = λ m o h e.
     let s = c.args.self.now in
-    work_first c.args.steps.now c.fill_some.new.steps (g.D.Domain.counted s.engine.domain) (cells_added s.engine.store c.fill_some.new.engine.store) (2 * length (targets_of m o.at o.string)) c.fill_some.ensures.most
+    work_first c.args.steps.now c.fill_some.new.steps (g.D.Domain.counted s.engine.domain) (cells_added s.engine.store c.fill_some.new.engine.store) (2 * length (targets_of m o.at o.string)) c.fill_some.ensures.ticked_filled
 
-pub returns-then-not-progress-clause-most : goal.returns-then-not-progress-clause-most
-returns-then-not-progress-clause-most g c = λ m o h e.
+pub returns-then-not-progress-clause-ticked_filled : goal.returns-then-not-progress-clause-ticked_filled
+returns-then-not-progress-clause-ticked_filled g c = λ m o h e.
     let s = c.args.self.now in
-    work_first c.args.steps.now c.fill_some.new.steps (g.D.Domain.counted s.engine.domain) (cells_added s.engine.store c.fill_some.new.engine.store) (2 * length (targets_of m o.at o.string)) c.fill_some.ensures.most
+    work_first c.args.steps.now c.fill_some.new.steps (g.D.Domain.counted s.engine.domain) (cells_added s.engine.store c.fill_some.new.engine.store) (2 * length (targets_of m o.at o.string)) c.fill_some.ensures.ticked_filled
 
-pub returns-in_err-value-clause-most : goal.returns-in_err-value-clause-most
-returns-in_err-value-clause-most g c = λ m o h e.
+pub returns-in_err-value-clause-ticked_filled : goal.returns-in_err-value-clause-ticked_filled
+returns-in_err-value-clause-ticked_filled g c = λ m o h e.
     let s = c.args.self.now in
     let ops = g.D.Domain.operations in
     let dom = ops s.engine.domain in
@@ -210,12 +210,12 @@ returns-in_err-value-clause-most g c = λ m o h e.
     let n = c.in_ok-progress.progress.filled in
     let done : c.in_ok-progress.progress.done ≡ true = grind (arith, c.if-not-progress.false) in
     let a = subst (λ (x : OpenTicket Going). IsAsked (flow_in s.book).program x.at x.string ts) (same_Some c.requires.there.one o (sym c.requires.there.there ∙ e)) c.requires.there.going.asked in
-    let filled = subst (λ d. AreFilled (ops d) new c.fill_some.new.going.walk (flow_in s.book) ts) (sym c.fill_some.ensures.domain) (c.in_ok-progress.ensures.filled done) in
-    let read = subst (λ d. c.read_answer.new.steps ≤ c.fill_some.new.steps + g.D.Domain.counted d * (2 * length ts)) c.fill_some.ensures.domain (c.read_answer.ensures.ticked (flow_in s.book) ts filled) in
+    let filled = subst (λ d. AreFilled (ops d) new c.fill_some.new.going.walk (flow_in s.book) ts) (sym c.fill_some.ensures.setup.0) (c.in_ok-progress.ensures.filled done) in
+    let read = subst (λ d. c.read_answer.new.steps ≤ c.fill_some.new.steps + g.D.Domain.counted d * (2 * length ts)) c.fill_some.ensures.setup.0 (c.read_answer.ensures.ticked (flow_in s.book) ts filled) in
     most_here dom s.book s.engine.store m o.at o.string ts c.args.steps.now c.fill_some.new.steps c.read_answer.new.steps each n (cells_added s.engine.store new) h a c.in_ok-progress.ensures.counted c.in_ok-progress.ensures.ticked read
 
-pub returns-clause-most : goal.returns-clause-most
-returns-clause-most g c = λ m o h e.
+pub returns-clause-ticked_filled : goal.returns-clause-ticked_filled
+returns-clause-ticked_filled g c = λ m o h e.
     let s = c.args.self.now in
     let ops = g.D.Domain.operations in
     let dom = ops s.engine.domain in
@@ -225,6 +225,6 @@ returns-clause-most g c = λ m o h e.
     let n = c.in_ok-progress.progress.filled in
     let done : c.in_ok-progress.progress.done ≡ true = grind (arith, c.if-not-progress.false) in
     let a = subst (λ (x : OpenTicket Going). IsAsked (flow_in s.book).program x.at x.string ts) (same_Some c.requires.there.one o (sym c.requires.there.there ∙ e)) c.requires.there.going.asked in
-    let filled = subst (λ d. AreFilled (ops d) new c.fill_some.new.going.walk (flow_in s.book) ts) (sym c.fill_some.ensures.domain) (c.in_ok-progress.ensures.filled done) in
-    let read = subst (λ d. c.read_answer.new.steps ≤ c.fill_some.new.steps + g.D.Domain.counted d * (2 * length ts)) c.fill_some.ensures.domain (c.read_answer.ensures.ticked (flow_in s.book) ts filled) in
+    let filled = subst (λ d. AreFilled (ops d) new c.fill_some.new.going.walk (flow_in s.book) ts) (sym c.fill_some.ensures.setup.0) (c.in_ok-progress.ensures.filled done) in
+    let read = subst (λ d. c.read_answer.new.steps ≤ c.fill_some.new.steps + g.D.Domain.counted d * (2 * length ts)) c.fill_some.ensures.setup.0 (c.read_answer.ensures.ticked (flow_in s.book) ts filled) in
     most_here dom s.book s.engine.store m o.at o.string ts c.args.steps.now c.fill_some.new.steps c.read_answer.new.steps each n (cells_added s.engine.store new) h a c.in_ok-progress.ensures.counted c.in_ok-progress.ensures.ticked read

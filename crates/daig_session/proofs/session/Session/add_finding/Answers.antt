@@ -11,16 +11,16 @@ use Rattle.daig_session.proofs.Reporting.{at_is, checked_is, found_none, found_o
 use Rattle.daig_session.proofs.session.Session.add_finding.Goals as goal
 use Rattle.daig_query.proofs.Filling.{on_ok, ok_always}
 
-pub returns-then-not-has_check-clause-part : goal.returns-then-not-has_check-clause-part
-returns-then-not-has_check-clause-part g c = λ m h.
+pub returns-then-not-has_check-clause-keeps_part : goal.returns-then-not-has_check-clause-keeps_part
+returns-then-not-has_check-clause-keeps_part g c = λ m h.
     let s = c.args.self.now in
     let ops = g.D.Domain.operations in
     let dom = ops s.engine.domain in
     let n = c.args.id in
     none_part dom s.engine.store s.book m n h (c.if-not-has_check.ensures.none refl)
 
-pub returns-then-not-has_check-clause-all : goal.returns-then-not-has_check-clause-all
-returns-then-not-has_check-clause-all g c = λ m h.
+pub returns-then-not-has_check-clause-keeps_all : goal.returns-then-not-has_check-clause-keeps_all
+returns-then-not-has_check-clause-keeps_all g c = λ m h.
     let s = c.args.self.now in
     let ops = g.D.Domain.operations in
     let dom = ops s.engine.domain in
@@ -49,45 +49,45 @@ found_at-requires g c =
     let there = c.if-not-has_check.ensures.there refl in
     record { there = subst (λ (ps : List Procedure). HasCheck ps n) (sym c.known_before.ensures.program) there }
 
-pub returns-in_err-known-clause-part : goal.returns-in_err-known-clause-part
-returns-in_err-known-clause-part g c = λ m h.
+pub returns-in_err-known-clause-keeps_part : goal.returns-in_err-known-clause-keeps_part
+returns-in_err-known-clause-keeps_part g c = λ m h.
     let s = c.args.self.now in
     let ops = g.D.Domain.operations in
     let dom = ops s.engine.domain in
     let n = c.args.id in
     let new = c.known_before.new.self in
     let there = c.if-not-has_check.ensures.there refl in
-    subst (HoldsPart dom m new.engine.store new.book) (sym (checked_is dom s.engine.store s.book m n h there)) (c.known_before.ensures.part m there.0 there.1 h)
+    subst (HoldsPart dom m new.engine.store new.book) (sym (checked_is dom s.engine.store s.book m n h there)) (c.known_before.ensures.keeps_part m there.0 there.1 h)
 
-pub returns-in_err-finding-clause-part : goal.returns-in_err-finding-clause-part
-returns-in_err-finding-clause-part g c = λ m h.
+pub returns-in_err-finding-clause-keeps_part : goal.returns-in_err-finding-clause-keeps_part
+returns-in_err-finding-clause-keeps_part g c = λ m h.
     let s = c.args.self.now in
     let ops = g.D.Domain.operations in
     let dom = ops s.engine.domain in
     let n = c.args.id in
     let new = c.known_before.new.self in
     let there = c.if-not-has_check.ensures.there refl in
-    subst (HoldsPart dom m new.engine.store new.book) (sym (checked_is dom s.engine.store s.book m n h there)) (c.known_before.ensures.part m there.0 there.1 h)
+    subst (HoldsPart dom m new.engine.store new.book) (sym (checked_is dom s.engine.store s.book m n h there)) (c.known_before.ensures.keeps_part m there.0 there.1 h)
 
-pub returns-clause-part : goal.returns-clause-part
-returns-clause-part g c = λ m h.
+pub returns-clause-keeps_part : goal.returns-clause-keeps_part
+returns-clause-keeps_part g c = λ m h.
     let s = c.args.self.now in
     let ops = g.D.Domain.operations in
     let dom = ops s.engine.domain in
     let n = c.args.id in
     let new = c.known_before.new.self in
     let there = c.if-not-has_check.ensures.there refl in
-    subst (HoldsPart dom m new.engine.store new.book) (sym (checked_is dom s.engine.store s.book m n h there)) (c.known_before.ensures.part m there.0 there.1 h)
+    subst (HoldsPart dom m new.engine.store new.book) (sym (checked_is dom s.engine.store s.book m n h there)) (c.known_before.ensures.keeps_part m there.0 there.1 h)
 
-pub returns-clause-all : goal.returns-clause-all
-returns-clause-all g c =
+pub returns-clause-keeps_all : goal.returns-clause-keeps_all
+returns-clause-keeps_all g c =
     let s = c.args.self.now in
     let ops = g.D.Domain.operations in
     let dom = ops s.engine.domain in
     let n = c.args.id in
     let new = c.known_before.new.self in
     let there = c.if-not-has_check.ensures.there refl in
-    ok_always c.push.result (λ m h. subst (HoldsAll dom m new.engine.store new.book) (sym (checked_is dom s.engine.store s.book m n h there)) (c.in_ok-known.ensures.all m there.0 there.1 h))
+    ok_always c.push.result (λ m h. subst (HoldsAll dom m new.engine.store new.book) (sym (checked_is dom s.engine.store s.book m n h there)) (c.in_ok-known.ensures.keeps_all m there.0 there.1 h))
 
 pub returns-clause-found : goal.returns-clause-found
 returns-clause-found g c =
@@ -100,7 +100,7 @@ returns-clause-found g c =
     let f = c.in_ok-finding.finding in
     on_ok c.push.result c.push.ensures.added (λ a m h. (
     found_one dom m n there.0 there.1 (checked_at m.program n) c.args.found.now c.push.new.self f (checked_is dom s.engine.store s.book m n h there) a (
-    subst (λ d. f ≡ record { id = n; check = kind_of there.1; verdict = verdict_on (ops d) m.engine there.0 (answer_at dom (Before n) [] m) }) c.known_before.ensures.domain (
+    subst (λ d. f ≡ record { id = n; check = kind_of there.1; verdict = verdict_on (ops d) m.engine there.0 (answer_at dom (Before n) [] m) }) c.known_before.ensures.setup.0 (
     c.in_ok-finding.ensures.is m.engine (answer_at dom (Before n) [] m) there.0 there.1 (c.in_ok-known.ensures.tells m h) (ap (λ (ps : List Procedure). checked_at ps n) c.known_before.ensures.program ∙ there.2)))))
 
 pub returns-clause-ticked : goal.returns-clause-ticked
@@ -113,29 +113,29 @@ returns-clause-ticked g c =
     let there = c.if-not-has_check.ensures.there refl in
     ok_always c.push.result (λ m h. subst (λ (cs : List CheckedStatement). c.known_before.new.steps ≤ c.args.steps.now + g.D.Domain.counted s.engine.domain * work_on dom m cs) (sym (checked_is dom s.engine.store s.book m n h there)) (c.in_ok-known.ensures.ticked m there.0 there.1 h))
 
-pub returns-then-not-has_check-clause-most : goal.returns-then-not-has_check-clause-most
-returns-then-not-has_check-clause-most g c = λ m h. omega arith
+pub returns-then-not-has_check-clause-ticked_filled : goal.returns-then-not-has_check-clause-ticked_filled
+returns-then-not-has_check-clause-ticked_filled g c = λ m h. omega arith
 
-pub returns-in_err-known-clause-most : goal.returns-in_err-known-clause-most
-returns-in_err-known-clause-most g c = λ m h.
+pub returns-in_err-known-clause-ticked_filled : goal.returns-in_err-known-clause-ticked_filled
+returns-in_err-known-clause-ticked_filled g c = λ m h.
     let s = c.args.self.now in
     let dom = g.D.Domain.operations s.engine.domain in
     let n = c.args.id in
     let there = c.if-not-has_check.ensures.there refl in
-    subst (λ (cs : List CheckedStatement). c.known_before.new.steps ≤ c.args.steps.now + g.D.Domain.counted s.engine.domain * suc (cells_added s.engine.store c.known_before.new.self.engine.store + 2 * chain_count (routines_of m.program) cs)) (sym (checked_is dom s.engine.store s.book m n h there)) (c.known_before.ensures.most m there.0 there.1 h)
+    subst (λ (cs : List CheckedStatement). c.known_before.new.steps ≤ c.args.steps.now + g.D.Domain.counted s.engine.domain * suc (cells_added s.engine.store c.known_before.new.self.engine.store + 2 * chain_count (routines_of m.program) cs)) (sym (checked_is dom s.engine.store s.book m n h there)) (c.known_before.ensures.ticked_filled m there.0 there.1 h)
 
-pub returns-in_err-finding-clause-most : goal.returns-in_err-finding-clause-most
-returns-in_err-finding-clause-most g c = λ m h.
+pub returns-in_err-finding-clause-ticked_filled : goal.returns-in_err-finding-clause-ticked_filled
+returns-in_err-finding-clause-ticked_filled g c = λ m h.
     let s = c.args.self.now in
     let dom = g.D.Domain.operations s.engine.domain in
     let n = c.args.id in
     let there = c.if-not-has_check.ensures.there refl in
-    subst (λ (cs : List CheckedStatement). c.known_before.new.steps ≤ c.args.steps.now + g.D.Domain.counted s.engine.domain * suc (cells_added s.engine.store c.known_before.new.self.engine.store + 2 * chain_count (routines_of m.program) cs)) (sym (checked_is dom s.engine.store s.book m n h there)) (c.known_before.ensures.most m there.0 there.1 h)
+    subst (λ (cs : List CheckedStatement). c.known_before.new.steps ≤ c.args.steps.now + g.D.Domain.counted s.engine.domain * suc (cells_added s.engine.store c.known_before.new.self.engine.store + 2 * chain_count (routines_of m.program) cs)) (sym (checked_is dom s.engine.store s.book m n h there)) (c.known_before.ensures.ticked_filled m there.0 there.1 h)
 
-pub returns-clause-most : goal.returns-clause-most
-returns-clause-most g c = λ m h.
+pub returns-clause-ticked_filled : goal.returns-clause-ticked_filled
+returns-clause-ticked_filled g c = λ m h.
     let s = c.args.self.now in
     let dom = g.D.Domain.operations s.engine.domain in
     let n = c.args.id in
     let there = c.if-not-has_check.ensures.there refl in
-    subst (λ (cs : List CheckedStatement). c.known_before.new.steps ≤ c.args.steps.now + g.D.Domain.counted s.engine.domain * suc (cells_added s.engine.store c.known_before.new.self.engine.store + 2 * chain_count (routines_of m.program) cs)) (sym (checked_is dom s.engine.store s.book m n h there)) (c.known_before.ensures.most m there.0 there.1 h)
+    subst (λ (cs : List CheckedStatement). c.known_before.new.steps ≤ c.args.steps.now + g.D.Domain.counted s.engine.domain * suc (cells_added s.engine.store c.known_before.new.self.engine.store + 2 * chain_count (routines_of m.program) cs)) (sym (checked_is dom s.engine.store s.book m n h there)) (c.known_before.ensures.ticked_filled m there.0 there.1 h)

@@ -9,39 +9,39 @@ use Rattle.daig_session.proofs.Reported.{part_none}
 use Rattle.daig_session.proofs.Reporting.{all_among}
 use Rattle.daig_session.proofs.session.Session.all_findings.Goals as goal
 
-pub returns-in_err-stmts-clause-part : goal.returns-in_err-stmts-clause-part
-returns-in_err-stmts-clause-part g c = λ m h.
+pub returns-in_err-stmts-clause-keeps_part : goal.returns-in_err-stmts-clause-keeps_part
+returns-in_err-stmts-clause-keeps_part g c = λ m h.
     let s = c.args.self.now in
     let ops = g.D.Domain.operations in
     let dom = ops s.engine.domain in
     part_none dom m s.engine.store s.book (checked_statements (routines_of m.program)) h
 
-pub returns-in_err-add_findings-clause-part : goal.returns-in_err-add_findings-clause-part
-returns-in_err-add_findings-clause-part g c = λ m h.
+pub returns-in_err-add_findings-clause-keeps_part : goal.returns-in_err-add_findings-clause-keeps_part
+returns-in_err-add_findings-clause-keeps_part g c = λ m h.
     let s = c.args.self.now in
     let ops = g.D.Domain.operations in
     let dom = ops s.engine.domain in
     let new = c.add_findings.new.self in
     let same = all_among dom s.engine.store s.book m c.as_slice.result.now h c.ready.ensures.ready.order.fine.numbered (c.as_slice.ensures.same ∙ (c.in_ok-stmts.ensures.are ∙ ap program_numbers (c.view.ensures.is ∙ (c.table.ensures.is ∙ ap (λ p. p.book.history.now) c.self.view_is)))) in
-    subst (HoldsPart dom m new.engine.store new.book) same (c.add_findings.ensures.part m h)
+    subst (HoldsPart dom m new.engine.store new.book) same (c.add_findings.ensures.keeps_part m h)
 
-pub returns-clause-part : goal.returns-clause-part
-returns-clause-part g c = λ m h.
+pub returns-clause-keeps_part : goal.returns-clause-keeps_part
+returns-clause-keeps_part g c = λ m h.
     let s = c.args.self.now in
     let ops = g.D.Domain.operations in
     let dom = ops s.engine.domain in
     let new = c.add_findings.new.self in
     let same = all_among dom s.engine.store s.book m c.as_slice.result.now h c.ready.ensures.ready.order.fine.numbered (c.as_slice.ensures.same ∙ (c.in_ok-stmts.ensures.are ∙ ap program_numbers (c.view.ensures.is ∙ (c.table.ensures.is ∙ ap (λ p. p.book.history.now) c.self.view_is)))) in
-    subst (HoldsPart dom m new.engine.store new.book) same (c.add_findings.ensures.part m h)
+    subst (HoldsPart dom m new.engine.store new.book) same (c.add_findings.ensures.keeps_part m h)
 
-pub returns-clause-all : goal.returns-clause-all
-returns-clause-all g c = λ m h.
+pub returns-clause-keeps_all : goal.returns-clause-keeps_all
+returns-clause-keeps_all g c = λ m h.
     let s = c.args.self.now in
     let ops = g.D.Domain.operations in
     let dom = ops s.engine.domain in
     let new = c.add_findings.new.self in
     let same = all_among dom s.engine.store s.book m c.as_slice.result.now h c.ready.ensures.ready.order.fine.numbered (c.as_slice.ensures.same ∙ (c.in_ok-stmts.ensures.are ∙ ap program_numbers (c.view.ensures.is ∙ (c.table.ensures.is ∙ ap (λ p. p.book.history.now) c.self.view_is)))) in
-    subst (HoldsAll dom m new.engine.store new.book) same (c.in_ok-add_findings.ensures.all m h)
+    subst (HoldsAll dom m new.engine.store new.book) same (c.in_ok-add_findings.ensures.keeps_all m h)
 
 pub returns-clause-found : goal.returns-clause-found
 returns-clause-found g c = λ m h.
@@ -61,23 +61,23 @@ returns-clause-ticked g c = λ m h.
     let same = all_among dom s.engine.store s.book m c.as_slice.result.now h c.ready.ensures.ready.order.fine.numbered (c.as_slice.ensures.same ∙ (c.in_ok-stmts.ensures.are ∙ ap program_numbers (c.view.ensures.is ∙ (c.table.ensures.is ∙ ap (λ p. p.book.history.now) c.self.view_is)))) in
     subst (λ (cs : List CheckedStatement). c.add_findings.new.steps ≤ c.args.steps.now + g.D.Domain.counted s.engine.domain * work_on dom m cs) same (c.in_ok-add_findings.ensures.ticked m h)
 
-pub returns-in_err-add_findings-clause-most : goal.returns-in_err-add_findings-clause-most
-returns-in_err-add_findings-clause-most g c = λ m h.
+pub returns-in_err-add_findings-clause-ticked_filled : goal.returns-in_err-add_findings-clause-ticked_filled
+returns-in_err-add_findings-clause-ticked_filled g c = λ m h.
     let s = c.args.self.now in
     let ops = g.D.Domain.operations in
     let dom = ops s.engine.domain in
     let new = c.add_findings.new.self in
     let same = all_among dom s.engine.store s.book m c.as_slice.result.now h c.ready.ensures.ready.order.fine.numbered (c.as_slice.ensures.same ∙ (c.in_ok-stmts.ensures.are ∙ ap program_numbers (c.view.ensures.is ∙ (c.table.ensures.is ∙ ap (λ p. p.book.history.now) c.self.view_is)))) in
-    subst (λ (cs : List CheckedStatement). c.add_findings.new.steps ≤ c.args.steps.now + g.D.Domain.counted s.engine.domain * suc (cells_added s.engine.store new.engine.store + 2 * chain_count (routines_of m.program) cs)) same (c.add_findings.ensures.most m h)
+    subst (λ (cs : List CheckedStatement). c.add_findings.new.steps ≤ c.args.steps.now + g.D.Domain.counted s.engine.domain * suc (cells_added s.engine.store new.engine.store + 2 * chain_count (routines_of m.program) cs)) same (c.add_findings.ensures.ticked_filled m h)
 
-pub returns-clause-most : goal.returns-clause-most
-returns-clause-most g c = λ m h.
+pub returns-clause-ticked_filled : goal.returns-clause-ticked_filled
+returns-clause-ticked_filled g c = λ m h.
     let s = c.args.self.now in
     let ops = g.D.Domain.operations in
     let dom = ops s.engine.domain in
     let new = c.add_findings.new.self in
     let same = all_among dom s.engine.store s.book m c.as_slice.result.now h c.ready.ensures.ready.order.fine.numbered (c.as_slice.ensures.same ∙ (c.in_ok-stmts.ensures.are ∙ ap program_numbers (c.view.ensures.is ∙ (c.table.ensures.is ∙ ap (λ p. p.book.history.now) c.self.view_is)))) in
-    subst (λ (cs : List CheckedStatement). c.add_findings.new.steps ≤ c.args.steps.now + g.D.Domain.counted s.engine.domain * suc (cells_added s.engine.store new.engine.store + 2 * chain_count (routines_of m.program) cs)) same (c.add_findings.ensures.most m h)
+    subst (λ (cs : List CheckedStatement). c.add_findings.new.steps ≤ c.args.steps.now + g.D.Domain.counted s.engine.domain * suc (cells_added s.engine.store new.engine.store + 2 * chain_count (routines_of m.program) cs)) same (c.add_findings.ensures.ticked_filled m h)
 
-pub returns-in_err-stmts-clause-most : goal.returns-in_err-stmts-clause-most
-returns-in_err-stmts-clause-most g c = λ m h. omega arith
+pub returns-in_err-stmts-clause-ticked_filled : goal.returns-in_err-stmts-clause-ticked_filled
+returns-in_err-stmts-clause-ticked_filled g c = λ m h. omega arith

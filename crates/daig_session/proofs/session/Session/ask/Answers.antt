@@ -25,7 +25,7 @@ pub add-requires-clause-tickets : goal.add-requires-clause-tickets
 add-requires-clause-tickets g c = c.self.invariant.order.are_open
 
 pub add-requires-clause-few : goal.add-requires-clause-few
-add-requires-clause-few g c = c.in_ok-going.ensures.few
+add-requires-clause-few g c = c.in_ok-going.ensures.not_full
 
 pub invariant_of-self : goal.invariant_of-self
 invariant_of-self g c =
@@ -55,7 +55,7 @@ returns-clause-opens g c = rw (← c.self.view_is) (λ m h.
     let n = tickets_count dom s.engine.store s.book m h in
     let going = subst (λ (xs : List ℕ). IsGoing dom flow s.engine.store c.args.at xs c.in_ok-going.going) c.as_slice.ensures.same c.in_ok-going.ensures.going in (
       c.in_ok-number.ensures.number ∙ ap (λ (z : Machine). z.next_ticket) h.is,
-      omega (arith, c.in_ok-going.ensures.few, n),
+      omega (arith, c.in_ok-going.ensures.not_full, n),
       subst IsAnswered (answer_here dom s.book s.engine.store m c.args.at c.args.string h) (asked_answered dom flow.engine flow.program c.args.at c.args.string (map target_of c.in_ok-going.going.targets) c.self.invariant.right.checked going.asked),
       opened_holds dom s.book s.engine.store c.add.new.self c.args.at c.args.string c.in_ok-going.going m h c.in_ok-number.ensures.added c.in_ok-number.ensures.next,
     ))

@@ -22,17 +22,17 @@ returns-in-Ok-clause-program g c =
     let n = c.args.id in
     same_program dom s.engine.store new.engine.store s.book new.book (λ _. checked_one n Skip (Some (IsCell 0))) c.ready.ensures.ready (λ m h. (
     one_asked dom m n Skip (IsCell 0) new.engine.store new.book (checked_here dom s.engine.store s.book m h c.ready.ensures.ready.order.fine.fit) c.query.result (
-    subst (λ d. Questions dom m (Holds (ops d) new.engine.store new.book) (Before n) [] c.query.result) c.query.ensures.domain (c.query.ensures.answers m h))))
+    subst (λ d. Questions dom m (Holds (ops d) new.engine.store new.book) (Before n) [] c.query.result) c.query.ensures.setup.0 (c.query.ensures.answers m h))))
 
-pub returns-in-Ok-clause-part : goal.returns-in-Ok-clause-part
-returns-in-Ok-clause-part g c = λ m e k h.
+pub returns-in-Ok-clause-keeps_part : goal.returns-in-Ok-clause-keeps_part
+returns-in-Ok-clause-keeps_part g c = λ m e k h.
     let s = c.args.self.now in
     let ops = g.D.Domain.operations in
     let dom = ops s.engine.domain in
     let new = c.query.new.self in
     let n = c.args.id in
     one_asked dom m n e k new.engine.store new.book (checked_here dom s.engine.store s.book m h c.ready.ensures.ready.order.fine.fit) c.query.result (
-    subst (λ d. Questions dom m (Holds (ops d) new.engine.store new.book) (Before n) [] c.query.result) c.query.ensures.domain (c.query.ensures.answers m h))
+    subst (λ d. Questions dom m (Holds (ops d) new.engine.store new.book) (Before n) [] c.query.result) c.query.ensures.setup.0 (c.query.ensures.answers m h))
 
 pub returns-in-Err-Refused-clause-program : goal.returns-in-Err-Refused-clause-program
 returns-in-Err-Refused-clause-program g c =
@@ -43,17 +43,17 @@ returns-in-Err-Refused-clause-program g c =
     let n = c.args.id in
     same_program dom s.engine.store new.engine.store s.book new.book (λ _. checked_one n Skip (Some (IsCell 0))) c.ready.ensures.ready (λ m h. (
     one_asked dom m n Skip (IsCell 0) new.engine.store new.book (checked_here dom s.engine.store s.book m h c.ready.ensures.ready.order.fine.fit) c.query.result (
-    subst (λ d. Questions dom m (Holds (ops d) new.engine.store new.book) (Before n) [] c.query.result) c.query.ensures.domain (c.query.ensures.answers m h))))
+    subst (λ d. Questions dom m (Holds (ops d) new.engine.store new.book) (Before n) [] c.query.result) c.query.ensures.setup.0 (c.query.ensures.answers m h))))
 
-pub returns-in-Err-Refused-clause-part : goal.returns-in-Err-Refused-clause-part
-returns-in-Err-Refused-clause-part g c = λ m e k h.
+pub returns-in-Err-Refused-clause-keeps_part : goal.returns-in-Err-Refused-clause-keeps_part
+returns-in-Err-Refused-clause-keeps_part g c = λ m e k h.
     let s = c.args.self.now in
     let ops = g.D.Domain.operations in
     let dom = ops s.engine.domain in
     let new = c.query.new.self in
     let n = c.args.id in
     one_asked dom m n e k new.engine.store new.book (checked_here dom s.engine.store s.book m h c.ready.ensures.ready.order.fine.fit) c.query.result (
-    subst (λ d. Questions dom m (Holds (ops d) new.engine.store new.book) (Before n) [] c.query.result) c.query.ensures.domain (c.query.ensures.answers m h))
+    subst (λ d. Questions dom m (Holds (ops d) new.engine.store new.book) (Before n) [] c.query.result) c.query.ensures.setup.0 (c.query.ensures.answers m h))
 
 pub returns-clause-program : goal.returns-clause-program
 returns-clause-program g c =
@@ -64,26 +64,26 @@ returns-clause-program g c =
     let n = c.args.id in
     same_program dom s.engine.store new.engine.store s.book new.book (λ _. checked_one n Skip (Some (IsCell 0))) c.ready.ensures.ready (λ m h. (
     one_asked dom m n Skip (IsCell 0) new.engine.store new.book (checked_here dom s.engine.store s.book m h c.ready.ensures.ready.order.fine.fit) c.query.result (
-    subst (λ d. Questions dom m (Holds (ops d) new.engine.store new.book) (Before n) [] c.query.result) c.query.ensures.domain (c.query.ensures.answers m h))))
+    subst (λ d. Questions dom m (Holds (ops d) new.engine.store new.book) (Before n) [] c.query.result) c.query.ensures.setup.0 (c.query.ensures.answers m h))))
 
-pub returns-clause-part : goal.returns-clause-part
-returns-clause-part g c = λ m e k h.
+pub returns-clause-keeps_part : goal.returns-clause-keeps_part
+returns-clause-keeps_part g c = λ m e k h.
     let s = c.args.self.now in
     let ops = g.D.Domain.operations in
     let dom = ops s.engine.domain in
     let new = c.query.new.self in
     let n = c.args.id in
     one_asked dom m n e k new.engine.store new.book (checked_here dom s.engine.store s.book m h c.ready.ensures.ready.order.fine.fit) c.query.result (
-    subst (λ d. Questions dom m (Holds (ops d) new.engine.store new.book) (Before n) [] c.query.result) c.query.ensures.domain (c.query.ensures.answers m h))
+    subst (λ d. Questions dom m (Holds (ops d) new.engine.store new.book) (Before n) [] c.query.result) c.query.ensures.setup.0 (c.query.ensures.answers m h))
 
-pub returns-in-Ok-clause-all : goal.returns-in-Ok-clause-all
-returns-in-Ok-clause-all g c = λ m e k h.
+pub returns-in-Ok-clause-keeps_all : goal.returns-in-Ok-clause-keeps_all
+returns-in-Ok-clause-keeps_all g c = λ m e k h.
     let s = c.args.self.now in
     let ops = g.D.Domain.operations in
     let dom = ops s.engine.domain in
     let new = c.query.new.self in
     let n = c.args.id in
-    one_answered dom m n e k new.engine.store new.book (subst (λ d. Holds (ops d) new.engine.store new.book (after_question dom (Before n) [] m)) c.query.ensures.domain (c.in-Ok.ensures.answers m h).1)
+    one_answered dom m n e k new.engine.store new.book (subst (λ d. Holds (ops d) new.engine.store new.book (after_question dom (Before n) [] m)) c.query.ensures.setup.0 (c.in-Ok.ensures.answers m h).1)
 
 pub returns-in-Ok-clause-tells : goal.returns-in-Ok-clause-tells
 returns-in-Ok-clause-tells g c = λ m h. (c.in-Ok.ensures.answers m h).0
@@ -94,15 +94,15 @@ returns-in-Ok-clause-ticked g c = λ m e k h.
     let dom = g.D.Domain.operations s.engine.domain in
     subst (λ w. c.query.new.steps ≤ c.args.steps.now + g.D.Domain.counted s.engine.domain * w) (one_work dom m c.args.id e k) (c.in-Ok.ensures.ticked m h)
 
-pub returns-in-Err-Refused-clause-all : goal.returns-in-Err-Refused-clause-all
-returns-in-Err-Refused-clause-all g c = λ m e k h.
+pub returns-in-Err-Refused-clause-keeps_all : goal.returns-in-Err-Refused-clause-keeps_all
+returns-in-Err-Refused-clause-keeps_all g c = λ m e k h.
     let s = c.args.self.now in
     let ops = g.D.Domain.operations in
     let dom = ops s.engine.domain in
     let new = c.query.new.self in
     let n = c.args.id in
     let q = subst (λ (r : QueryError). Questions dom m (Holds (ops new.engine.domain) new.engine.store new.book) (Before n) [] (Err r)) c.in-Err-Refused.field-0-is (c.in-Err-Refused.ensures.answers m h) in
-    one_refused dom m n e k new.engine.store new.book c.in-Err-Refused.why (checked_here dom s.engine.store s.book m h c.ready.ensures.ready.order.fine.fit) q.0 (subst (λ d. Holds (ops d) new.engine.store new.book m) c.query.ensures.domain q.1)
+    one_refused dom m n e k new.engine.store new.book c.in-Err-Refused.why (checked_here dom s.engine.store s.book m h c.ready.ensures.ready.order.fine.fit) q.0 (subst (λ d. Holds (ops d) new.engine.store new.book m) c.query.ensures.setup.0 q.1)
 
 pub returns-in-Err-Refused-clause-tells : goal.returns-in-Err-Refused-clause-tells
 returns-in-Err-Refused-clause-tells g c = λ m h.
@@ -116,20 +116,20 @@ returns-in-Err-Refused-clause-tells g c = λ m h.
 
 pub returns-in-Err-Refused-clause-ticked : goal.returns-in-Err-Refused-clause-ticked
 returns-in-Err-Refused-clause-ticked g c = λ m e k h.
-    let q = subst (λ (r : QueryError). IsUnticked c.args.steps.now c.query.new.steps r) c.in-Err-Refused.field-0-is c.in-Err-Refused.ensures.unticked in
+    let q = subst (λ (r : QueryError). IsUnticked c.args.steps.now c.query.new.steps r) c.in-Err-Refused.field-0-is c.in-Err-Refused.ensures.unticked_refusal in
     omega (arith, q)
 
-pub returns-in-Ok-clause-most : goal.returns-in-Ok-clause-most
-returns-in-Ok-clause-most g c = λ m e k h.
+pub returns-in-Ok-clause-ticked_filled : goal.returns-in-Ok-clause-ticked_filled
+returns-in-Ok-clause-ticked_filled g c = λ m e k h.
     let s = c.args.self.now in
-    subst (λ w. c.query.new.steps ≤ c.args.steps.now + g.D.Domain.counted s.engine.domain * suc (cells_added s.engine.store c.query.new.self.engine.store + 2 * w)) (one_chains (g.D.Domain.operations s.engine.domain) m c.args.id e k) (c.query.ensures.most m h)
+    subst (λ w. c.query.new.steps ≤ c.args.steps.now + g.D.Domain.counted s.engine.domain * suc (cells_added s.engine.store c.query.new.self.engine.store + 2 * w)) (one_chains (g.D.Domain.operations s.engine.domain) m c.args.id e k) (c.query.ensures.ticked_filled m h)
 
-pub returns-in-Err-Refused-clause-most : goal.returns-in-Err-Refused-clause-most
-returns-in-Err-Refused-clause-most g c = λ m e k h.
+pub returns-in-Err-Refused-clause-ticked_filled : goal.returns-in-Err-Refused-clause-ticked_filled
+returns-in-Err-Refused-clause-ticked_filled g c = λ m e k h.
     let s = c.args.self.now in
-    subst (λ w. c.query.new.steps ≤ c.args.steps.now + g.D.Domain.counted s.engine.domain * suc (cells_added s.engine.store c.query.new.self.engine.store + 2 * w)) (one_chains (g.D.Domain.operations s.engine.domain) m c.args.id e k) (c.query.ensures.most m h)
+    subst (λ w. c.query.new.steps ≤ c.args.steps.now + g.D.Domain.counted s.engine.domain * suc (cells_added s.engine.store c.query.new.self.engine.store + 2 * w)) (one_chains (g.D.Domain.operations s.engine.domain) m c.args.id e k) (c.query.ensures.ticked_filled m h)
 
-pub returns-clause-most : goal.returns-clause-most
-returns-clause-most g c = λ m e k h.
+pub returns-clause-ticked_filled : goal.returns-clause-ticked_filled
+returns-clause-ticked_filled g c = λ m e k h.
     let s = c.args.self.now in
-    subst (λ w. c.query.new.steps ≤ c.args.steps.now + g.D.Domain.counted s.engine.domain * suc (cells_added s.engine.store c.query.new.self.engine.store + 2 * w)) (one_chains (g.D.Domain.operations s.engine.domain) m c.args.id e k) (c.query.ensures.most m h)
+    subst (λ w. c.query.new.steps ≤ c.args.steps.now + g.D.Domain.counted s.engine.domain * suc (cells_added s.engine.store c.query.new.self.engine.store + 2 * w)) (one_chains (g.D.Domain.operations s.engine.domain) m c.args.id e k) (c.query.ensures.ticked_filled m h)

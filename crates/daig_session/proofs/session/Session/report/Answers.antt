@@ -46,8 +46,8 @@ returns-clause-ticked g c = rw (← c.self.view_is) (λ m h.
     subst (λ d. OnOk c.report_now.result (c.report_now.new.steps ≤ c.args.steps.now + g.D.Domain.counted d * (length (missing_for_report (ops d) m) + 2 * checked_chains m))) c.sweep.ensures.domain
     (c.report_now.ensures.ticked m (stood m h)))
 
-pub returns-clause-most : goal.returns-clause-most
-returns-clause-most g c = rw (← c.self.view_is) (λ m h.
+pub returns-clause-ticked_filled : goal.returns-clause-ticked_filled
+returns-clause-ticked_filled g c = rw (← c.self.view_is) (λ m h.
     let s = c.self.inside.parts in
     let ops = g.D.Domain.operations in
     let mid = c.sweep.new.self in
@@ -56,4 +56,4 @@ returns-clause-most g c = rw (← c.self.view_is) (λ m h.
     let old = c.self.inside.parts.engine.store in
     let same = swept-added old c.sweep.new.self.store new c.sweep.ensures.swept in
     subst (λ d. c.report_now.new.steps ≤ c.args.steps.now + g.D.Domain.counted d * suc (cells_added old new + 2 * checked_chains m)) c.sweep.ensures.domain
-    (subst (λ n. c.report_now.new.steps ≤ c.args.steps.now + g.D.Domain.counted c.sweep.new.self.domain * suc (n + 2 * checked_chains m)) same (c.report_now.ensures.most m (stood m h))))
+    (subst (λ n. c.report_now.new.steps ≤ c.args.steps.now + g.D.Domain.counted c.sweep.new.self.domain * suc (n + 2 * checked_chains m)) same (c.report_now.ensures.ticked_filled m (stood m h))))

@@ -23,7 +23,7 @@ overflow_sub-self g c =
     let stood = stands dom s.engine.store s.book c.ready.ensures.ready in
     let xs = missing_for_report dom here in
     let then = keeping (here.kept ++ xs) new.book.cost here in
-    let count = as_filled dom here new.engine.store new.book c.kept_count-kept.result c.kept_count.result (c.kept_count-kept.ensures.is here stood) (c.kept_count.ensures.is then (subst (λ d. Holds (ops d) new.engine.store new.book then) (sym c.all_findings.ensures.domain) (c.in-Ok.ensures.all here stood))) in
+    let count = as_filled dom here new.engine.store new.book c.kept_count-kept.result c.kept_count.result (c.kept_count-kept.ensures.is here stood) (c.kept_count.ensures.is then (subst (λ d. Holds (ops d) new.engine.store new.book then) (sym c.all_findings.ensures.setup.0) (c.in-Ok.ensures.keeps_all here stood))) in
     count.0
 
 pub invariant_of-self : goal.invariant_of-self
@@ -37,7 +37,7 @@ returns-in-Ok-clause-next_ticket g c =
     let ops = g.D.Domain.operations in
     let dom = ops s.engine.domain in
     let new = c.all_findings.new.self in
-    subst (λ p. p.book.tickets.next ≡ s.book.tickets.next) (sym c.self.view_is) (same_ticket dom s.engine.store new.engine.store s.book new.book (λ (ps : List Procedure). checked_statements (routines_of ps)) c.ready.ensures.ready c.all_findings.ensures.part)
+    subst (λ p. p.book.tickets.next ≡ s.book.tickets.next) (sym c.self.view_is) (same_ticket dom s.engine.store new.engine.store s.book new.book (λ (ps : List Procedure). checked_statements (routines_of ps)) c.ready.ensures.ready c.all_findings.ensures.keeps_part)
 
 pub returns-in-Err-clause-next_ticket : goal.returns-in-Err-clause-next_ticket
 returns-in-Err-clause-next_ticket g c =
@@ -45,7 +45,7 @@ returns-in-Err-clause-next_ticket g c =
     let ops = g.D.Domain.operations in
     let dom = ops s.engine.domain in
     let new = c.all_findings.new.self in
-    subst (λ p. p.book.tickets.next ≡ s.book.tickets.next) (sym c.self.view_is) (same_ticket dom s.engine.store new.engine.store s.book new.book (λ (ps : List Procedure). checked_statements (routines_of ps)) c.ready.ensures.ready c.all_findings.ensures.part)
+    subst (λ p. p.book.tickets.next ≡ s.book.tickets.next) (sym c.self.view_is) (same_ticket dom s.engine.store new.engine.store s.book new.book (λ (ps : List Procedure). checked_statements (routines_of ps)) c.ready.ensures.ready c.all_findings.ensures.keeps_part)
 
 pub returns-in-Ok-clause-reports : goal.returns-in-Ok-clause-reports
 returns-in-Ok-clause-reports g c = λ m h.
@@ -55,11 +55,11 @@ returns-in-Ok-clause-reports g c = λ m h.
     let new = c.all_findings.new.self in
     let xs = missing_for_report dom m in
     let then = keeping (m.kept ++ xs) new.book.cost m in
-    let count = as_filled dom m new.engine.store new.book c.kept_count-kept.result c.kept_count.result (c.kept_count-kept.ensures.is m h) (c.kept_count.ensures.is then (subst (λ d. Holds (ops d) new.engine.store new.book then) (sym c.all_findings.ensures.domain) (c.in-Ok.ensures.all m h))) in
+    let count = as_filled dom m new.engine.store new.book c.kept_count-kept.result c.kept_count.result (c.kept_count-kept.ensures.is m h) (c.kept_count.ensures.is then (subst (λ d. Holds (ops d) new.engine.store new.book then) (sym c.all_findings.ensures.setup.0) (c.in-Ok.ensures.keeps_all m h))) in
     let cost = c.kept_count.result - c.kept_count-kept.result in (
       c.in-Ok.ensures.found m h,
       subst (λ p. Holds (ops p.engine.domain) p.engine.store (record p.book { cost = cost }) (after_report dom m)) (sym c.self.view_is)
-          (subst (λ d. Holds (ops d) new.engine.store (record new.book { cost = cost }) (after_report dom m)) (sym c.all_findings.ensures.domain) (ended_holds dom m new.engine.store new.book cost (c.in-Ok.ensures.all m h) count.1)),
+          (subst (λ d. Holds (ops d) new.engine.store (record new.book { cost = cost }) (after_report dom m)) (sym c.all_findings.ensures.setup.0) (ended_holds dom m new.engine.store new.book cost (c.in-Ok.ensures.keeps_all m h) count.1)),
     )
 
 pub returns-in-Ok-clause-sound : goal.returns-in-Ok-clause-sound
@@ -83,5 +83,5 @@ returns-in-Err-clause-reports g c = λ m h.
     let new = c.all_findings.new.self in
     let cost = c.cost-cost.result in
     subst (λ p. IsBetween (missing_for_report dom m) m (Holds (ops p.engine.domain) p.engine.store (record p.book { cost = cost }))) (sym c.self.view_is)
-    (subst (λ d. IsBetween (missing_for_report dom m) m (Holds (ops d) new.engine.store (record new.book { cost = cost }))) (sym c.all_findings.ensures.domain) (
-    failed_holds dom m new.engine.store new.book cost (c.all_findings.ensures.part m h) (c.cost-cost.ensures.is m h)))
+    (subst (λ d. IsBetween (missing_for_report dom m) m (Holds (ops d) new.engine.store (record new.book { cost = cost }))) (sym c.all_findings.ensures.setup.0) (
+    failed_holds dom m new.engine.store new.book cost (c.all_findings.ensures.keeps_part m h) (c.cost-cost.ensures.is m h)))

@@ -27,8 +27,8 @@ step_now-requires g c =
 pub returns-clause-bounded : goal.returns-clause-bounded
 returns-clause-bounded g c =
     let new = c.step_now.new.self.engine in
-    subst (λ n. IsBounded n new.store) (sym (c.step_now.ensures.spare ∙ c.sweep.ensures.spare))
-    (filled-bounded c.self.inside.parts.engine.spare c.sweep.new.self.store new.store c.sweep.ensures.bounded c.step_now.ensures.few)
+    subst (λ n. IsBounded n new.store) (sym (c.step_now.ensures.setup.1 ∙ c.sweep.ensures.spare))
+    (filled-bounded c.self.inside.parts.engine.spare c.sweep.new.self.store new.store c.sweep.ensures.bounded c.step_now.ensures.adds_few)
 
 pub returns-clause-steps : goal.returns-clause-steps
 returns-clause-steps g c = rw (← c.self.view_is) (λ m h.
@@ -58,8 +58,8 @@ returns-clause-ticked g c = rw (← c.self.view_is) (λ m h.
     subst (λ d. IfOk c.step_now.result (λ turn. IfSome (ticket_of c.args.ticket m.tickets) (λ t. c.step_now.new.steps ≤ c.args.steps.now + g.D.Domain.counted d * work_of (ops d) m t turn))) c.sweep.ensures.domain
     (c.step_now.ensures.ticked m (stood m h)))
 
-pub returns-clause-most : goal.returns-clause-most
-returns-clause-most g c = rw (← c.self.view_is) (λ m h.
+pub returns-clause-ticked_filled : goal.returns-clause-ticked_filled
+returns-clause-ticked_filled g c = rw (← c.self.view_is) (λ m h.
     let s = c.self.inside.parts in
     let ops = g.D.Domain.operations in
     let mid = c.sweep.new.self in
@@ -69,4 +69,4 @@ returns-clause-most g c = rw (← c.self.view_is) (λ m h.
     let same = swept-added old c.sweep.new.self.store new c.sweep.ensures.swept in
     subst (λ d. MatchOption (ticket_of c.args.ticket m.tickets) (c.step_now.new.steps ≡ c.args.steps.now) (λ t. c.step_now.new.steps ≤ c.args.steps.now + g.D.Domain.counted d * suc (cells_added old new + 2 * length (targets_of m t.at t.string)))) c.sweep.ensures.domain
     (subst (λ n. MatchOption (ticket_of c.args.ticket m.tickets) (c.step_now.new.steps ≡ c.args.steps.now) (λ t. c.step_now.new.steps ≤ c.args.steps.now + g.D.Domain.counted c.sweep.new.self.domain * suc (n + 2 * length (targets_of m t.at t.string)))) same
-    (c.step_now.ensures.most m (stood m h))))
+    (c.step_now.ensures.ticked_filled m (stood m h))))
