@@ -1,5 +1,5 @@
 -- What is written for a line, and which machine stands after it.
-use Rattle.std.specs.Prelude.{◌≡◌, ◌⊎◌, ℕ, List, [], Option, Some, None, Result, Ok, Err, IfErr, IfOk, Vec}
+use Rattle.std.specs.Prelude.{◌≡◌, ◌≤◌, ◌+◌, ◌⊎◌, ℕ, List, [], Option, Some, None, Result, Ok, Err, IfErr, IfOk, Vec}
 use Rattle.imp_syntax.specs.declared.edit.Location.{Location}
 use Rattle.imp_check.specs.Slots.{routines_of}
 use Rattle.domain_laws.specs.Operations.{Operations}
@@ -7,6 +7,7 @@ use Rattle.batch_meaning.specs.Answers.{Answer}
 use Rattle.cell_names.specs.Paths.{CellName}
 use Rattle.daig_machine.specs.Machine.{Machine, Ticket, ticket_of}
 use Rattle.daig_machine.specs.Turns.{IsBetween, missing_at, missing_for_report}
+use Rattle.daig_graph.specs.declared.value.Value.{Value}
 use Rattle.daig_query.specs.Answered.{Says}
 use Rattle.daig_session.specs.Sessions.{StandsFor}
 use Rattle.daig_session.specs.declared.error.AskError.{AskError}
@@ -21,6 +22,7 @@ use Rattle.daig_session.specs.declared.session.Session.{Session}
 use Rattle.daig_session.specs.declared.stepping.StepResult as stepping
 use Rattle.daig_session.specs.declared.stepping.StepResult.TheVariants.{Pending, Done}
 use Rattle.request_json.specs.declared.error.ReadError.{ReadError}
+use Rattle.request_json.specs.declared.request.Query.{Query}
 use Rattle.request_json.specs.declared.request.Request.{Request}
 use Rattle.request_json.specs.declared.request.Request.TheVariants as q
 use Rattle.request_json.specs.declared.reply.Reply.{Reply}
@@ -28,17 +30,23 @@ use Rattle.request_json.specs.declared.reply.Reply.TheVariants as r
 use Rattle.request_json.specs.declared.reply.Refusal.{Refusal}
 use Rattle.request_json.specs.declared.reply.Refusal.TheVariants as refusal
 use Rattle.request_json.specs.Replies.{reply_text}
+use Rattle.request_json.specs.Requests.{request_of}
 use Rattle.imp_syntax.specs.declared.edit.Edit.{Edit}
 use Rattle.serve_replies.specs.States.{answer_reply, layout_at}
 use Rattle.serve_answers.specs.Edits.{IsTextError, replace_of, insert_of, delete_of, guard_of, declare_of, add_of, drop_of}
 use Rattle.serve_answers.specs.Readings.{Readings}
 use Rattle.serve_answers.specs.declared.edits.TextError.{TextError}
-use Rattle.serve_answers.specs.Turns.{Outcome}
+use Rattle.serve_answers.specs.Lines.{line_turn, request_turn}
+use Rattle.serve_answers.specs.Turns.{step_turn, Outcome}
 
 -- The reply of a turn is written, and what stands is its machine.
 pub record Follows (turn : Outcome) (stands : Machine → Type 0) (line : List ℕ) : Type 0 where
   pub reply : line ≡ reply_text turn.reply
   pub machine : stands turn.machine
+
+-- The line is the text of a reply, if there is memory.
+abbrev pub IsLineOf : {E Z : Type 0} → Reply → Result (Vec ℕ Z) E → Type 0
+IsLineOf reply line = IfOk line (λ v. v.items ≡ reply_text reply)
 
 -- a request that fills names: after memory ran out some of them may be filled, and all else is as it was
 abbrev pub Fills : Result Request ReadError → Type 0
@@ -142,6 +150,35 @@ module _ {D S : Type 0} (operations : D → Operations S) (old new : Session D S
   FillsWhereAsked request turn line = (m : Machine) → Fills request → StandsFor operations old m →
       IfErr line (λ _. IsHalted (missing_of (operations old.engine.domain) request m) (turn (operations old.engine.domain) m) m (StandsFor operations new))
 
+  -- The same of the names that a question misses, ..
+  abbrev pub FillsOnQuery : {V E : Type 0} → (query : Query) → (Operations S → Query → Machine → Outcome) → Result V E → Type 0
+  FillsOnQuery query turn line = FillsOrTurns (λ dom. missing_at dom query.at query.string) (λ dom. turn dom query) line
+
+  -- .. and of those that a ticket misses.
+  abbrev pub FillsOnStep : {V E : Type 0} → (ticket n : ℕ) → Result V E → Type 0
+  FillsOnStep ticket n line = FillsOrTurns (λ dom m. missing_for_ticket dom (ticket_of ticket m.tickets) m) (λ dom. step_turn dom ticket n) line
+
+  -- The line is the reply of the turn of a request, however texts are read, ..
+  abbrev pub AnswersRequest : {E Z : Type 0} → Request → Result (Vec ℕ Z) E → Type 0
+  AnswersRequest request line = (readings : Readings) → TakesTurn (λ dom. request_turn readings dom request) line
+
+  -- .. where it is one for an edit, ..
+  abbrev pub AnswersEdit : {E Z : Type 0} → Request → Result (Vec ℕ Z) E → Type 0
+  AnswersEdit request line = (readings : Readings) (m : Machine) → Edits request → StandsFor operations old m →
+      IfOk line (λ v. Follows (request_turn readings (operations old.engine.domain) request m) (StandsFor operations new) v.items)
+
+  -- .. and of the turn of a line.
+  abbrev pub AnswersLine : {E Z : Type 0} → (asked : List ℕ) → Result (Vec ℕ Z) E → Type 0
+  AnswersLine asked line = (readings : Readings) → TakesTurn (λ dom. line_turn readings dom asked) line
+
+  -- When memory runs out on a request that fills names some of the missing ones are kept, ..
+  abbrev pub FillsOnRequest : {V E : Type 0} → Request → Result V E → Type 0
+  FillsOnRequest request line = (readings : Readings) → FillsWhereAsked (Ok request) (λ dom. request_turn readings dom request) line
+
+  -- .. and so on a line that asks for one.
+  abbrev pub FillsOnLine : {V E : Type 0} → (asked : List ℕ) → Result V E → Type 0
+  FillsOnLine asked line = (readings : Readings) → FillsWhereAsked (request_of asked) (λ dom. line_turn readings dom asked) line
+
   -- When memory runs out the session stands for the machine as before; and so it does where the request fills no names.
   abbrev pub StaysOnErr : {V E : Type 0} → Result V E → Type 0
   StaysOnErr line = (m : Machine) → StandsFor operations old m → IfErr line (λ _. StandsFor operations new m)
@@ -153,3 +190,21 @@ module _ {D S : Type 0} (operations : D → Operations S) (old new : Session D S
 -- The line is this reply, from each machine that a session stands for.
 abbrev pub TellsReply : {D S E Z : Type 0} → (operations : D → Operations S) → Session D S → (Machine → Reply) → Result (Vec ℕ Z) E → Type 0
 TellsReply operations session reply line = (m : Machine) → StandsFor operations session m → IfOk line (λ v. v.items ≡ reply_text (reply m))
+
+-- The line tells an answer at a location, from each machine that a session stands for, ..
+abbrev pub TellsAnswer : {D S E Z : Type 0} → (operations : D → Operations S) → Session D S → Location → Value S → Result (Vec ℕ Z) E → Type 0
+TellsAnswer {S = S} operations session at value line = (m : Machine) (a : Answer S) → StandsFor operations session m → Says a (Some value) →
+    IfOk line (λ v. v.items ≡ reply_text (answer_reply (operations session.engine.domain) (layout_at (routines_of m.program) at) a))
+
+-- .. or what a step comes to.
+abbrev pub TellsStep : {D S E Z : Type 0} → (operations : D → Operations S) → Session D S → Location → stepping.StepResult S → Result (Vec ℕ Z) E → Type 0
+TellsStep operations session at turn line =
+    TellsTurn line (λ v. v.items) (operations session.engine.domain) (StandsFor operations session) at turn
+
+-- The domain stays, ..
+abbrev pub KeepsDomain : {D S : Type 0} → (old new : Session D S) → Type 0
+KeepsDomain old new = new.engine.domain ≡ old.engine.domain
+
+-- .. and the number of the next ticket rises by one at most.
+abbrev pub OpensAtMostOne : {D S : Type 0} → (old new : Session D S) → Type 0
+OpensAtMostOne old new = new.book.tickets.next ≤ old.book.tickets.next + 1

@@ -1,11 +1,10 @@
 //! The answer to a line.
-ghost use Rattle.std.specs.Prelude.{◌≡◌, ◌+◌, ◌≤◌, ◌<◌, ◌^◌, Ok, IfOk};
-ghost use Rattle.request_json.specs.Replies.{reply_text};
+ghost use Rattle.std.specs.Prelude.{◌≡◌, ◌<◌, ◌^◌, Ok, IfOk};
 ghost use Rattle.request_json.specs.Requests.{request_of};
 ghost use Rattle.serve_replies.specs.Refusals.{line_refusal};
-ghost use Rattle.serve_answers.specs.Readings.{Readings};
-ghost use Rattle.serve_answers.specs.Lines.{line_turn, request_turn};
-ghost use Rattle.serve_session.specs.Followed.{FillsWhereAsked, StaysUnlessFilled, TakesTurn};
+ghost use Rattle.serve_session.specs.Followed.{StaysUnlessFilled, AnswersLine, AnswersRequest};
+ghost use Rattle.serve_session.specs.Followed.{FillsOnLine, FillsOnRequest, IsLineOf, KeepsDomain};
+ghost use Rattle.serve_session.specs.Followed.{OpensAtMostOne};
 
 use crate::edits::edit_request;
 use crate::questions::{report_line, state_line, why_line};
@@ -28,14 +27,10 @@ fn request_line<D: Domain, L: Ledger>(
     steps: &mut Steps<L>,
 ) -> Result<Vec<u8>, Memory>
     requires room { session.old.book.tickets.next < 2 ^ 63 }
-    ensures domain { session.new.engine.domain ≡ session.old.engine.domain }
-    ensures rises { session.new.book.tickets.next ≤ session.old.book.tickets.next + 1 }
-    ensures turn { (readings : Readings) →
-        TakesTurn D.operations session.old session.new
-        (λ dom. request_turn readings dom request) result }
-    ensures between { (readings : Readings) →
-        FillsWhereAsked D.operations session.old session.new
-        (Ok request) (λ dom. request_turn readings dom request) result }
+    ensures domain { KeepsDomain session.old session.new }
+    ensures rises { OpensAtMostOne session.old session.new }
+    ensures turn { AnswersRequest D.operations session.old session.new request result }
+    ensures between { FillsOnRequest D.operations session.old session.new request result }
     ensures unchanged { StaysUnlessFilled D.operations session.old session.new (Ok request) result }
 {
     match request {
@@ -59,7 +54,7 @@ fn request_line<D: Domain, L: Ledger>(
 
 /// The line that tells why a line is no request. When memory runs out there is none.
 fn unread_line(alloc: Global, error: ReadError) -> Result<Vec<u8>, Memory>
-    ensures line { IfOk result (λ v. v.items ≡ reply_text (Reply.Refused (line_refusal error))) }
+    ensures line { IsLineOf (Reply.Refused (line_refusal error)) result }
     ensures no_memory { IfOk result (λ _. error ≡ ReadError.Memory → ⊥) }
 {
     let reply = line_refusal(error)?;
@@ -81,14 +76,10 @@ pub fn answer_line<D: Domain, L: Ledger>(
     steps: &mut Steps<L>,
 ) -> Result<Vec<u8>, Memory>
     requires room { session.old.book.tickets.next < 2 ^ 63 }
-    ensures domain { session.new.engine.domain ≡ session.old.engine.domain }
-    ensures rises { session.new.book.tickets.next ≤ session.old.book.tickets.next + 1 }
-    ensures turn { (readings : Readings) →
-        TakesTurn D.operations session.old session.new
-        (λ dom. line_turn readings dom line.now) result }
-    ensures between { (readings : Readings) →
-        FillsWhereAsked D.operations session.old session.new
-        (request_of line.now) (λ dom. line_turn readings dom line.now) result }
+    ensures domain { KeepsDomain session.old session.new }
+    ensures rises { OpensAtMostOne session.old session.new }
+    ensures turn { AnswersLine D.operations session.old session.new line.now result }
+    ensures between { FillsOnLine D.operations session.old session.new line.now result }
     ensures unchanged { StaysUnlessFilled D.operations session.old session.new
         (request_of line.now) result }
 {

@@ -1,15 +1,12 @@
 //! Edits. An edit is worked out and its reply made before the session is changed.
-ghost use Rattle.std.specs.Prelude.{◌≡◌, ◌+◌, ◌≤◌, IfOk, Ok};
+ghost use Rattle.std.specs.Prelude.{◌≡◌, ◌≤◌, IfOk, Ok};
 ghost use Rattle.imp_edit.specs.Edited.{Continues};
-ghost use Rattle.request_json.specs.Replies.{reply_text};
-ghost use Rattle.daig_machine.specs.Machine.{Machine};
-ghost use Rattle.daig_session.specs.Sessions.{StandsFor};
 ghost use Rattle.serve_answers.specs.Refusals.{refusal_of};
 ghost use Rattle.serve_answers.specs.Turns.{edit_turn};
-ghost use Rattle.serve_answers.specs.Lines.{request_turn};
 ghost use Rattle.serve_answers.specs.Readings.{Readings};
-ghost use Rattle.serve_session.specs.Followed.{edit_asked, Edits, Follows, Makes, StaysOnErr};
-ghost use Rattle.serve_session.specs.Followed.{TakesTurn};
+ghost use Rattle.serve_session.specs.Followed.{edit_asked, Makes, StaysOnErr, TakesTurn};
+ghost use Rattle.serve_session.specs.Followed.{AnswersEdit, TellsReply, KeepsDomain};
+ghost use Rattle.serve_session.specs.Followed.{OpensAtMostOne};
 
 use crate::written::{line_of, refused};
 use base_values::Memory;
@@ -33,9 +30,8 @@ fn refusal_line<D: Domain>(
     edit: &Edit,
     error: EditError,
 ) -> Result<Vec<u8>, Memory>
-    ensures line { (m : Machine) → StandsFor D.operations session.now m →
-        IfOk result (λ v.
-        v.items ≡ reply_text (Reply.Refused (refusal_of m.program edit.now error))) }
+    ensures line { TellsReply D.operations session.now
+        (λ m. Reply.Refused (refusal_of m.program edit.now error)) result }
     ensures no_memory { IfOk result (λ _. error ≡ EditError.Memory → ⊥) }
 {
     let why = refusal_of(alloc, session.program(), edit, error)?;
@@ -49,8 +45,8 @@ pub(crate) fn edit_line<D: Domain>(
     edit: &Edit,
 ) -> Result<Vec<u8>, Memory>
     requires continues { Continues edit.now session.old.book.next }
-    ensures domain { session.new.engine.domain ≡ session.old.engine.domain }
-    ensures rises { session.new.book.tickets.next ≤ session.old.book.tickets.next + 1 }
+    ensures domain { KeepsDomain session.old session.new }
+    ensures rises { OpensAtMostOne session.old session.new }
     ensures turn { TakesTurn D.operations session.old session.new
         (λ dom. edit_turn dom (Ok edit.now)) result }
     ensures unchanged { StaysOnErr D.operations session.old session.new result }
@@ -99,12 +95,9 @@ pub(crate) fn edit_request<D: Domain>(
     session: &mut Session<D>,
     request: Request,
 ) -> Result<Vec<u8>, Memory>
-    ensures domain { session.new.engine.domain ≡ session.old.engine.domain }
-    ensures rises { session.new.book.tickets.next ≤ session.old.book.tickets.next + 1 }
-    ensures turn { (readings : Readings) (m : Machine) → Edits request →
-        StandsFor D.operations session.old m → IfOk result (λ v. Follows
-        (request_turn readings (D.operations session.old.engine.domain) request m)
-        (StandsFor D.operations session.new) v.items) }
+    ensures domain { KeepsDomain session.old session.new }
+    ensures rises { OpensAtMostOne session.old session.new }
+    ensures turn { AnswersEdit D.operations session.old session.new request result }
     ensures unchanged { StaysOnErr D.operations session.old session.new result }
 {
     session.ready();

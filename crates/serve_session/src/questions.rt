@@ -1,15 +1,10 @@
 //! Questions, and steps of tickets.
-ghost use Rattle.std.specs.Prelude.{◌≡◌, ◌+◌, ◌≤◌, IfOk, Some};
-ghost use Rattle.batch_meaning.specs.Answers.{Answer};
-ghost use Rattle.daig_query.specs.Answered.{Says};
-ghost use Rattle.daig_machine.specs.Machine.{Machine};
-ghost use Rattle.daig_machine.specs.Turns.{missing_at, missing_for_report};
-ghost use Rattle.daig_session.specs.Sessions.{StandsFor};
-ghost use Rattle.request_json.specs.Replies.{reply_text};
-ghost use Rattle.serve_replies.specs.States.{answer_reply, layout_at};
-ghost use Rattle.imp_check.specs.Slots.{routines_of};
+ghost use Rattle.std.specs.Prelude.{◌≡◌};
+ghost use Rattle.daig_machine.specs.Turns.{missing_for_report};
 ghost use Rattle.serve_answers.specs.Turns.{report_turn, state_turn, why_turn};
 ghost use Rattle.serve_session.specs.Followed.{query_refusal, FillsOrTurns, TakesTurn};
+ghost use Rattle.serve_session.specs.Followed.{FillsOnQuery, TellsAnswer, KeepsDomain};
+ghost use Rattle.serve_session.specs.Followed.{OpensAtMostOne};
 
 use crate::written::{line_of, refused_if};
 use base_values::Memory;
@@ -29,10 +24,7 @@ pub(crate) fn value_line<D: Domain>(
     at: &Location,
     value: &Value<D::State>,
 ) -> Result<Vec<u8>, Memory>
-    ensures line { (m : Machine) (a : Answer D.State) →
-        StandsFor D.operations session.now m → Says a (Some value.now) → IfOk result (λ v.
-        v.items ≡ reply_text (answer_reply (D.operations session.now.engine.domain)
-        (layout_at (routines_of m.program) at.now) a)) }
+    ensures line { TellsAnswer D.operations session.now at.now value.now result }
 {
     let reply = match value {
         Value::State(state) => state_reply(
@@ -64,13 +56,11 @@ pub(crate) fn state_line<D: Domain, L: Ledger>(
     query: &Query,
     steps: &mut Steps<L>,
 ) -> Result<Vec<u8>, Memory>
-    ensures domain { session.new.engine.domain ≡ session.old.engine.domain }
-    ensures rises { session.new.book.tickets.next ≤ session.old.book.tickets.next + 1 }
+    ensures domain { KeepsDomain session.old session.new }
+    ensures rises { OpensAtMostOne session.old session.new }
     ensures turn { TakesTurn D.operations session.old session.new
         (λ dom. state_turn dom query.now) result }
-    ensures between { FillsOrTurns D.operations session.old session.new
-        (λ dom. missing_at dom query.now.at query.now.string)
-        (λ dom. state_turn dom query.now) result }
+    ensures between { FillsOnQuery D.operations session.old session.new query.now state_turn result }
 {
     let string = numbers_of(alloc, &query.string)?;
     match session.query(alloc, &query.at, string.as_slice(), steps) {
@@ -86,13 +76,11 @@ pub(crate) fn why_line<D: Domain, L: Ledger>(
     query: &Query,
     steps: &mut Steps<L>,
 ) -> Result<Vec<u8>, Memory>
-    ensures domain { session.new.engine.domain ≡ session.old.engine.domain }
-    ensures rises { session.new.book.tickets.next ≤ session.old.book.tickets.next + 1 }
+    ensures domain { KeepsDomain session.old session.new }
+    ensures rises { OpensAtMostOne session.old session.new }
     ensures turn { TakesTurn D.operations session.old session.new
         (λ dom. why_turn dom query.now) result }
-    ensures between { FillsOrTurns D.operations session.old session.new
-        (λ dom. missing_at dom query.now.at query.now.string)
-        (λ dom. why_turn dom query.now) result }
+    ensures between { FillsOnQuery D.operations session.old session.new query.now why_turn result }
 {
     let string = numbers_of(alloc, &query.string)?;
     match session.why(alloc, &query.at, string.as_slice(), steps) {
@@ -107,11 +95,11 @@ pub(crate) fn report_line<D: Domain, L: Ledger>(
     session: &mut Session<D>,
     steps: &mut Steps<L>,
 ) -> Result<Vec<u8>, Memory>
-    ensures domain { session.new.engine.domain ≡ session.old.engine.domain }
-    ensures rises { session.new.book.tickets.next ≤ session.old.book.tickets.next + 1 }
+    ensures domain { KeepsDomain session.old session.new }
+    ensures rises { OpensAtMostOne session.old session.new }
     ensures turn { TakesTurn D.operations session.old session.new report_turn result }
-    ensures between { FillsOrTurns D.operations session.old session.new
-        missing_for_report report_turn result }
+    ensures between { FillsOrTurns D.operations session.old session.new missing_for_report
+        report_turn result }
 {
     let findings = session.report(alloc, steps)?;
     line_of(alloc, Reply::Report(findings))

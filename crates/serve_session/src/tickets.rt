@@ -1,11 +1,9 @@
 //! Tickets, and going back and forth. Each reply is made before the session is changed.
-ghost use Rattle.std.specs.Prelude.{◌≡◌, ◌+◌, ◌<◌, ◌≤◌, ◌^◌, IfOk};
-ghost use Rattle.daig_machine.specs.Machine.{ticket_of};
-ghost use Rattle.daig_session.specs.Sessions.{StandsFor};
+ghost use Rattle.std.specs.Prelude.{◌≡◌, ◌<◌, ◌^◌, IfOk};
 ghost use Rattle.serve_answers.specs.Turns.{ask_turn, cancel_turn, redo_turn, step_turn, undo_turn};
-ghost use Rattle.serve_session.specs.Followed.{FillsOrTurns, StaysOnErr, TakesTurn, TellsTurn};
-ghost use Rattle.serve_session.specs.Followed.{ask_refusal, missing_for_ticket, move_refusal};
-ghost use Rattle.serve_session.specs.Followed.{step_refusal};
+ghost use Rattle.serve_session.specs.Followed.{StaysOnErr, TakesTurn, ask_refusal, move_refusal};
+ghost use Rattle.serve_session.specs.Followed.{step_refusal, FillsOnStep, TellsStep, KeepsDomain};
+ghost use Rattle.serve_session.specs.Followed.{OpensAtMostOne};
 
 use crate::questions::value_line;
 use crate::written::{line_of, refused, refused_if};
@@ -57,8 +55,8 @@ pub(crate) fn ask_line<D: Domain>(
     query: Query,
 ) -> Result<Vec<u8>, Memory>
     requires room { session.old.book.tickets.next < 2 ^ 63 }
-    ensures domain { session.new.engine.domain ≡ session.old.engine.domain }
-    ensures rises { session.new.book.tickets.next ≤ session.old.book.tickets.next + 1 }
+    ensures domain { KeepsDomain session.old session.new }
+    ensures rises { OpensAtMostOne session.old session.new }
     ensures turn { TakesTurn D.operations session.old session.new
         (λ dom. ask_turn dom query) result }
     ensures unchanged { StaysOnErr D.operations session.old session.new result }
@@ -91,8 +89,7 @@ fn turn_line<D: Domain>(
     at: &Location,
     turn: StepResult<D::State>,
 ) -> Result<Vec<u8>, Memory>
-    ensures tells { TellsTurn result (λ v. v.items) (D.operations session.now.engine.domain)
-        (StandsFor D.operations session.now) at.now turn }
+    ensures tells { TellsStep D.operations session.now at.now turn result }
 {
     match turn {
         StepResult::Pending(filled) => line_of(alloc, Reply::Pending(filled as u64)),
@@ -108,13 +105,11 @@ pub(crate) fn step_line<D: Domain, L: Ledger>(
     n: u32,
     steps: &mut Steps<L>,
 ) -> Result<Vec<u8>, Memory>
-    ensures domain { session.new.engine.domain ≡ session.old.engine.domain }
-    ensures rises { session.new.book.tickets.next ≤ session.old.book.tickets.next + 1 }
+    ensures domain { KeepsDomain session.old session.new }
+    ensures rises { OpensAtMostOne session.old session.new }
     ensures turn { TakesTurn D.operations session.old session.new
         (λ dom. step_turn dom ticket n) result }
-    ensures between { FillsOrTurns D.operations session.old session.new
-        (λ dom m. missing_for_ticket dom (ticket_of ticket m.tickets) m)
-        (λ dom. step_turn dom ticket n) result }
+    ensures between { FillsOnStep D.operations session.old session.new ticket n result }
 {
     session.ready();
     let Some(at) = session.ticket_at(ticket) else {
@@ -133,8 +128,8 @@ pub(crate) fn cancel_line<D: Domain>(
     session: &mut Session<D>,
     ticket: u64,
 ) -> Result<Vec<u8>, Memory>
-    ensures domain { session.new.engine.domain ≡ session.old.engine.domain }
-    ensures rises { session.new.book.tickets.next ≤ session.old.book.tickets.next + 1 }
+    ensures domain { KeepsDomain session.old session.new }
+    ensures rises { OpensAtMostOne session.old session.new }
     ensures turn { TakesTurn D.operations session.old session.new (λ _. cancel_turn ticket) result }
     ensures unchanged { StaysOnErr D.operations session.old session.new result }
 {
@@ -150,8 +145,8 @@ pub(crate) fn undo_line<D: Domain>(
     alloc: Global,
     session: &mut Session<D>,
 ) -> Result<Vec<u8>, Memory>
-    ensures domain { session.new.engine.domain ≡ session.old.engine.domain }
-    ensures rises { session.new.book.tickets.next ≤ session.old.book.tickets.next + 1 }
+    ensures domain { KeepsDomain session.old session.new }
+    ensures rises { OpensAtMostOne session.old session.new }
     ensures turn { TakesTurn D.operations session.old session.new undo_turn result }
     ensures unchanged { StaysOnErr D.operations session.old session.new result }
 {
@@ -167,8 +162,8 @@ pub(crate) fn redo_line<D: Domain>(
     alloc: Global,
     session: &mut Session<D>,
 ) -> Result<Vec<u8>, Memory>
-    ensures domain { session.new.engine.domain ≡ session.old.engine.domain }
-    ensures rises { session.new.book.tickets.next ≤ session.old.book.tickets.next + 1 }
+    ensures domain { KeepsDomain session.old session.new }
+    ensures rises { OpensAtMostOne session.old session.new }
     ensures turn { TakesTurn D.operations session.old session.new redo_turn result }
     ensures unchanged { StaysOnErr D.operations session.old session.new result }
 {

@@ -1,9 +1,5 @@
 //! What is told of a session: its cost, its program, runs.
-ghost use Rattle.std.specs.Prelude.{◌≡◌, IfOk};
 ghost use Rattle.std.specs.Option.{option_copied};
-ghost use Rattle.daig_machine.specs.Machine.{Machine};
-ghost use Rattle.daig_session.specs.Sessions.{StandsFor};
-ghost use Rattle.request_json.specs.Replies.{reply_text};
 ghost use Rattle.serve_answers.specs.Turns.{cost_turn, listing_turn, program_turn, run_turn};
 ghost use Rattle.serve_session.specs.Followed.{TellsReply};
 
@@ -57,9 +53,8 @@ pub(crate) fn run_line<D: Domain>(
     fuel: u32,
     at: Option<&Location>,
 ) -> Result<Vec<u8>, Memory>
-    ensures line { (m : Machine) → StandsFor D.operations session.now m →
-        IfOk result (λ v.
-        v.items ≡ reply_text (run_turn inputs.now fuel (option_copied at.entry) m).reply) }
+    ensures line { TellsReply D.operations session.now
+        (λ m. (run_turn inputs.now fuel (option_copied at.entry) m).reply) result }
 {
     let table = session.program();
     table.procs();

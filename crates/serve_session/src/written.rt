@@ -1,7 +1,5 @@
 //! Replies as lines.
-ghost use Rattle.std.specs.Prelude.{◌≡◌, IfOk};
-ghost use Rattle.request_json.specs.Replies.{reply_text};
-ghost use Rattle.serve_session.specs.Followed.{Tells};
+ghost use Rattle.serve_session.specs.Followed.{Tells, IsLineOf};
 
 use base_values::Memory;
 use request_json::{Refusal, Reply, reply_line};
@@ -9,14 +7,14 @@ use std::alloc::Global;
 
 /// The line of a reply.
 pub(crate) fn line_of(alloc: Global, reply: Reply) -> Result<Vec<u8>, Memory>
-    ensures line { IfOk result (λ v. v.items ≡ reply_text reply) }
+    ensures line { IsLineOf reply result }
 {
     reply_line(alloc, &reply)
 }
 
 /// The line of a refusal.
 pub(crate) fn refused(alloc: Global, why: Refusal) -> Result<Vec<u8>, Memory>
-    ensures line { IfOk result (λ v. v.items ≡ reply_text (Reply.Refused why)) }
+    ensures line { IsLineOf (Reply.Refused why) result }
 {
     line_of(alloc, Reply::Refused(why))
 }
