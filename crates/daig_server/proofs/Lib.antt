@@ -1,6 +1,5 @@
 pub mod FewLemmas
 pub mod LineLemmas
-pub mod WordsLemmas
 pub mod TallyLemmas
 pub mod ServedLemmas
 pub mod GeneratedLemmas

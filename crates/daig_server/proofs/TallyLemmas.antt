@@ -34,13 +34,14 @@ use Rattle.serve_command.specs.declared.job.DomainName.{DomainName}
 use Rattle.serve_script.specs.Lines.{whole_lines}
 use Rattle.daig_gen.specs.Script.{script_of}
 use Rattle.serve_output.specs.Domains.{meaning_of}
-use Rattle.serve_output.specs.Output.{gen_bytes, served_after, tally_output}
+use Rattle.serve_output.specs.Output.{gen_bytes, tally_output}
+use Rattle.daig_server.specs.Tallies.{after_lines}
 
-pub after-append : {S : Type 0} (dom : Operations S) (xs ys : List (List ℕ)) (s : Served) → served_after dom (xs ++ ys) s ≡ served_after dom ys (served_after dom xs s)
+pub after-append : {S : Type 0} (dom : Operations S) (xs ys : List (List ℕ)) (s : Served) → after_lines dom (xs ++ ys) s ≡ after_lines dom ys (after_lines dom xs s)
 after-append dom [] ys s = refl
 after-append dom (x ∷ xs) ys s = after-append dom xs ys ((server dom).next s x)
 
-pub tallied-append : {S : Type 0} (dom : Operations S) (xs ys : List (List ℕ)) (s : Served) (t : ReplyTally) → tally_output dom (xs ++ ys) s t ≡ tally_output dom ys (served_after dom xs s) (tally_output dom xs s t)
+pub tallied-append : {S : Type 0} (dom : Operations S) (xs ys : List (List ℕ)) (s : Served) (t : ReplyTally) → tally_output dom (xs ++ ys) s t ≡ tally_output dom ys (after_lines dom xs s) (tally_output dom xs s t)
 tallied-append dom [] ys s t = refl
 tallied-append dom (x ∷ xs) ys s t = tallied-append dom xs ys ((server dom).next s x) (tally_with (line_turn s.readings dom x s.machine).reply t)
 

@@ -5,6 +5,7 @@ use Rattle.domain_laws.specs.Operations.{Operations}
 use Rattle.serve_command.specs.declared.job.AnalysisOptions.{AnalysisOptions}
 use Rattle.serve_command.specs.declared.job.Job.{Job}
 use Rattle.serve_command.specs.declared.job.Job.TheVariants as job
+use Rattle.serve_command.specs.declared.job.Task.TheVariants.{Serve}
 use Rattle.serve_answers.specs.Readings.{Readings}
 use Rattle.reuse_laws.specs.Shorter as shorter
 use Rattle.serve_output.specs.Domains.{meaning_of}
@@ -49,4 +50,4 @@ module _ (asked : Option Job) where
 abbrev pub MemoIsUnseen : Type 0
 MemoIsUnseen =
     (readings : Readings) (settings : AnalysisOptions) (memo other : ℕ) (file : List ℕ) (folder : List ℕ → Option (List ℕ)) (text : List ℕ) →
-    output readings (Some (job.Serve settings memo file)) folder text ≡ output readings (Some (job.Serve settings other file)) folder text
+    output readings (Some (job.File file (Serve settings memo))) folder text ≡ output readings (Some (job.File file (Serve settings other))) folder text

@@ -4,7 +4,7 @@ ghost use Rattle.daig_machine.specs.Machine.{first_machine, Machine};
 ghost use Rattle.daig_session.specs.Sessions.{StandsFor};
 ghost use Rattle.serve_output.specs.Jobs.{engine_of};
 ghost use Rattle.serve_answers.specs.Fine.{next_number};
-ghost use Rattle.serve_output.specs.Works.{IsNumbered};
+ghost use Rattle.serve_output.specs.Sources.{IsNumbered};
 
 use base_counter::Steps;
 use base_values::Memory;
@@ -44,7 +44,7 @@ impl<D: Named> Server<D> {
         memo: u32,
         table: Table,
     ) -> Result<Server<D>, Memory>
-        requires memo { 0 < memo }
+        requires memo { 1 ≤ memo }
         requires numbered { IsNumbered table.program }
         ensures begins { IfOk result (λ s. StandsFor D.operations s.session
             (first_machine table.program (engine_of settings.now) (next_number table.program))) }

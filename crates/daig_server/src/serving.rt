@@ -4,6 +4,7 @@ ghost use Rattle.io_edge.specs.Outside.{Rose};
 ghost use Rattle.imp_syntax.specs.Plain.{Procedure};
 ghost use Rattle.serve_command.specs.declared.job.Job.TheVariants as job;
 ghost use Rattle.serve_command.specs.declared.job.SingleDomain.{SingleDomain as Single};
+ghost use Rattle.serve_command.specs.declared.job.Task.TheVariants.{Verify};
 ghost use Rattle.cert_lines.specs.Verify.{verified_line, Yes};
 ghost use Rattle.serve_script.specs.Replies.{AnsweredRead, ReadsBytes, ReadsToEnd};
 ghost use Rattle.serve_answers.specs.Fine.{opening};
@@ -118,7 +119,7 @@ pub fn serve<F: Files, I: Source, O: Sink, L: Ledger>(
     // run of the program that stands at the test of a loop is described by the state written of the loop under its calls.
     ensures verified { (readings : Readings) (told : Told)
         (domain : Single) (file cert text : List ℕ) (program : List Procedure)
-        → job_of_words words.now ≡ Some (job.Verify domain file cert)
+        → job_of_words words.now ≡ Some (job.File file (Verify domain cert))
         → Tells readings (job_of_words words.now)
         (F.told files.old) (I.told script.old) (O.told out.old) told
         → IsProgram readings (told.folder file) program → told.folder cert ≡ Some text

@@ -1,16 +1,13 @@
-//! What is done for a program: the clauses of `run`, from a program on.
-ghost use Rattle.std.specs.Prelude.{◌≡◌, ◌<◌, ◌^◌, Some};
+//! The task `serve` for a program: the lines of the script are answered.
+ghost use Rattle.std.specs.Prelude.{◌≡◌, ◌≤◌, ◌^◌};
 ghost use Rattle.io_edge.specs.Outside.{Rose};
-ghost use Rattle.serve_output.specs.Ends.{CausedWithin, Fits, WritesFor};
-ghost use Rattle.serve_output.specs.Jobs.{engine_of, Serves, TellsServed};
-ghost use Rattle.serve_output.specs.Output.{done, served_bytes};
+ghost use Rattle.serve_output.specs.Ends.{CausedByScript, Fits, WritesServed};
+ghost use Rattle.serve_output.specs.Jobs.{engine_of};
+ghost use Rattle.serve_output.specs.Sources.{IsNumbered};
 ghost use Rattle.serve_answers.specs.Readings.{Readings};
 ghost use Rattle.serve_answers.specs.Fine.{opening};
 ghost use Rattle.serve_answers.specs.Lines.{Served};
-ghost use Rattle.serve_output.specs.Works.{program_in, task_in, work_output};
-ghost use Rattle.serve_output.specs.Works.{IsNumbered, Remembers};
 
-use crate::generated::summary;
 use crate::server::Server;
 use base_counter::Steps;
 use dom_interval::Interval;
@@ -20,7 +17,7 @@ use dom_product::Pair;
 use imp_table::Table;
 use io_edge::{Sink, Source};
 use serve_command::{AnalysisOptions, DomainName};
-use serve_output::{Named, Status, Work, listed, write_done};
+use serve_output::{Named, Status};
 use serve_script::{Answerer, Stop, answer_script};
 use std::alloc::Global;
 use std::sync::ledger::Ledger;
@@ -36,10 +33,9 @@ fn serve_lines<D: Named, I: Source, O: Sink, L: Ledger>(
     requires lasts { ⟦<Server<D> as Answerer>⟧.lasts server.old (2 ^ 40) }
     ensures fits { Fits result 0 }
     ensures wrote { (first : Served) → ⟦<Server<D> as Answerer>⟧.stands server.old first →
-        WritesFor (λ text. I.told script.old ≡ Some text) result
-        (λ text. done (served_bytes D.name first text))
-        (I.told script.new) (O.told out.old) (O.told out.new) }
-    ensures caused { CausedWithin (Unit {0}) (Rose (I.faults script.old) (I.faults script.new))
+        WritesServed D.name first result
+        (I.told script.old) (I.told script.new) (O.told out.old) (O.told out.new) }
+    ensures caused { CausedByScript (Rose (I.faults script.old) (I.faults script.new))
         (Rose (O.faults out.old) (O.faults out.new)) (I.told script.old) (I.told script.new)
         result }
 {
@@ -52,8 +48,8 @@ fn serve_lines<D: Named, I: Source, O: Sink, L: Ledger>(
     }
 }
 
-/// Answers the script by a session with the program, which remembers so many results.
-fn serve_program<D: Named, I: Source, O: Sink, L: Ledger>(
+/// Answers the script by a session with the program, which remembers so many results, by the domain of the settings.
+fn serve_by<D: Named, I: Source, O: Sink, L: Ledger>(
     alloc: Global,
     domain: D,
     settings: &AnalysisOptions,
@@ -63,14 +59,14 @@ fn serve_program<D: Named, I: Source, O: Sink, L: Ledger>(
     out: &mut O,
     steps: &mut Steps<L>,
 ) -> Status
-    requires memo { 0 < memo }
+    requires named { settings.now.domain ≡ D.name }
+    requires memo { 1 ≤ memo }
     requires numbered { IsNumbered table.program }
     ensures fits { Fits result 0 }
-    ensures wrote { (readings : Readings) →
-        WritesFor (λ text. I.told script.old ≡ Some text) result (λ text. done
-        (served_bytes D.name (opening readings (engine_of settings.now) table.program) text))
-        (I.told script.new) (O.told out.old) (O.told out.new) }
-    ensures caused { CausedWithin (Unit {0}) (Rose (I.faults script.old) (I.faults script.new))
+    ensures wrote { (readings : Readings) → WritesServed settings.now.domain
+        (opening readings (engine_of settings.now) table.program) result
+        (I.told script.old) (I.told script.new) (O.told out.old) (O.told out.new) }
+    ensures caused { CausedByScript (Rose (I.faults script.old) (I.faults script.new))
         (Rose (O.faults out.old) (O.faults out.new)) (I.told script.old) (I.told script.new)
         result }
 {
@@ -80,76 +76,39 @@ fn serve_program<D: Named, I: Source, O: Sink, L: Ledger>(
     }
 }
 
-/// Does the work by this domain.
-fn work_by<D: Named, I: Source, O: Sink, L: Ledger>(
+/// Does the task `serve` for a program.
+pub(crate) fn serve_program<I: Source, O: Sink, L: Ledger>(
     alloc: Global,
-    domain: D,
     settings: &AnalysisOptions,
-    work: Work,
+    memo: u32,
+    table: Table,
     script: &mut I,
     out: &mut O,
     steps: &mut Steps<L>,
 ) -> Status
-    requires named { settings.now.domain ≡ D.name }
-    requires remembers { Remembers (task_in work) }
-    requires numbered { IsNumbered (program_in work) }
+    requires memo { 1 ≤ memo }
+    requires numbered { IsNumbered table.program }
     ensures fits { Fits result 0 }
-    ensures wrote { (readings : Readings) →
-        WritesFor (TellsServed (task_in work) (I.told script.old)) result
-        (work_output readings settings.now work)
-        (I.told script.new) (O.told out.old) (O.told out.new) }
-    ensures unread { (Serves (task_in work) → ⊥) → script.new ≡ script.old }
-    ensures caused { CausedWithin (Serves (task_in work))
-        (Rose (I.faults script.old) (I.faults script.new))
-        (Rose (O.faults out.old) (O.faults out.new)) (I.told script.old) (I.told script.new)
-        result }
-{
-    match work {
-        Work::Serve { table, memo } => {
-            serve_program(alloc, domain, settings, memo, table, script, out, steps)
-        }
-        Work::Batch { program } => {
-            write_done(listed(alloc, &domain, settings, &program, steps), out)
-        }
-        Work::Gen { table, drawn } => {
-            write_done(summary(alloc, domain, settings, table, drawn, steps), out)
-        }
-    }
-}
-
-/// Does the work by the domain that the settings name.
-pub(crate) fn do_work<I: Source, O: Sink, L: Ledger>(
-    alloc: Global,
-    settings: &AnalysisOptions,
-    work: Work,
-    script: &mut I,
-    out: &mut O,
-    steps: &mut Steps<L>,
-) -> Status
-    requires remembers { Remembers (task_in work) }
-    requires numbered { IsNumbered (program_in work) }
-    ensures fits { Fits result 0 }
-    ensures wrote { (readings : Readings) →
-        WritesFor (TellsServed (task_in work) (I.told script.old)) result
-        (work_output readings settings.now work)
-        (I.told script.new) (O.told out.old) (O.told out.new) }
-    ensures unread { (Serves (task_in work) → ⊥) → script.new ≡ script.old }
-    ensures caused { CausedWithin (Serves (task_in work))
-        (Rose (I.faults script.old) (I.faults script.new))
+    ensures wrote { (readings : Readings) → WritesServed settings.now.domain
+        (opening readings (engine_of settings.now) table.program) result
+        (I.told script.old) (I.told script.new) (O.told out.old) (O.told out.new) }
+    ensures caused { CausedByScript (Rose (I.faults script.old) (I.faults script.new))
         (Rose (O.faults out.old) (O.faults out.new)) (I.told script.old) (I.told script.new)
         result }
 {
     match settings.domain {
-        DomainName::Interval => work_by(alloc, Interval, settings, work, script, out, steps),
-        DomainName::Octagon => work_by(alloc, Octagon, settings, work, script, out, steps),
-        DomainName::ListSeg => work_by(alloc, ListSeg, settings, work, script, out, steps),
+        DomainName::Interval => serve_by(
+            alloc, Interval, settings, memo, table, script, out, steps,
+        ),
+        DomainName::Octagon => serve_by(alloc, Octagon, settings, memo, table, script, out, steps),
+        DomainName::ListSeg => serve_by(alloc, ListSeg, settings, memo, table, script, out, steps),
         DomainName::IntervalListSeg => {
             let pair = Pair::new(Interval, ListSeg);
-            work_by(alloc, pair, settings, work, script, out, steps)
+            serve_by(alloc, pair, settings, memo, table, script, out, steps)
         }
         DomainName::OctagonListSeg => {
             let pair = Pair::new(Octagon, ListSeg);
-            work_by(alloc, pair, settings, work, script, out, steps)
+            serve_by(alloc, pair, settings, memo, table, script, out, steps)
         }
     }
 }

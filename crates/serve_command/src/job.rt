@@ -10,21 +10,12 @@ use std::marker::Model;
 /// What the words ask for.
 #[derive(Debug, Drop)]
 pub enum Job {
-    /// Answers to the lines of a script, about a program.
-    Serve {
-        /// How the program is analysed.
-        settings: AnalysisOptions,
-        /// How many results are remembered, 1 to 65,536.
-        memo: u32,
+    /// A task for the program of a file.
+    File {
         /// The program's file.
         file: FileName,
-    },
-    /// The program and its report, worked out afresh.
-    Batch {
-        /// How the program is analysed.
-        settings: AnalysisOptions,
-        /// The program's file.
-        file: FileName,
+        /// What is done for it.
+        task: Task,
     },
     /// A generated script over a generated program, summed up.
     Gen {
@@ -35,7 +26,24 @@ pub enum Job {
         /// What is known of variables.
         domain: DomainName,
     },
-    /// The states at the heads of a program's loops, as the lines of a certificate.
+}
+
+/// What is done for the program of a file.
+#[derive(Debug, Drop)]
+pub enum Task {
+    /// The lines of a script are answered.
+    Serve {
+        /// How the program is analysed.
+        settings: AnalysisOptions,
+        /// How many results are remembered, 1 to 65,536.
+        memo: u32,
+    },
+    /// The program and its report, worked out afresh, are written.
+    Batch {
+        /// How the program is analysed.
+        settings: AnalysisOptions,
+    },
+    /// The states at the heads of its loops are written, as the lines of a certificate.
     Cert {
         /// What is known of variables.
         domain: SingleDomain,
@@ -43,15 +51,11 @@ pub enum Job {
         widening: Widening,
         /// How many iterates a loop may take, 1 to 10,000.
         budget: u32,
-        /// The program's file.
-        file: FileName,
     },
-    /// Whether a certificate of a program holds.
+    /// Whether a certificate of it holds is written.
     Verify {
         /// What is known of variables.
         domain: SingleDomain,
-        /// The program's file.
-        file: FileName,
         /// The certificate's file.
         cert: FileName,
     },

@@ -26,5 +26,5 @@ mod reading;
 mod values;
 
 pub use error::WordsError;
-pub use job::{AnalysisOptions, DomainName, FileName, Job, SingleDomain};
+pub use job::{AnalysisOptions, DomainName, FileName, Job, SingleDomain, Task};
 pub use reading::read_words;

@@ -8,10 +8,10 @@ ghost use Rattle.clap.specs.Faults.{fault_of};
 ghost use Rattle.clap.specs.Matches.{found_of};
 ghost use Rattle.serve_command.specs.Line.{daig_app};
 ghost use Rattle.serve_command.specs.Values.{number_in, domain_of, single_of, thresholds_of};
-ghost use Rattle.serve_command.specs.Jobs.{value_in, widening_in, settings_in, serve_in, batch_in, gen_in, cert_in, verify_in, job_in, job_of};
+ghost use Rattle.serve_command.specs.Jobs.{value_in, widening_in, settings_in, serve_in, batch_in, gen_in, cert_in, verify_in, task_with, job_in, job_of, IsBounded};
 
 use crate::error::WordsError;
-use crate::job::{AnalysisOptions, DomainName, FileName, Job, SingleDomain};
+use crate::job::{AnalysisOptions, DomainName, FileName, Job, SingleDomain, Task};
 use crate::line::daig;
 use crate::values::{domain_of, number_in, single_of, thresholds_of};
 use base_values::Memory;
@@ -128,35 +128,75 @@ fn file_at(alloc: Global, matches: &ArgMatches<'_>, name: &str) -> Result<Option
     }
 }
 
-/// The job of `serve`.
-fn serve_at(alloc: Global, matches: &ArgMatches<'_>) -> Result<Option<Job>, Memory>
-    ensures job { IfOk result (λ job. job ≡ serve_in (rows_of (found_of matches.now))) }
+/// The task of `serve`.
+fn serve_at(matches: &ArgMatches<'_>) -> Option<Task>
+    ensures task { result ≡ serve_in (rows_of (found_of matches.now)) }
 {
     let Some(settings) = settings_at(matches) else {
+        return None;
+    };
+    match number_at(matches, "memo", 1, 65_536) {
+        Some(memo) => Some(Task::Serve { settings, memo }),
+        None => None,
+    }
+}
+
+/// The task of `batch`.
+fn batch_at(matches: &ArgMatches<'_>) -> Option<Task>
+    ensures task { result ≡ batch_in (rows_of (found_of matches.now)) }
+{
+    match settings_at(matches) {
+        Some(settings) => Some(Task::Batch { settings }),
+        None => None,
+    }
+}
+
+/// The task of `cert`.
+fn cert_at(matches: &ArgMatches<'_>) -> Option<Task>
+    ensures task { result ≡ cert_in (rows_of (found_of matches.now)) }
+{
+    let Some(domain) = single_at(matches) else {
+        return None;
+    };
+    let Some(widening) = widening_at(matches) else {
+        return None;
+    };
+    match number_at(matches, "budget", 1, 10_000) {
+        Some(budget) => Some(Task::Cert {
+            domain,
+            widening,
+            budget,
+        }),
+        None => None,
+    }
+}
+
+/// The task of `verify`.
+fn verify_at(alloc: Global, matches: &ArgMatches<'_>) -> Result<Option<Task>, Memory>
+    ensures task { IfOk result (λ task. task ≡ verify_in (rows_of (found_of matches.now))) }
+{
+    let Some(domain) = single_at(matches) else {
         return Ok(None);
     };
-    let Some(memo) = number_at(matches, "memo", 1, 65_536) else {
-        return Ok(None);
-    };
-    match file_at(alloc, matches, "FILE")? {
-        Some(file) => Ok(Some(Job::Serve {
-            settings,
-            memo,
-            file,
-        })),
+    match file_at(alloc, matches, "CERT")? {
+        Some(cert) => Ok(Some(Task::Verify { domain, cert })),
         None => Ok(None),
     }
 }
 
-/// The job of `batch`.
-fn batch_at(alloc: Global, matches: &ArgMatches<'_>) -> Result<Option<Job>, Memory>
-    ensures job { IfOk result (λ job. job ≡ batch_in (rows_of (found_of matches.now))) }
+/// The job of a task, for the program of the file that is named.
+fn task_at(
+    alloc: Global,
+    matches: &ArgMatches<'_>,
+    task: Option<Task>,
+) -> Result<Option<Job>, Memory>
+    ensures job { IfOk result (λ job. job ≡ task_with task (rows_of (found_of matches.now))) }
 {
-    let Some(settings) = settings_at(matches) else {
+    let Some(task) = task else {
         return Ok(None);
     };
     match file_at(alloc, matches, "FILE")? {
-        Some(file) => Ok(Some(Job::Batch { settings, file })),
+        Some(file) => Ok(Some(Job::File { file, task })),
         None => Ok(None),
     }
 }
@@ -177,57 +217,20 @@ fn gen_at(matches: &ArgMatches<'_>) -> Option<Job>
     }
 }
 
-/// The job of `cert`.
-fn cert_at(alloc: Global, matches: &ArgMatches<'_>) -> Result<Option<Job>, Memory>
-    ensures job { IfOk result (λ job. job ≡ cert_in (rows_of (found_of matches.now))) }
-{
-    let Some(domain) = single_at(matches) else {
-        return Ok(None);
-    };
-    let Some(widening) = widening_at(matches) else {
-        return Ok(None);
-    };
-    let Some(budget) = number_at(matches, "budget", 1, 10_000) else {
-        return Ok(None);
-    };
-    match file_at(alloc, matches, "FILE")? {
-        Some(file) => Ok(Some(Job::Cert {
-            domain,
-            widening,
-            budget,
-            file,
-        })),
-        None => Ok(None),
-    }
-}
-
-/// The job of `verify`.
-fn verify_at(alloc: Global, matches: &ArgMatches<'_>) -> Result<Option<Job>, Memory>
-    ensures job { IfOk result (λ job. job ≡ verify_in (rows_of (found_of matches.now))) }
-{
-    let Some(domain) = single_at(matches) else {
-        return Ok(None);
-    };
-    let Some(file) = file_at(alloc, matches, "FILE")? else {
-        return Ok(None);
-    };
-    match file_at(alloc, matches, "CERT")? {
-        Some(cert) => Ok(Some(Job::Verify { domain, file, cert })),
-        None => Ok(None),
-    }
-}
-
 /// The job of the command of this name.
 #[tactic(auto, unfolding(crate::specs::Jobs::job_in))]
 fn job_at(alloc: Global, name: &str, matches: &ArgMatches<'_>) -> Result<Option<Job>, Memory>
     ensures job { IfOk result (λ job. job ≡ job_in (name.now, rows_of (found_of matches.now))) }
 {
     match name {
-        "serve" => serve_at(alloc, matches),
-        "batch" => batch_at(alloc, matches),
+        "serve" => task_at(alloc, matches, serve_at(matches)),
+        "batch" => task_at(alloc, matches, batch_at(matches)),
         "gen" => Ok(gen_at(matches)),
-        "cert" => cert_at(alloc, matches),
-        "verify" => verify_at(alloc, matches),
+        "cert" => task_at(alloc, matches, cert_at(matches)),
+        "verify" => {
+            let task = verify_at(alloc, matches)?;
+            task_at(alloc, matches, task)
+        }
         _ => Ok(None),
     }
 }
@@ -261,13 +264,14 @@ fn job_met(alloc: Global, matches: &ArgMatches<'_>) -> Result<Option<Job>, Memor
     }
 }
 
-/// The job of the words, of which the first is the program's own name.
+/// The job of the words, of which the first is the program's own name; its numbers are within their bounds.
 ///
 /// It is refused where the command line does not take the words, or a value is not in form, and it
 /// fails when memory runs out.
 #[tactic(auto, unfolding(crate::specs::Jobs::job_of))]
 pub fn read_words(alloc: Global, words: &[String]) -> Result<Job, WordsError>
     ensures job { IfOk result (λ job. job_of (map string_bytes words.now) ≡ Some job) }
+    ensures bounded { IfOk result IsBounded }
     ensures refused { IfErr result (λ error. error ≡ WordsError.Refused →
         job_of (map string_bytes words.now) ≡ None) }
 {

@@ -10,10 +10,10 @@ use Rattle.cert_lines.specs.Theorem.{IsYesSound}
 use Rattle.cert_lines.specs.Verify.{verify, verified_line, Yes}
 use Rattle.cert_check.proofs.LineLemmas.{yes_alone}
 use Rattle.serve_answers.specs.Readings.{Readings}
-use Rattle.serve_output.specs.declared.task.CertTask.TheVariants.{Check}
+use Rattle.serve_command.specs.declared.job.Task.TheVariants.{Verify}
 use Rattle.serve_output.specs.Domains.{carried_of}
 use Rattle.serve_output.specs.Ends.{WroteAll}
-use Rattle.serve_output.specs.Output.{Output, cert_output, done, of_file, program_output, verify_bytes, most_certificate, IsProgram}
+use Rattle.serve_output.specs.Output.{Output, done, of_file, program_output, task_output, verify_bytes, most_certificate, IsProgram}
 use Rattle.serve_output.specs.Sound.{AreRunsCovered}
 use Rattle.serve_output.proofs.OutputLemmas.{of_program}
 use Rattle.std.proofs.lemmas.Option.{same_Some}
@@ -31,11 +31,11 @@ file_gives most (Some bytes) text give there is =
 file_gives most None text give there is = absurd (omega (arith, is))
 
 -- the line that is written is the one that checking comes to
-checked_line : (readings : Readings) (domain : SingleDomain) (folder : List ℕ → Option (List ℕ)) (file cert text : List ℕ) (program : List Procedure) →
-    IsProgram readings (folder file) program → folder cert ≡ Some text → (program_output readings (folder file) (cert_output domain (Check cert) folder)).status ≡ 0 →
-    (program_output readings (folder file) (cert_output domain (Check cert) folder)).bytes ≡ verify_bytes domain program text
-checked_line readings domain folder file cert text program accepted there zero =
-    let given = of_program readings (folder file) program (cert_output domain (Check cert) folder) accepted in
+checked_line : (readings : Readings) (domain : SingleDomain) (folder : List ℕ → Option (List ℕ)) (file cert script text : List ℕ) (program : List Procedure) →
+    IsProgram readings (folder file) program → folder cert ≡ Some text → (program_output readings (folder file) (task_output readings (Verify domain cert) folder script)).status ≡ 0 →
+    (program_output readings (folder file) (task_output readings (Verify domain cert) folder script)).bytes ≡ verify_bytes domain program text
+checked_line readings domain folder file cert script text program accepted there zero =
+    let given = of_program readings (folder file) program (task_output readings (Verify domain cert) folder script) accepted in
     let gives = file_gives most_certificate (folder cert) text (λ t. done (verify_bytes domain program t)) there (sym (ap (λ (o : Output). o.status) given) ∙ zero) in
     ap (λ (o : Output). o.bytes) (given ∙ gives)
 
@@ -44,12 +44,12 @@ yes_found : (domain : SingleDomain) (program : List Procedure) (text : List ℕ)
 unfolding verify_bytes
 yes_found domain program text is = yes_alone (verify (carried_of domain).meaning.operations (carried_of domain).port (routines_of program) text) is
 
-pub yes_covers : (readings : Readings) (domain : SingleDomain) (folder : List ℕ → Option (List ℕ)) (file cert text taken : List ℕ) (program : List Procedure) (written : Option (List ℕ)) →
+pub yes_covers : (readings : Readings) (domain : SingleDomain) (folder : List ℕ → Option (List ℕ)) (file cert script text taken : List ℕ) (program : List Procedure) (written : Option (List ℕ)) →
     IsYesSound (carried_of domain).meaning.operations (carried_of domain).meaning.covers (carried_of domain).port → IsChecked (routines_of program) →
-    IsProgram readings (folder file) program → folder cert ≡ Some text → WroteAll 0 (program_output readings (folder file) (cert_output domain (Check cert) folder)) taken written →
+    IsProgram readings (folder file) program → folder cert ≡ Some text → WroteAll 0 (program_output readings (folder file) (task_output readings (Verify domain cert) folder script)) taken written →
     written ≡ Some (taken ++ verified_line Yes) → AreRunsCovered domain program text
-yes_covers readings domain folder file cert text taken program written sound checked accepted there wrote is =
-    let line = checked_line readings domain folder file cert text program accepted there wrote.same in
+yes_covers readings domain folder file cert script text taken program written sound checked accepted there wrote is =
+    let line = checked_line readings domain folder file cert script text program accepted there wrote.same in
     let same : taken ++ verify_bytes domain program text ≡ taken ++ verified_line Yes = same_Some _ _ (ap (λ xs. Some (taken ++ xs)) (sym line) ∙ sym wrote.all ∙ is) in
     let found = yes_found domain program text (append_cancel_left taken (verify_bytes domain program text) (verified_line Yes) same) in
     λ n c reach. sound (routines_of program) text n c checked found reach

@@ -1,8 +1,13 @@
 -- What an end comes of, from what the end of a part comes of.
-use Rattle.std.proofs.Common.{◌≡◌, ℕ, inl, inr, List, Option, refl, arith}
+use Rattle.std.proofs.Common.{◌≡◌, ◌<◌, ℕ, inl, inr, List, Option, Result, Ok, Err, IfErr, IsErrOf, refl, arith}
+use Rattle.std.specs.Prelude.{IsOk, Vec}
 use Rattle.serve_output.specs.declared.status.Status.{Status}
 use Rattle.serve_output.specs.declared.status.Status.TheVariants.{Done, Words, Source, Script, Sink, Memory, Files, LongScript, LongFile}
-use Rattle.serve_output.specs.Ends.{Caused, CausedByFiles, CausedWithin, EndsBy, Fits}
+use Rattle.serve_output.specs.declared.error.JobError.{JobError}
+use Rattle.serve_output.specs.declared.error.JobError.TheVariants as missing
+use Rattle.serve_output.specs.Ends.{Caused, CausedByScript, EndsBy, Fits}
+use Rattle.serve_output.specs.Given.{EndsGiven, Gives}
+use Rattle.serve_output.specs.Output.{Output}
 
 module _ (words serves quiet file_fails script_fails sink_fails : Type 0) (script script' : Option (List ℕ)) where
   -- all is written, unless a write fails
@@ -12,63 +17,46 @@ module _ (words serves quiet file_fails script_fails sink_fails : Type 0) (scrip
   caused_by_end wanted status caused (inr (inl (is, fails))) = rw is fails
   caused_by_end wanted status caused (inr (inr is)) = rw is tt
 
-  pub caused_by_files : (status : Status) → (serves → ⊥) → CausedByFiles quiet file_fails sink_fails status →
+  -- what is given is written: of what ends so, no script was read
+  pub caused_by_given : {V : Type 0} (given : Result V JobError) (status : Status) → (IsOk given → serves → ⊥) → (IsErrOf given missing.Files → file_fails) →
+      EndsGiven quiet sink_fails given status → Caused words serves quiet file_fails script_fails sink_fails script script' status
+  caused_by_given (Ok bytes) status unread found ends = caused_by_end Done status (λ serves. absurd (unread refl serves)) ends
+  caused_by_given (Err (missing.Refused why)) status unread found ends = caused_by_end Source status tt ends
+  caused_by_given (Err missing.Files) status unread found ends = rw ends.0 (ends.1, found refl)
+  caused_by_given (Err missing.LongFile) status unread found ends = rw ends.0 ends.1
+  caused_by_given (Err missing.Memory) status unread found ends = rw ends tt
+
+  -- the lines of a script are answered
+  pub caused_by_script : (status : Status) → serves → CausedByScript script_fails sink_fails script script' status →
       Caused words serves quiet file_fails script_fails sink_fails script script' status
-  caused_by_files Done not caused = λ serves. absurd (not serves)
-  caused_by_files Words not caused = absurd caused
-  caused_by_files Source not caused = tt
-  caused_by_files Script not caused = absurd caused.0
-  caused_by_files Sink not caused = caused
-  caused_by_files Memory not caused = tt
-  caused_by_files Files not caused = caused
-  caused_by_files LongScript not caused = absurd caused.0
-  caused_by_files LongFile not caused = caused
+  caused_by_script Done serves caused = λ _. caused tt
+  caused_by_script Words serves caused = absurd caused
+  caused_by_script Source serves caused = tt
+  caused_by_script Script serves caused = (serves, caused.1)
+  caused_by_script Sink serves caused = caused
+  caused_by_script Memory serves caused = tt
+  caused_by_script Files serves caused = absurd caused.0
+  caused_by_script LongScript serves caused = (serves, caused.1)
+  caused_by_script LongFile serves caused = absurd caused
 
-  pub caused_within : (status : Status) → CausedWithin serves script_fails sink_fails script script' status →
-      Caused words serves quiet file_fails script_fails sink_fails script script' status
-  caused_within Done caused = caused
-  caused_within Words caused = absurd caused
-  caused_within Source caused = tt
-  caused_within Script caused = caused
-  caused_within Sink caused = caused
-  caused_within Memory caused = tt
-  caused_within Files caused = absurd caused.0
-  caused_within LongScript caused = caused
-  caused_within LongFile caused = absurd caused
+-- What is given fits the output that it gives.
+fits_end : (wanted status : Status) (sink_fails : Type 0) (number : ℕ) → Fits wanted number → number < 7 → EndsBy wanted sink_fails status → Fits status number
+fits_end wanted status sink_fails number fits low (inl is) = rw is fits
+fits_end wanted status sink_fails number fits low (inr (inl (is, fails))) = rw is low
+fits_end wanted status sink_fails number fits low (inr (inr is)) = rw is tt
 
-  -- the words are taken
-  pub caused_for : (status : Status) → Caused ⊥ serves quiet file_fails script_fails sink_fails script script' status →
-      Caused words serves quiet file_fails script_fails sink_fails script script' status
-  caused_for Done caused = caused
-  caused_for Words caused = absurd caused
-  caused_for Source caused = tt
-  caused_for Script caused = caused
-  caused_for Sink caused = caused
-  caused_for Memory caused = tt
-  caused_for Files caused = caused
-  caused_for LongScript caused = caused
-  caused_for LongFile caused = caused
+pub fits_given : {Z : Type 0} (quiet sink_fails : Type 0) (given : Result (Vec ℕ Z) JobError) (status : Status) (output : Output) → Gives given output → EndsGiven quiet sink_fails given status → Fits status output.status
+fits_given quiet sink_fails (Ok bytes) status output gives ends = rw gives (fits_end Done status sink_fails 0 refl (omega arith) ends)
+fits_given quiet sink_fails (Err (missing.Refused why)) status output gives ends = rw gives (fits_end Source status sink_fails 3 refl (omega arith) ends)
+fits_given quiet sink_fails (Err missing.Files) status output gives ends = rw ends.0 tt
+fits_given quiet sink_fails (Err missing.LongFile) status output gives ends = rw ends.0 gives
+fits_given quiet sink_fails (Err missing.Memory) status output gives ends = rw ends tt
 
--- other files may be at fault
-pub caused_by_more : (quiet file_fails more_fail sink_fails : Type 0) (status : Status) → (file_fails → more_fail) → CausedByFiles quiet file_fails sink_fails status → CausedByFiles quiet more_fail sink_fails status
-caused_by_more quiet file_fails more_fail sink_fails Done more caused = caused
-caused_by_more quiet file_fails more_fail sink_fails Words more caused = caused
-caused_by_more quiet file_fails more_fail sink_fails Source more caused = caused
-caused_by_more quiet file_fails more_fail sink_fails Script more caused = caused
-caused_by_more quiet file_fails more_fail sink_fails Sink more caused = caused
-caused_by_more quiet file_fails more_fail sink_fails Memory more caused = caused
-caused_by_more quiet file_fails more_fail sink_fails Files more caused = (caused.0, more caused.1)
-caused_by_more quiet file_fails more_fail sink_fails LongScript more caused = caused
-caused_by_more quiet file_fails more_fail sink_fails LongFile more caused = caused
-
--- What ends without fail where no script is read and no file is loaded.
-pub ended : (script_fails sink_fails : Type 0) (script script' : Option (List ℕ)) (status : Status) → Fits status 0 → CausedWithin ⊥ script_fails sink_fails script script' status → EndsBy Done sink_fails status
-ended script_fails sink_fails script script' Done fits caused = inl refl
-ended script_fails sink_fails script script' Words fits caused = absurd caused
-ended script_fails sink_fails script script' Source fits caused = absurd (omega (arith, fits))
-ended script_fails sink_fails script script' Script fits caused = absurd caused.0
-ended script_fails sink_fails script script' Sink fits caused = inr (inl (refl, caused))
-ended script_fails sink_fails script script' Memory fits caused = inr (inr refl)
-ended script_fails sink_fails script script' Files fits caused = absurd caused.0
-ended script_fails sink_fails script script' LongScript fits caused = absurd caused.0
-ended script_fails sink_fails script script' LongFile fits caused = absurd caused
+-- What fails only when memory runs out ends so, unless a write fails.
+pub done_by_given : {V : Type 0} (quiet sink_fails : Type 0) (given : Result V JobError) (status : Status) → IfErr given (λ error. error ≡ missing.Memory) → EndsGiven quiet sink_fails given status →
+    EndsBy Done sink_fails status
+done_by_given quiet sink_fails (Ok bytes) status only ends = ends
+done_by_given quiet sink_fails (Err (missing.Refused why)) status only ends = cc
+done_by_given quiet sink_fails (Err missing.Files) status only ends = cc
+done_by_given quiet sink_fails (Err missing.LongFile) status only ends = cc
+done_by_given quiet sink_fails (Err missing.Memory) status only ends = inr (inr ends)

@@ -1,15 +1,15 @@
 -- What `cert` wrote of a program, `verify` finds to hold.
-use Rattle.std.proofs.Common.{◌≡◌, ◌∙◌, ◌≤◌, ◌<◌, ◌^◌, ℕ, nat_le, Bool, true, List, [], length, Option, Some, if◌then◌else◌, refl, ap, sym, subst, arith}
+use Rattle.std.proofs.Common.{◌≡◌, ◌∙◌, ◌≤◌, ◌<◌, ℕ, Bool, List, [], length, Option, Some, if◌then◌else◌, refl, ap, sym, subst, arith}
 use Rattle.std.specs.Prelude.{Contains}
 use Rattle.std.proofs.lemmas.Bool.{le-leb}
 use Rattle.std.proofs.lemmas.List.Elements.{All-contains}
 use Rattle.imp_syntax.specs.Plain.{Procedure, program_numbers}
-use Rattle.imp_slots.specs.Fits.{routine_numbers}
 use Rattle.imp_check.specs.Slots.{routines_of}
 use Rattle.imp_check.proofs.FitsPrograms.{all_numbers}
 use Rattle.batch_meaning.specs.Batch.{LoopOptions}
 use Rattle.serve_command.specs.declared.job.SingleDomain.{SingleDomain}
 use Rattle.serve_command.specs.declared.job.SingleDomain.TheVariants as single
+use Rattle.serve_command.specs.declared.job.Task.TheVariants.{Cert, Verify}
 use Rattle.dom_interval_meaning.specs.Domain.{intervals}
 use Rattle.dom_interval_words.specs.Words.{interval_port}
 use Rattle.dom_octagon_meaning.specs.Domain.{octagons}
@@ -21,10 +21,9 @@ use Rattle.cert_accepted.specs.Accepted.{AreAccepted, CheckedHaveLines, HasSmall
 use Rattle.serve_answers.specs.Fine.{IsProgramOf}
 use Rattle.serve_answers.specs.Readings.{Readings}
 use Rattle.serve_answers.proofs.Sources.{source_numbers, sources_fine}
-use Rattle.serve_output.specs.declared.task.CertTask.TheVariants.{Check, Write}
 use Rattle.serve_output.specs.Domains.{carried_of}
-use Rattle.serve_output.specs.Kept.{HasCertificate, IsWritten, WrittenAreAccepted}
-use Rattle.serve_output.specs.Output.{Output, cert_bytes, cert_output, done, most_certificate, of_file, verify_bytes}
+use Rattle.serve_output.specs.Kept.{HasCertificate, WrittenAreAccepted}
+use Rattle.serve_output.specs.Output.{Output, cert_bytes, done, most_certificate, of_file, task_output, verify_bytes}
 use Rattle.serve_output.proofs.OutputLemmas.{file_read, of_program}
 
 -- the numbers of a source's program are small
@@ -53,10 +52,10 @@ module _ (lines : CheckedHaveLines) (accepted : (domain : SingleDomain) → AreA
       let program = written.program in
       let engine : LoopOptions = record { budget = budget; widening = widening } in
       let read = file_read readings (folder file) program written.read in
-      let wrote = ap (λ (o : Output). o.bytes) (of_program readings (folder file) program (cert_output domain (Write widening budget) folder) written.read) in
+      let wrote = ap (λ (o : Output). o.bytes) (of_program readings (folder file) program (task_output readings (Cert domain widening budget) folder written.script) written.read) in
       let kept = written.kept ∙ ap Some wrote in
       let short = subst (λ (bytes : List ℕ). length bytes ≤ most_certificate) wrote written.short in
-      of_program readings (folder file) program (cert_output domain (Check cert) folder) written.read
+      of_program readings (folder file) program (task_output readings (Verify domain cert) folder script) written.read
       ∙ short_file (cert_bytes domain engine program) (λ text. done (verify_bytes domain program text)) (folder cert) kept short
       ∙ ap done (yes_of domain engine readings read.0 program read.1 written.whole short)
 

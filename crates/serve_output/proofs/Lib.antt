@@ -4,3 +4,4 @@ pub mod CertificateLemmas
 pub mod SourceLemmas
 pub mod SettlesLemmas
 pub mod KeptLemmas
+pub mod GivenLemmas

@@ -1,31 +1,26 @@
 -- From how the program ends to what its status says.
-use Rattle.std.proofs.Common.{◌≡◌, ◌≢◌, ℕ, ◌<◌, ◌≤◌, ◌^◌, ◌++◌, ◌⊎◌, inl, inr, List, [], length, Bool, true, false, nat_le, Option, Some, None, Result, Ok, Err, IfSome, if◌then◌else◌, append-nil, length-append, sym, ◌∙◌, ap, refl, arith}
+use Rattle.std.proofs.Common.{◌≡◌, ◌≢◌, ℕ, ◌<◌, ◌≤◌, ◌^◌, ◌++◌, ◌⊎◌, inl, inr, List, [], length, Bool, true, false, nat_le, Option, Some, None, Result, Ok, Err, if◌then◌else◌, append-nil, length-append, sym, ◌∙◌, ap, refl, arith}
 use Rattle.std.proofs.lemmas.Bool.Decides.{nat_tests}
 use Rattle.imp_syntax.specs.Plain.{Procedure}
 use Rattle.imp_parse.specs.declared.error.ParseError.{ParseError}
 use Rattle.imp_check.specs.declared.fault.LocatedFault.{LocatedFault}
 use Rattle.imp_check.specs.Programs.{check_fault}
-use Rattle.io_edge.specs.Outside.{Rose}
 use Rattle.request_json.specs.declared.reply.Refusal.{Refusal}
 use Rattle.serve_answers.specs.Readings.{Readings}
 use Rattle.serve_answers.specs.Fine.{IsProgramOf}
+use Rattle.serve_command.specs.declared.job.DomainName.{DomainName}
 use Rattle.serve_command.specs.declared.job.Job.{Job}
 use Rattle.serve_command.specs.declared.job.Job.TheVariants as job
 use Rattle.daig_gen.specs.Source as generated
-use Rattle.serve_command.specs.declared.job.AnalysisOptions.{AnalysisOptions}
-use Rattle.serve_command.specs.declared.job.SingleDomain.{SingleDomain}
-use Rattle.serve_output.specs.declared.task.Task.{Task}
-use Rattle.serve_output.specs.declared.task.Task.TheVariants.{Serve, Batch, Gen}
-use Rattle.serve_output.specs.declared.task.CertTask.{CertTask}
-use Rattle.serve_output.specs.declared.task.CertTask.TheVariants.{Write, Check}
+use Rattle.serve_command.specs.declared.job.Task.{Task}
+use Rattle.serve_command.specs.declared.job.Task.TheVariants.{Serve, Batch, Cert, Verify}
 use Rattle.serve_output.specs.declared.status.Status.{Status}
 use Rattle.serve_output.specs.declared.status.Status.TheVariants.{Done, Words, Source, Script, Sink, Memory, Files, LongScript, LongFile}
-use Rattle.serve_output.specs.Jobs.{by_default, engine_of, AsksToServe}
+use Rattle.serve_output.specs.Jobs.{AsksToServe}
 use Rattle.serve_output.specs.Sources.{checked, source_of, unless_faulty}
-use Rattle.serve_output.specs.Output.{Output, source_output, file_output, output, program_bytes, cert_output, done, of_file, of_source, program_output, verify_bytes, most_certificate, most_source, HasProgram, IsAccepted, IsProgram, LacksCertificate, LacksEither, LacksFile}
+use Rattle.serve_output.specs.Output.{Output, done, generated_output, of_file, of_source, output, program_output, task_output, verify_bytes, most_certificate, most_source, IsAccepted, IsProgram, LacksCertificate, LacksFile, LacksFor}
 use Rattle.serve_output.specs.Told.{TellsFiles}
 use Rattle.serve_output.specs.Ends.{code_of, status_of, Caused, EndsBy, Fits, IsStatus, Wrote, WroteAll}
-use Rattle.serve_script.proofs.WriteLemmas.{rose_since}
 
 -- the number of a status tells it
 pub status_is : (s : Status) → status_of (code_of s) ≡ s
@@ -72,28 +67,24 @@ program_quiet : (readings : Readings) (file : Option (List ℕ)) (give : List Pr
 program_quiet readings file give quiet late =
     file_quiet most_source file (λ source. of_source (source_of readings source) give) (λ source. source_quiet (source_of readings source) give quiet) late
 
-certified_quiet : (domain : SingleDomain) (task : CertTask) (files : List ℕ → Option (List ℕ)) (program : List Procedure) →
-    7 ≤ (cert_output domain task files program).status → (cert_output domain task files program).bytes ≡ []
-certified_quiet domain (Write widening budget) files program late = absurd (omega (arith, late))
-certified_quiet domain (Check cert) files program late =
+task_quiet : (readings : Readings) (task : Task) (files : List ℕ → Option (List ℕ)) (script : List ℕ) (program : List Procedure) →
+    7 ≤ (task_output readings task files script program).status → (task_output readings task files script program).bytes ≡ []
+task_quiet readings (Serve settings memo) files script program late = absurd (omega (arith, late))
+task_quiet readings (Batch settings) files script program late = absurd (omega (arith, late))
+task_quiet readings (Cert domain widening budget) files script program late = absurd (omega (arith, late))
+task_quiet readings (Verify domain cert) files script program late =
     file_quiet most_certificate (files cert) (λ text. done (verify_bytes domain program text)) (λ text. done_quiet (verify_bytes domain program text)) late
+
+generated_quiet : (readings : Readings) (seed size : ℕ) (domain : DomainName) → 7 ≤ (generated_output readings seed size domain).status → (generated_output readings seed size domain).bytes ≡ []
+generated_quiet readings seed size domain late =
+    source_quiet (source_of readings (generated.source_of seed size)) _ (λ program late. absurd (omega (arith, late))) late
 
 pub quiet_output : (readings : Readings) (job : Option Job) (folder : List ℕ → Option (List ℕ)) (script : List ℕ) →
     7 ≤ (output readings job folder script).status → (output readings job folder script).bytes ≡ []
 quiet_output readings None folder script late = absurd (omega (arith, late))
-quiet_output readings (Some (job.Serve settings memo file)) folder script late =
-    let given = program_bytes readings settings.domain (engine_of settings) (Serve memo) in
-    program_quiet readings (folder file) (λ program. done (given program script)) (λ program. done_quiet (given program script)) late
-quiet_output readings (Some (job.Batch settings file)) folder script late =
-    let given = program_bytes readings settings.domain (engine_of settings) Batch in
-    program_quiet readings (folder file) (λ program. done (given program script)) (λ program. done_quiet (given program script)) late
-quiet_output readings (Some (job.Gen seed size domain)) folder script late =
-    let given = program_bytes readings domain (engine_of (by_default domain)) (Gen (record { seed = seed; size = size })) in
-    source_quiet (source_of readings (generated.source_of seed size)) (λ program. done (given program script)) (λ program. done_quiet (given program script)) late
-quiet_output readings (Some (job.Cert domain widening budget file)) folder script late =
-    program_quiet readings (folder file) (cert_output domain (Write widening budget) folder) (certified_quiet domain (Write widening budget) folder) late
-quiet_output readings (Some (job.Verify domain file cert)) folder script late =
-    program_quiet readings (folder file) (cert_output domain (Check cert) folder) (certified_quiet domain (Check cert) folder) late
+quiet_output readings (Some (job.File file task)) folder script late =
+    program_quiet readings (folder file) (task_output readings task folder script) (task_quiet readings task folder script) late
+quiet_output readings (Some (job.Gen seed size domain)) folder script late = generated_quiet readings seed size domain late
 
 -- the bytes of a file that is not too long
 short_bytes : (most : ℕ) (bytes : List ℕ) (give : List ℕ → Output) (test : Bool) → nat_le (length bytes) most ≡ test → length bytes ≤ most →
@@ -115,31 +106,26 @@ of_program readings None program give is = absurd is
 lacking_file : (readings : Readings) (file : Option (List ℕ)) (give : List Procedure → Output) → file ≡ None → (program_output readings file give).status ≡ 7
 lacking_file readings file give none = rw none refl
 
-lacking_certificate : (domain : SingleDomain) (task : CertTask) (files : List ℕ → Option (List ℕ)) (program : List Procedure) → LacksCertificate (Some files) task → (cert_output domain task files program).status ≡ 7
-lacking_certificate domain (Check cert) files program lacks = rw lacks refl
-lacking_certificate domain (Write widening budget) files program lacks = absurd lacks
+lacking_certificate : (readings : Readings) (task : Task) (files : List ℕ → Option (List ℕ)) (script : List ℕ) (program : List Procedure) →
+    LacksCertificate (Some files) task → (task_output readings task files script program).status ≡ 7
+lacking_certificate readings (Verify domain cert) files script program lacks = rw lacks refl
+lacking_certificate readings (Serve settings memo) files script program lacks = absurd lacks
+lacking_certificate readings (Batch settings) files script program lacks = absurd lacks
+lacking_certificate readings (Cert domain widening budget) files script program lacks = absurd lacks
 
-lacking_either : (readings : Readings) (domain : SingleDomain) (task : CertTask) (folder : List ℕ → Option (List ℕ)) (name : List ℕ) → LacksEither (Some folder) name task →
-    (program_output readings (folder name) (cert_output domain task folder)).status ≡ 7
-lacking_either readings domain task folder name (inl none) = lacking_file readings (folder name) (cert_output domain task folder) none
-lacking_either readings domain task folder name (inr (has, lacks)) =
+lacking_either : (readings : Readings) (task : Task) (folder : List ℕ → Option (List ℕ)) (name script : List ℕ) → LacksFor (Some folder) name task →
+    (program_output readings (folder name) (task_output readings task folder script)).status ≡ 7
+lacking_either readings task folder name script (inl none) = lacking_file readings (folder name) (task_output readings task folder script) none
+lacking_either readings task folder name script (inr (has, lacks)) =
     let found = has readings in
-    ap (λ (o : Output). o.status) (of_program readings (folder name) found.0 (cert_output domain task folder) found.1) ∙ lacking_certificate domain task folder found.0 lacks
+    ap (λ (o : Output). o.status) (of_program readings (folder name) found.0 (task_output readings task folder script) found.1) ∙ lacking_certificate readings task folder script found.0 lacks
 
 pub lacking_output : (readings : Readings) (job : Option Job) (told : Option (List ℕ → Option (List ℕ))) (folder : List ℕ → Option (List ℕ)) (script : List ℕ) →
     TellsFiles job told folder → LacksFile told job → (output readings job folder script).status ≡ 7
 lacking_output readings None told folder script is lacks = absurd lacks
-lacking_output readings (Some (job.Serve settings memo file)) told folder script is lacks =
-    let none : folder file ≡ None = rw is at lacks in
-    lacking_file readings (folder file) (λ program. done (program_bytes readings settings.domain (engine_of settings) (Serve memo) program script)) none
-lacking_output readings (Some (job.Batch settings file)) told folder script is lacks =
-    let none : folder file ≡ None = rw is at lacks in
-    lacking_file readings (folder file) (λ program. done (program_bytes readings settings.domain (engine_of settings) Batch program script)) none
+lacking_output readings (Some (job.File file task)) told folder script is lacks =
+    let either : LacksFor (Some folder) file task = rw is at lacks in lacking_either readings task folder file script either
 lacking_output readings (Some (job.Gen seed size domain)) told folder script is lacks = absurd lacks
-lacking_output readings (Some (job.Cert domain widening budget file)) told folder script is lacks =
-    let either : LacksEither (Some folder) file (Write widening budget) = rw is at lacks in lacking_either readings domain (Write widening budget) folder file either
-lacking_output readings (Some (job.Verify domain file cert)) told folder script is lacks =
-    let either : LacksEither (Some folder) file (Check cert) = rw is at lacks in lacking_either readings domain (Check cert) folder file either
 
 -- an output that succeeds is that of an accepted program
 source_zero : (source : Result (List Procedure) Refusal) (give : List Procedure → Output) → (of_source source give).status ≡ 0 → (program : List Procedure) × (source ≡ Ok program)
@@ -160,14 +146,8 @@ program_zero readings (Some source) give is = if_zero readings source give (nat_
 
 pub zero_accepted : (readings : Readings) (job : Option Job) (folder : List ℕ → Option (List ℕ)) (script : List ℕ) → (output readings job folder script).status ≡ 0 → (program : List Procedure) × IsAccepted readings job folder program
 zero_accepted readings None folder script is = absurd (omega (arith, is))
-zero_accepted readings (Some (job.Serve settings memo file)) folder script is =
-    program_zero readings (folder file) (λ program. done (program_bytes readings settings.domain (engine_of settings) (Serve memo) program script)) is
-zero_accepted readings (Some (job.Batch settings file)) folder script is =
-    program_zero readings (folder file) (λ program. done (program_bytes readings settings.domain (engine_of settings) Batch program script)) is
-zero_accepted readings (Some (job.Gen seed size domain)) folder script is =
-    source_zero (source_of readings (generated.source_of seed size)) (λ program. done (program_bytes readings domain (engine_of (by_default domain)) (Gen (record { seed = seed; size = size })) program script)) is
-zero_accepted readings (Some (job.Cert domain widening budget file)) folder script is = program_zero readings (folder file) (cert_output domain (Write widening budget) folder) is
-zero_accepted readings (Some (job.Verify domain file cert)) folder script is = program_zero readings (folder file) (cert_output domain (Check cert) folder) is
+zero_accepted readings (Some (job.File file task)) folder script is = program_zero readings (folder file) (task_output readings task folder script) is
+zero_accepted readings (Some (job.Gen seed size domain)) folder script is = source_zero (source_of readings (generated.source_of seed size)) _ is
 
 -- numbers of ends
 pub end_number : (wanted s : Status) (n : ℕ) (fails : Type 0) → n ≡ code_of s → EndsBy wanted fails s → (n ≡ code_of wanted) ⊎ (n ≡ 5) ⊎ (n ≡ 6)
@@ -228,40 +208,6 @@ file_read readings (Some source) program is = (source, source_read readings sour
 file_read readings None program is = absurd is
 
 pub accepted_read : (readings : Readings) (job : Option Job) (folder : List ℕ → Option (List ℕ)) (program : List Procedure) → IsAccepted readings job folder program → (source : List ℕ) × IsProgramOf readings source program
-accepted_read readings (Some (job.Serve settings memo file)) folder program is = file_read readings (folder file) program is
-accepted_read readings (Some (job.Batch settings file)) folder program is = file_read readings (folder file) program is
+accepted_read readings (Some (job.File file task)) folder program is = file_read readings (folder file) program is
 accepted_read readings (Some (job.Gen seed size domain)) folder program is = (generated.source_of seed size, source_read readings (generated.source_of seed size) program is)
-accepted_read readings (Some (job.Cert domain widening budget file)) folder program is = file_read readings (folder file) program is
-accepted_read readings (Some (job.Verify domain file cert)) folder program is = file_read readings (folder file) program is
 accepted_read readings None folder program is = absurd is
-
--- a file that was loaded is the one that is told, and is not too long
-pub told_file : (told : Option (List ℕ → Option (List ℕ))) (folder : List ℕ → Option (List ℕ)) (name file : List ℕ) → told ≡ Some folder → IfSome told (λ files. files name ≡ Some file) → folder name ≡ Some file
-told_file told folder name file is bytes = rw is at bytes
-
-pub loaded : (readings : Readings) (told : Option (List ℕ → Option (List ℕ))) (folder : List ℕ → Option (List ℕ)) (name file : List ℕ) (program : List Procedure) →
-    told ≡ Some folder → IfSome told (λ files. files name ≡ Some file) → length file ≤ most_source → source_of readings file ≡ Ok program → IsProgram readings (folder name) program
-loaded readings told folder name file program is bytes short accepted = rw (told_file told folder name file is bytes) (short, accepted)
-
-pub loaded_output : (readings : Readings) (task : Task) (settings : AnalysisOptions) (told : Option (List ℕ → Option (List ℕ))) (folder : List ℕ → Option (List ℕ)) (name file script : List ℕ) →
-    told ≡ Some folder → IfSome told (λ files. files name ≡ Some file) → length file ≤ most_source →
-    file_output readings task settings (folder name) script ≡ source_output readings task settings (source_of readings file) script
-loaded_output readings task settings told folder name file script is bytes short =
-    short_file most_source (folder name) file (λ source. source_output readings task settings (source_of readings source) script) (told_file told folder name file is bytes) short
-
--- a file that was loaded is a program, where the source is one
-has_program : (told : Option (List ℕ → Option (List ℕ))) (name file : List ℕ) (task : CertTask) → IfSome told (λ files. files name ≡ Some file) → length file ≤ most_source →
-    ((readings : Readings) → (program : List Procedure) × (source_of readings file ≡ Ok program)) → LacksCertificate told task → HasProgram told name
-has_program None name file (Write widening budget) bytes short is lacks = absurd lacks
-has_program None name file (Check cert) bytes short is lacks = absurd lacks
-has_program (Some files) name file task bytes short is lacks = λ readings.
-    let found = is readings in (found.0, rw bytes (short, found.1))
-
-pub files_lack : (told after : Option (List ℕ → Option (List ℕ))) (name file : List ℕ) (task : CertTask) (first second third : ℕ) → after ≡ told → first ≤ second →
-    IfSome told (λ files. files name ≡ Some file) → length file ≤ most_source →
-    Rose second third ⊎ (((readings : Readings) → (program : List Procedure) × (source_of readings file ≡ Ok program)) × LacksCertificate after task) →
-    Rose first third ⊎ LacksEither told name task
-files_lack told after name file task first second third stays rises bytes short (inl rose) = inl (rose_since first second third rises rose)
-files_lack told after name file task first second third stays rises bytes short (inr (is, lacks)) =
-    let still : LacksCertificate told task = rw stays at lacks in
-    inr (inr (has_program told name file task bytes short is still, still))

@@ -1,5 +1,5 @@
 -- No line is replied by an over where the budget is enough for the program present.
-use Rattle.std.proofs.Common.{◌≡◌, ℕ, List}
+use Rattle.std.proofs.Common.{ℕ, List}
 use Rattle.imp_syntax.specs.Plain.{Procedure}
 use Rattle.imp_check.specs.Slots.{routines_of}
 use Rattle.batch_meaning.specs.Batch.{LoopOptions}

@@ -1,12 +1,12 @@
 -- How the program ends: by a status, with what was read and written.
-use Rattle.std.specs.Prelude.{◌≡◌, ℕ, ◌<◌, ◌==◌, ◌^◌, ◌++◌, ◌⊎◌, List, [], ◌∷◌, Option, Some, None, if◌then◌else◌}
+use Rattle.std.specs.Prelude.{◌≡◌, ℕ, ◌<◌, ◌==◌, ◌^◌, ◌++◌, ◌⊎◌, List, [], ◌∷◌, Option, Some, if◌then◌else◌}
 use Rattle.serve_command.specs.declared.job.DomainName.{DomainName}
 use Rattle.serve_script.specs.Replies.{AnsweredRead, ReadsBytes, ReadsToEnd, WrotePrefix}
 use Rattle.serve_answers.specs.Lines.{Served, server}
 use Rattle.serve_output.specs.declared.status.Status.{Status}
 use Rattle.serve_output.specs.declared.status.Status.TheVariants.{Done, Words, Source, Script, Sink, Memory, Files, LongScript, LongFile}
 use Rattle.serve_output.specs.Domains.{meaning_of}
-use Rattle.serve_output.specs.Output.{Output, served_bytes}
+use Rattle.serve_output.specs.Output.{Output, done, served_bytes}
 
 -- the number of a status
 abbrev pub code_of : Status → ℕ
@@ -79,24 +79,15 @@ Wrote Files output script taken rest written = written ≡ Some taken
 Wrote LongScript output script taken rest written = WroteRead output script taken rest written
 Wrote LongFile output script taken rest written = written ≡ Some taken
 
--- The output of a job, where its files are told, and what is written of it. A prime marks what is told after the job.
-abbrev pub FitsIn : (files : Option (List ℕ → Option (List ℕ))) → Status → ((List ℕ → Option (List ℕ)) → Output) → Type 0
-FitsIn files status output = (folder : List ℕ → Option (List ℕ)) → files ≡ Some folder → Fits status (output folder).status
-
-abbrev pub WritesIn : (files : Option (List ℕ → Option (List ℕ))) → Status → ((List ℕ → Option (List ℕ)) → Output) → (sink sink' : Option (List ℕ)) → Type 0
-WritesIn files status output sink sink' =
-    (folder : List ℕ → Option (List ℕ)) (text taken : List ℕ) (rest : Option (List ℕ)) →
-    files ≡ Some folder → sink ≡ Some taken → Wrote status (output folder) text taken rest sink'
-
 -- What is written of an output that no script gives.
 abbrev pub WritesOutput : Status → Output → (sink sink' : Option (List ℕ)) → Type 0
 WritesOutput status output sink sink' =
     (text taken : List ℕ) (rest : Option (List ℕ)) → sink ≡ Some taken → Wrote status output text taken rest sink'
 
--- What is written of the output that a script gives, where the script is told so far as is needed.
-abbrev pub WritesFor : (tells : List ℕ → Type 0) → Status → (List ℕ → Output) → (script' sink sink' : Option (List ℕ)) → Type 0
-WritesFor tells status output script' sink sink' =
-    (text taken : List ℕ) → tells text → sink ≡ Some taken → Wrote status (output text) text taken script' sink'
+-- What is written of the replies to the lines of a script, where it is told. A prime marks what is told after the job.
+abbrev pub WritesServed : DomainName → Served → Status → (script script' sink sink' : Option (List ℕ)) → Type 0
+WritesServed domain first status script script' sink sink' =
+    (text taken : List ℕ) → script ≡ Some text → sink ≡ Some taken → Wrote status (done (served_bytes domain first text)) text taken script' sink'
 
 -- It ends so, unless a write fails or memory runs out.
 abbrev pub EndsBy : (wanted : Status) (sink_fails : Type 0) → (status : Status) → Type 0
@@ -116,10 +107,6 @@ Caused words serves quiet file_fails script_fails sink_fails script script' File
 Caused words serves quiet file_fails script_fails sink_fails script script' LongScript = serves × ReadsBytes (2 ^ 40) script script'
 Caused words serves quiet file_fails script_fails sink_fails script script' LongFile = quiet
 
--- What the end of work comes of that loads no file.
-abbrev pub CausedWithin : (serves script_fails sink_fails : Type 0) → (script script' : Option (List ℕ)) → Status → Type 0
-CausedWithin serves script_fails sink_fails = Caused ⊥ serves ⊥ ⊥ script_fails sink_fails
-
--- What the end of work comes of that reads no script.
-abbrev pub CausedByFiles : (quiet file_fails sink_fails : Type 0) → Status → Type 0
-CausedByFiles quiet file_fails sink_fails = Caused ⊥ ⊥ quiet file_fails ⊥ sink_fails None None
+-- What the end comes of where the lines of a script are answered, and no file is loaded.
+abbrev pub CausedByScript : (script_fails sink_fails : Type 0) → (script script' : Option (List ℕ)) → Status → Type 0
+CausedByScript script_fails sink_fails = Caused ⊥ (Unit {0}) ⊥ ⊥ script_fails sink_fails

@@ -1,15 +1,15 @@
 -- What the words ask for.
-use Rattle.std.specs.Prelude.{◌≡◌, ℕ, List, Option, Some, None, true, false}
+use Rattle.std.specs.Prelude.{Option, Some, None, true, false}
 use Rattle.serve_command.specs.declared.job.DomainName.{DomainName}
 use Rattle.serve_command.specs.declared.job.DomainName.TheVariants.{Interval, Octagon, ListSeg}
 use Rattle.serve_command.specs.declared.job.SingleDomain.{SingleDomain}
 use Rattle.serve_command.specs.declared.job.SingleDomain.TheVariants as single
 use Rattle.serve_command.specs.declared.job.Job.{Job}
 use Rattle.serve_command.specs.declared.job.Job.TheVariants as job
+use Rattle.serve_command.specs.declared.job.Task.{Task}
+use Rattle.serve_command.specs.declared.job.Task.TheVariants.{Serve, Batch, Cert, Verify}
 use Rattle.serve_command.specs.declared.job.AnalysisOptions.{AnalysisOptions}
 use Rattle.batch_meaning.specs.Batch.{LoopOptions}
-use Rattle.serve_output.specs.declared.task.Task.{Task}
-use Rattle.serve_output.specs.declared.task.Task.TheVariants.{Serve, Batch, Gen}
 
 -- how loops are interpreted
 abbrev pub engine_of : AnalysisOptions → LoopOptions
@@ -25,41 +25,35 @@ name_of single.Interval = Interval
 name_of single.Octagon = Octagon
 name_of single.ListSeg = ListSeg
 
--- how a program is analysed for a job; checking a certificate iterates nothing
+-- how a program is analysed for a task; checking a certificate iterates nothing
+abbrev pub settings_for : Task → AnalysisOptions
+settings_for (Serve settings memo) = settings
+settings_for (Batch settings) = settings
+settings_for (Cert domain widening budget) = record { domain = name_of domain; widening = widening; budget = budget }
+settings_for (Verify domain cert) = by_default (name_of domain)
+
 abbrev pub settings_of : Job → AnalysisOptions
-settings_of (job.Serve settings memo file) = settings
-settings_of (job.Batch settings file) = settings
+settings_of (job.File file task) = settings_for task
 settings_of (job.Gen seed size domain) = by_default domain
-settings_of (job.Cert domain widening budget file) = record { domain = name_of domain; widening = widening; budget = budget }
-settings_of (job.Verify domain file cert) = by_default (name_of domain)
 
 -- the lines of a script are answered
 abbrev pub Serves : Task → Type 0
-Serves (Serve memo) = Unit {0}
-Serves Batch = ⊥
-Serves (Gen drawn) = ⊥
-
--- the script is told to be this text, where its lines are answered
-abbrev pub TellsServed : Task → (script : Option (List ℕ)) → (text : List ℕ) → Type 0
-TellsServed task script text = Serves task → script ≡ Some text
+Serves (Serve settings memo) = Unit {0}
+Serves (Batch settings) = ⊥
+Serves (Cert domain widening budget) = ⊥
+Serves (Verify domain cert) = ⊥
 
 -- the words name a job that does so
 abbrev pub AsksToServe : Option Job → Type 0
 AsksToServe None = ⊥
-AsksToServe (Some (job.Serve settings memo file)) = Unit {0}
-AsksToServe (Some (job.Batch settings file)) = ⊥
+AsksToServe (Some (job.File file task)) = Serves task
 AsksToServe (Some (job.Gen seed size domain)) = ⊥
-AsksToServe (Some (job.Cert domain widening budget file)) = ⊥
-AsksToServe (Some (job.Verify domain file cert)) = ⊥
 
 -- the words name the job of a generated program
 abbrev pub AsksToGenerate : Option Job → Type 0
 AsksToGenerate None = ⊥
-AsksToGenerate (Some (job.Serve settings memo file)) = ⊥
-AsksToGenerate (Some (job.Batch settings file)) = ⊥
+AsksToGenerate (Some (job.File file task)) = ⊥
 AsksToGenerate (Some (job.Gen seed size domain)) = Unit {0}
-AsksToGenerate (Some (job.Cert domain widening budget file)) = ⊥
-AsksToGenerate (Some (job.Verify domain file cert)) = ⊥
 
 -- how loops are interpreted for a job; without one nothing is
 abbrev pub engine_in : Option Job → LoopOptions

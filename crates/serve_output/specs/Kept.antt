@@ -5,6 +5,7 @@ use Rattle.imp_check.specs.Slots.{routines_of}
 use Rattle.imp_chains.specs.declared.widening.Widening.{Widening}
 use Rattle.batch_meaning.specs.Batch.{LoopOptions}
 use Rattle.serve_command.specs.declared.job.Job.TheVariants as job
+use Rattle.serve_command.specs.declared.job.Task.TheVariants.{Cert, Verify}
 use Rattle.serve_command.specs.declared.job.SingleDomain.{SingleDomain}
 use Rattle.cert_lines.specs.Certificate.{certificate}
 use Rattle.cert_lines.specs.Verify.{verified_line, Yes}
@@ -23,12 +24,12 @@ pub record IsWritten (readings : Readings) (domain : SingleDomain) (widening : W
   pub read : IsProgram readings (folder file) program
   pub whole : HasCertificate domain (record { budget = budget; widening = widening }) program
   pub script : List ℕ
-  pub kept : folder cert ≡ Some (output readings (Some (job.Cert domain widening budget file)) folder script).bytes
-  pub short : length (output readings (Some (job.Cert domain widening budget file)) folder script).bytes ≤ most_certificate
+  pub kept : folder cert ≡ Some (output readings (Some (job.File file (Cert domain widening budget))) folder script).bytes
+  pub short : length (output readings (Some (job.File file (Cert domain widening budget))) folder script).bytes ≤ most_certificate
 
 -- What `cert` wrote of a program, `verify` finds to hold by the same domain.
 abbrev pub WrittenAreAccepted : Type 0
 WrittenAreAccepted =
     (readings : Readings) (domain : SingleDomain) (widening : Widening) (budget : ℕ) (folder : List ℕ → Option (List ℕ)) (file cert script : List ℕ) →
     IsWritten readings domain widening budget folder file cert →
-    output readings (Some (job.Verify domain file cert)) folder script ≡ done (verified_line Yes)
+    output readings (Some (job.File file (Verify domain cert))) folder script ≡ done (verified_line Yes)

@@ -13,8 +13,9 @@ use Rattle.request_json.specs.Replies.{reply_text}
 use Rattle.serve_command.specs.declared.job.DomainName.{DomainName}
 use Rattle.serve_command.specs.declared.job.Job.{Job}
 use Rattle.serve_command.specs.declared.job.Job.TheVariants as job
-use Rattle.serve_command.specs.declared.job.AnalysisOptions.{AnalysisOptions}
 use Rattle.serve_command.specs.declared.job.SingleDomain.{SingleDomain}
+use Rattle.serve_command.specs.declared.job.Task.{Task}
+use Rattle.serve_command.specs.declared.job.Task.TheVariants.{Serve, Batch, Cert, Verify}
 use Rattle.cert_lines.specs.Certificate.{certificate, certificate_text}
 use Rattle.cert_lines.specs.Verify.{verify, verified_line}
 use Rattle.serve_replies.specs.Texts.{listing}
@@ -26,11 +27,6 @@ use Rattle.gen_summary.specs.Summary.{tally_with, nothing, summary_text}
 use Rattle.serve_answers.specs.Readings.{Readings}
 use Rattle.serve_answers.specs.Lines.{Served, line_turn, server}
 use Rattle.serve_answers.specs.Fine.{opening}
-use Rattle.serve_output.specs.declared.task.Drawn.{Drawn}
-use Rattle.serve_output.specs.declared.task.Task.{Task}
-use Rattle.serve_output.specs.declared.task.Task.TheVariants.{Serve, Batch, Gen}
-use Rattle.serve_output.specs.declared.task.CertTask.{CertTask}
-use Rattle.serve_output.specs.declared.task.CertTask.TheVariants.{Write, Check}
 use Rattle.serve_output.specs.Sources.{source_of}
 use Rattle.serve_output.specs.Domains.{carried_of, meaning_of}
 use Rattle.serve_output.specs.Jobs.{by_default, engine_of}
@@ -64,11 +60,6 @@ report_bytes domain engine program = reply_text (r.Report (report (meaning_of do
 unfoldable pub batch_bytes : DomainName → LoopOptions → List Procedure → List ℕ
 batch_bytes domain engine program = listing program ++ report_bytes domain engine program
 
--- what serves after lines
-abbrev pub served_after : {S : Type 0} → Operations S → List (List ℕ) → Served → Served
-served_after dom [] s = s
-served_after dom (line ∷ lines) s = served_after dom lines ((server dom).next s line)
-
 -- what the replies to lines come to, each added to the tally
 abbrev pub tally_output : {S : Type 0} → Operations S → List (List ℕ) → Served → ReplyTally → ReplyTally
 tally_output dom [] s t = t
@@ -77,13 +68,6 @@ tally_output dom (line ∷ lines) s t = tally_output dom lines ((server dom).nex
 -- the summary of the generated script
 unfoldable pub gen_bytes : DomainName → Served → (seed size : ℕ) → List ℕ
 gen_bytes domain first seed size = summary_text (tally_output (meaning_of domain).operations (whole_lines [] (script_of seed size)) first nothing)
-
--- serve: the replies to the lines of the script; batch: the listing and the report; gen: the summary of the generated
--- script; each by the domain of this name
-abbrev pub program_bytes : Readings → DomainName → LoopOptions → Task → List Procedure → List ℕ → List ℕ
-program_bytes readings domain engine (Serve memo) program script = served_bytes domain (opening readings engine program) script
-program_bytes readings domain engine Batch program script = batch_bytes domain engine program
-program_bytes readings domain engine (Gen drawn) program script = gen_bytes domain (opening readings engine program) drawn.seed drawn.size
 
 -- the lines of the certificate of a program
 unfoldable pub cert_bytes : SingleDomain → LoopOptions → List Procedure → List ℕ
@@ -96,9 +80,13 @@ verify_bytes domain program cert = verified_line (verify (carried_of domain).mea
 abbrev pub done : List ℕ → Output
 done bytes = record { status = 0; bytes = bytes }
 
+-- a source that is refused
+abbrev pub refused : Refusal → Output
+refused why = record { status = 3; bytes = reply_text (r.Refused why) }
+
 -- what a source that is refused gives, or its program
 abbrev pub of_source : Result (List Procedure) Refusal → (List Procedure → Output) → Output
-of_source (Err why) give = record { status = 3; bytes = reply_text (r.Refused why) }
+of_source (Err why) give = refused why
 of_source (Ok program) give = give program
 
 -- what a file that is absent or too long gives, or its bytes
@@ -110,34 +98,24 @@ of_file most (Some bytes) give = if nat_le (length bytes) most then give bytes e
 abbrev pub program_output : Readings → Option (List ℕ) → (List Procedure → Output) → Output
 program_output readings file give = of_file most_source file (λ source. of_source (source_of readings source) give)
 
-abbrev pub source_output : Readings → Task → AnalysisOptions → Result (List Procedure) Refusal → List ℕ → Output
-source_output readings task settings source script =
-    of_source source (λ program. done (program_bytes readings settings.domain (engine_of settings) task program script))
+-- What a task gives of a program. serve: the replies to the lines of the script; how many results are remembered gives
+-- nothing. batch: the listing and the report. cert: the lines of the certificate. verify: whether those of a file hold.
+abbrev pub task_output : Readings → Task → (files : List ℕ → Option (List ℕ)) → (script : List ℕ) → List Procedure → Output
+task_output readings (Serve settings memo) files script program = done (served_bytes settings.domain (opening readings (engine_of settings) program) script)
+task_output readings (Batch settings) files script program = done (batch_bytes settings.domain (engine_of settings) program)
+task_output readings (Cert domain widening budget) files script program = done (cert_bytes domain (record { budget = budget; widening = widening }) program)
+task_output readings (Verify domain cert) files script program = of_file most_certificate (files cert) (λ text. done (verify_bytes domain program text))
 
-abbrev pub file_output : Readings → Task → AnalysisOptions → Option (List ℕ) → List ℕ → Output
-file_output readings task settings file script = of_file most_source file (λ source. source_output readings task settings (source_of readings source) script)
+-- the summary of the generated script over the generated program, whose loops are interpreted by default
+abbrev pub generated_output : Readings → (seed size : ℕ) → DomainName → Output
+generated_output readings seed size domain =
+    of_source (source_of readings (generated.source_of seed size)) (λ program. done (gen_bytes domain (opening readings (engine_of (by_default domain)) program) seed size))
 
--- what is written of the certificate of a program: its lines; or whether those of a file hold
-abbrev pub cert_output : SingleDomain → CertTask → (List ℕ → Option (List ℕ)) → List Procedure → Output
-cert_output domain (Write widening budget) files program = done (cert_bytes domain (record { budget = budget; widening = widening }) program)
-cert_output domain (Check cert) files program = of_file most_certificate (files cert) (λ text. done (verify_bytes domain program text))
-
--- a generated source, whose loops are interpreted by default
-abbrev pub generated_output : Readings → Drawn → DomainName → List ℕ → Output
-generated_output readings drawn domain script =
-    source_output readings (Gen drawn) (by_default domain) (source_of readings (generated.source_of drawn.seed drawn.size)) script
-
--- What the job that the words name, the files and the script give. How many results are remembered gives nothing.
-abbrev pub job_output : Readings → Job → (List ℕ → Option (List ℕ)) → List ℕ → Output
-job_output readings (job.Serve settings memo file) files script = file_output readings (Serve memo) settings (files file) script
-job_output readings (job.Batch settings file) files script = file_output readings Batch settings (files file) script
-job_output readings (job.Gen seed size domain) files script = generated_output readings (record { seed = seed; size = size }) domain script
-job_output readings (job.Cert domain widening budget file) files script = program_output readings (files file) (cert_output domain (Write widening budget) files)
-job_output readings (job.Verify domain file cert) files script = program_output readings (files file) (cert_output domain (Check cert) files)
-
-abbrev pub output : Readings → Option Job → (List ℕ → Option (List ℕ)) → List ℕ → Output
+-- What the job that the words name, the files and the script give.
+abbrev pub output : Readings → Option Job → (files : List ℕ → Option (List ℕ)) → (script : List ℕ) → Output
 output readings None files script = record { status = 2; bytes = usage }
-output readings (Some job) files script = job_output readings job files script
+output readings (Some (job.File file task)) files script = program_output readings (files file) (task_output readings task files script)
+output readings (Some (job.Gen seed size domain)) files script = generated_output readings seed size domain
 
 -- the file is there, and the program without faults that it is
 abbrev pub IsProgram : Readings → Option (List ℕ) → List Procedure → Type 0
@@ -145,16 +123,10 @@ IsProgram readings None program = ⊥
 IsProgram readings (Some source) program = (length source ≤ most_source) × (source_of readings source ≡ Ok program)
 
 -- the words name a job, and its source is this program
-abbrev pub IsAcceptedFor : Readings → Job → (List ℕ → Option (List ℕ)) → List Procedure → Type 0
-IsAcceptedFor readings (job.Serve settings memo file) files program = IsProgram readings (files file) program
-IsAcceptedFor readings (job.Batch settings file) files program = IsProgram readings (files file) program
-IsAcceptedFor readings (job.Gen seed size domain) files program = source_of readings (generated.source_of seed size) ≡ Ok program
-IsAcceptedFor readings (job.Cert domain widening budget file) files program = IsProgram readings (files file) program
-IsAcceptedFor readings (job.Verify domain file cert) files program = IsProgram readings (files file) program
-
 abbrev pub IsAccepted : Readings → Option Job → (List ℕ → Option (List ℕ)) → List Procedure → Type 0
 IsAccepted readings None files program = ⊥
-IsAccepted readings (Some job) files program = IsAcceptedFor readings job files program
+IsAccepted readings (Some (job.File file task)) files program = IsProgram readings (files file) program
+IsAccepted readings (Some (job.Gen seed size domain)) files program = source_of readings (generated.source_of seed size) ≡ Ok program
 
 -- the files are told, and this one is a program
 abbrev pub HasProgram : Option (List ℕ → Option (List ℕ)) → (name : List ℕ) → Type 0
@@ -162,19 +134,18 @@ HasProgram None name = ⊥
 HasProgram (Some files) name = (readings : Readings) → (program : List Procedure) × IsProgram readings (files name) program
 
 -- the files are told, and the certificate that is to be checked is not among them
-abbrev pub LacksCertificate : Option (List ℕ → Option (List ℕ)) → CertTask → Type 0
-LacksCertificate files (Write widening budget) = ⊥
-LacksCertificate files (Check cert) = Lacks files cert
+abbrev pub LacksCertificate : Option (List ℕ → Option (List ℕ)) → Task → Type 0
+LacksCertificate files (Serve settings memo) = ⊥
+LacksCertificate files (Batch settings) = ⊥
+LacksCertificate files (Cert domain widening budget) = ⊥
+LacksCertificate files (Verify domain cert) = Lacks files cert
 
 -- the files are told, and that of the program is not among them; or it is a program, and that of its certificate is not
-abbrev pub LacksEither : Option (List ℕ → Option (List ℕ)) → (name : List ℕ) → CertTask → Type 0
-LacksEither files name task = Lacks files name ⊎ (HasProgram files name × LacksCertificate files task)
+abbrev pub LacksFor : Option (List ℕ → Option (List ℕ)) → (name : List ℕ) → Task → Type 0
+LacksFor files name task = Lacks files name ⊎ (HasProgram files name × LacksCertificate files task)
 
 -- the files are told, and one that the job needs is not among them
 abbrev pub LacksFile : Option (List ℕ → Option (List ℕ)) → Option Job → Type 0
 LacksFile files None = ⊥
-LacksFile files (Some (job.Serve settings memo file)) = Lacks files file
-LacksFile files (Some (job.Batch settings file)) = Lacks files file
+LacksFile files (Some (job.File file task)) = LacksFor files file task
 LacksFile files (Some (job.Gen seed size domain)) = ⊥
-LacksFile files (Some (job.Cert domain widening budget file)) = LacksEither files file (Write widening budget)
-LacksFile files (Some (job.Verify domain file cert)) = LacksEither files file (Check cert)

@@ -21,11 +21,8 @@ pub record Told : Type 0 where
 -- the files are told, where the job has one
 abbrev pub TellsFiles : Option Job → Option (List ℕ → Option (List ℕ)) → (List ℕ → Option (List ℕ)) → Type 0
 TellsFiles None files folder = Unit {0}
-TellsFiles (Some (job.Serve settings memo file)) files folder = files ≡ Some folder
-TellsFiles (Some (job.Batch settings file)) files folder = files ≡ Some folder
+TellsFiles (Some (job.File file task)) files folder = files ≡ Some folder
 TellsFiles (Some (job.Gen seed size domain)) files folder = Unit {0}
-TellsFiles (Some (job.Cert domain widening budget file)) files folder = files ≡ Some folder
-TellsFiles (Some (job.Verify domain file cert)) files folder = files ≡ Some folder
 
 -- the script is told, where an accepted program is served
 abbrev pub TellsScript : Readings → Option Job → (List ℕ → Option (List ℕ)) → Option (List ℕ) → List ℕ → Type 0

@@ -3,7 +3,8 @@ ghost use Rattle.std.specs.Prelude.{◌≡◌, IfOk};
 ghost use Rattle.io_edge.specs.Outside.{Rose};
 ghost use Rattle.request_json.specs.declared.reply.Reply.TheVariants as r;
 ghost use Rattle.request_json.specs.Replies.{reply_text};
-ghost use Rattle.serve_output.specs.Ends.{EndsBy, Fits, WritesOutput};
+ghost use Rattle.serve_output.specs.Ends.{EndsBy, WritesOutput};
+ghost use Rattle.serve_output.specs.Output.{refused};
 
 use crate::status::Status;
 use base_values::Memory;
@@ -20,10 +21,9 @@ fn refusal_line(alloc: Global, why: Refusal) -> Result<Vec<u8>, Memory>
 }
 
 /// Refuses a source: its refusal is written as a line.
-pub fn refuse_source<O: Sink>(alloc: Global, why: Refusal, out: &mut O) -> Status
+pub(crate) fn refuse_source<O: Sink>(alloc: Global, why: Refusal, out: &mut O) -> Status
     ensures ends { EndsBy Status.Source (Rose (O.faults out.old) (O.faults out.new)) result }
-    ensures fits { Fits result 3 }
-    ensures wrote { WritesOutput result (record { status = 3; bytes = reply_text (r.Refused why) })
+    ensures wrote { WritesOutput result (refused why)
         (O.told out.old) (O.told out.new) }
 {
     let Ok(line) = refusal_line(alloc, why) else {

@@ -3,14 +3,15 @@ use Rattle.gen_summary.specs.Summary.{nothing}
 use Rattle.serve_script.specs.Lines.{whole_lines}
 use Rattle.serve_script.proofs.LineLemmas.{lines_more, part_more}
 use Rattle.serve_output.specs.Domains.{meaning_of}
-use Rattle.serve_output.specs.Output.{served_after, tally_output}
+use Rattle.serve_output.specs.Output.{tally_output}
+use Rattle.daig_server.specs.Tallies.{after_lines}
 use Rattle.daig_server.proofs.TallyLemmas.{after-append, tallied-append}
 use Rattle.daig_server.proofs.generated.tally_lines.Goals as goal
 
 pub tally_byte-requires : goal.tally_byte-requires
 tally_byte-requires g c = record {
   lasts = (0, c.loop-byte.invariant.lasts 1 (omega (arith, c.requires.lasts, c.loop-byte-test.true)));
-  room = (c.loop-byte.byte-index, omega (arith, c.requires.few, c.loop-byte-test.true), c.loop-byte.invariant.within);
+  room = (c.loop-byte.byte-index, omega (arith, c.requires.short, c.loop-byte-test.true), c.loop-byte.invariant.within);
 }
 
 pub loop-byte-preserved : goal.loop-byte-preserved
@@ -28,9 +29,9 @@ loop-byte-preserved g c =
       lasts = λ n for. call.lasts n (c.loop-byte.invariant.lasts (suc n) (omega (arith, for)));
       within = call.within i c.loop-byte.invariant.within;
       next = λ s stands.
-          rw (sym more, after-append dom before (whole_lines part (b ∷ [])) s) (call.next (served_after dom before s) (c.loop-byte.invariant.next s stands));
+          rw (sym more, after-append dom before (whole_lines part (b ∷ [])) s) (call.next (after_lines dom before s) (c.loop-byte.invariant.next s stands));
       tally = λ s stands.
-          call.tally (served_after dom before s) (c.loop-byte.invariant.next s stands)
-          ∙ ap (tally_output dom (whole_lines part (b ∷ [])) (served_after dom before s)) (c.loop-byte.invariant.tally s stands)
+          call.tally (after_lines dom before s) (c.loop-byte.invariant.next s stands)
+          ∙ ap (tally_output dom (whole_lines part (b ∷ [])) (after_lines dom before s)) (c.loop-byte.invariant.tally s stands)
           ∙ sym (tallied-append dom before (whole_lines part (b ∷ [])) s nothing) ∙ ap (λ lines. tally_output dom lines s nothing) more;
     }

@@ -1,78 +1,60 @@
-use Rattle.serve_output.specs.declared.status.Status.TheVariants.{Done, Words}
-use Rattle.serve_output.proofs.EndsLemmas.{caused_by_end, caused_by_files, caused_for}
-use Rattle.daig_server.proofs.WordsLemmas.{memo_some, size_few}
+use Rattle.serve_command.specs.declared.job.Task.TheVariants.{Serve}
+use Rattle.serve_output.specs.Output.{task_output}
+use Rattle.serve_output.proofs.EndsLemmas.{caused_by_script, fits_given}
+use Rattle.serve_output.proofs.OutputLemmas.{of_program}
 use Rattle.daig_server.proofs.run.run.Goals as goal
 
-pub returns-in-Ok-Serve-clause-fits : goal.returns-in-Ok-Serve-clause-fits
-returns-in-Ok-Serve-clause-fits g c = λ readings folder text told.
-    let is = rw c.in-Ok-Serve.field-0-is at (c.in-Ok-Serve.ensures {u = tt}).job in
-    rw is (rw c.as_str-name.ensures.is at (c.run_file.ensures.fits readings folder text (rw is at told)))
+-- serve: the program is there
+pub returns-in-Ok-clause-fits : goal.returns-in-Ok-clause-fits
+returns-in-Ok-clause-fits g c = λ readings folder text told.
+    let is = rw (c.in-Ok-File.field-0-is, c.in-Serve.is) at (c.in-Ok-File.ensures {u = tt}).job in
+    let program = rw c.as_str.ensures.is at ((c.in-Ok.ensures {u = tt}).program readings folder (rw is at told)) in
+    rw is (rw (of_program readings _ c.in-Ok.table.program (task_output readings (Serve c.in-Serve.settings c.in-Serve.memo) folder text) program) c.serve_program.ensures.fits)
 
-pub returns-in-Ok-Serve-clause-wrote : goal.returns-in-Ok-Serve-clause-wrote
-returns-in-Ok-Serve-clause-wrote g c = λ readings folder text taken told script sink.
-    let is = rw c.in-Ok-Serve.field-0-is at (c.in-Ok-Serve.ensures {u = tt}).job in
-    rw is (rw c.as_str-name.ensures.is at (c.run_file.ensures.wrote readings folder text taken (rw is at told) (rw c.as_str-name.ensures.is (rw is at script)) sink))
+pub returns-in-Ok-clause-wrote : goal.returns-in-Ok-clause-wrote
+returns-in-Ok-clause-wrote g c = λ readings folder text taken told script sink.
+    let is = rw (c.in-Ok-File.field-0-is, c.in-Serve.is) at (c.in-Ok-File.ensures {u = tt}).job in
+    let program = rw c.as_str.ensures.is at ((c.in-Ok.ensures {u = tt}).program readings folder (rw is at told)) in
+    rw is (rw (of_program readings _ c.in-Ok.table.program (task_output readings (Serve c.in-Serve.settings c.in-Serve.memo) folder text) program)
+    (c.serve_program.ensures.wrote readings text taken ((rw is at script) tt c.in-Ok.table.program program) sink))
 
-pub returns-in-Ok-Batch-clause-fits : goal.returns-in-Ok-Batch-clause-fits
-returns-in-Ok-Batch-clause-fits g c = λ readings folder text told.
-    let is = rw c.in-Ok-Batch.field-0-is at (c.in-Ok-Batch.ensures {u = tt}).job in
-    rw is (rw c.as_str-name-in-Ok-Batch.ensures.is at (c.run_file-in-Ok-Batch.ensures.fits readings folder text (rw is at told)))
+pub returns-in-Ok-clause-caused : goal.returns-in-Ok-clause-caused
+returns-in-Ok-clause-caused g c =
+    let is = rw (c.in-Ok-File.field-0-is, c.in-Serve.is) at (c.in-Ok-File.ensures {u = tt}).job in
+    rw is (caused_by_script _ _ _ _ _ _ _ _ c.serve_program.result tt c.serve_program.ensures.caused)
 
-pub returns-in-Ok-Batch-clause-wrote : goal.returns-in-Ok-Batch-clause-wrote
-returns-in-Ok-Batch-clause-wrote g c = λ readings folder text taken told script sink.
-    let is = rw c.in-Ok-Batch.field-0-is at (c.in-Ok-Batch.ensures {u = tt}).job in
-    rw is (rw c.as_str-name-in-Ok-Batch.ensures.is at (c.run_file-in-Ok-Batch.ensures.wrote readings folder text taken (rw is at told) (rw c.as_str-name-in-Ok-Batch.ensures.is (rw is at script)) sink))
+pub returns-in-Batch-clause-fits : goal.returns-in-Batch-clause-fits
+returns-in-Batch-clause-fits g c = λ readings folder text told.
+    let is = rw (c.in-Ok-File.field-0-is, c.in-Batch.is) at (c.in-Ok-File.ensures {u = tt}).job in
+    let gives = rw c.as_str-in-Batch.ensures.is at (c.batch-given.ensures.gives readings folder text (rw is at told)) in
+    rw is (fits_given _ _ c.batch-given.result c.write_given-in-Batch.result _ gives c.write_given-in-Batch.ensures.ends)
 
-pub run_file-requires : goal.run_file-requires
-run_file-requires g c = record { remembers = memo_some _ _ _ _ (rw c.in-Ok-Serve.field-0-is at (c.in-Ok-Serve.ensures {u = tt}).job) }
+pub returns-in-Batch-clause-wrote : goal.returns-in-Batch-clause-wrote
+returns-in-Batch-clause-wrote g c = λ readings folder text taken told script sink.
+    let is = rw (c.in-Ok-File.field-0-is, c.in-Batch.is) at (c.in-Ok-File.ensures {u = tt}).job in
+    let gives = rw c.as_str-in-Batch.ensures.is at (c.batch-given.ensures.gives readings folder text (rw is at told)) in
+    rw is (c.write_given-in-Batch.ensures.wrote _ gives text taken (g.I.Source.told c.args.script.now) sink)
 
-pub run_generated-requires : goal.run_generated-requires
-run_generated-requires g c = record { few = size_few _ _ _ _ (rw c.in-Ok-Gen.field-0-is at (c.in-Ok-Gen.ensures {u = tt}).job) }
+pub returns-in-Cert-clause-fits : goal.returns-in-Cert-clause-fits
+returns-in-Cert-clause-fits g c = λ readings folder text told.
+    let is = rw (c.in-Ok-File.field-0-is, c.in-Cert.is) at (c.in-Ok-File.ensures {u = tt}).job in
+    let gives = rw c.as_str-name.ensures.is at (c.certificate-given.ensures.gives readings folder text (rw is at told)) in
+    rw is (fits_given _ _ c.certificate-given.result c.write_given-in-Cert.result _ gives c.write_given-in-Cert.ensures.ends)
 
-pub returns-in-Ok-Cert-clause-fits : goal.returns-in-Ok-Cert-clause-fits
-returns-in-Ok-Cert-clause-fits g c = λ readings folder text told.
-    let is = rw c.in-Ok-Cert.field-0-is at (c.in-Ok-Cert.ensures {u = tt}).job in
-    rw is (rw c.as_str-name-in-Ok-Cert.ensures.is at (c.run_certificate.ensures.fits readings folder (rw is at told)))
+pub returns-in-Cert-clause-wrote : goal.returns-in-Cert-clause-wrote
+returns-in-Cert-clause-wrote g c = λ readings folder text taken told script sink.
+    let is = rw (c.in-Ok-File.field-0-is, c.in-Cert.is) at (c.in-Ok-File.ensures {u = tt}).job in
+    let gives = rw c.as_str-name.ensures.is at (c.certificate-given.ensures.gives readings folder text (rw is at told)) in
+    rw is (c.write_given-in-Cert.ensures.wrote _ gives text taken (g.I.Source.told c.args.script.now) sink)
 
-pub returns-in-Ok-Cert-clause-wrote : goal.returns-in-Ok-Cert-clause-wrote
-returns-in-Ok-Cert-clause-wrote g c = λ readings folder text taken told script sink.
-    let is = rw c.in-Ok-Cert.field-0-is at (c.in-Ok-Cert.ensures {u = tt}).job in
-    rw is (rw c.as_str-name-in-Ok-Cert.ensures.is at (c.run_certificate.ensures.wrote readings folder text taken (g.I.Source.told c.args.script.now) (rw is at told) sink))
+pub returns-in-Ok-File-clause-fits : goal.returns-in-Ok-File-clause-fits
+returns-in-Ok-File-clause-fits g c = λ readings folder text told.
+    let is = rw (c.in-Ok-File.field-0-is, c.in-Verify.is) at (c.in-Ok-File.ensures {u = tt}).job in
+    let gives = rw (c.as_str-in-Verify.ensures.is, c.as_str-in-Verify-2.ensures.is) at (c.verified-given.ensures.gives readings folder text (rw is at told)) in
+    rw is (fits_given _ _ c.verified-given.result c.write_given-in-Verify.result _ gives c.write_given-in-Verify.ensures.ends)
 
-pub returns-in-Ok-Verify-clause-fits : goal.returns-in-Ok-Verify-clause-fits
-returns-in-Ok-Verify-clause-fits g c = λ readings folder text told.
-    let is = rw c.in-Ok-Verify.field-0-is at (c.in-Ok-Verify.ensures {u = tt}).job in
-    rw is (rw c.as_str-name-in-Ok-Verify.ensures.is at (c.run_certificate-in-Ok-Verify.ensures.fits readings folder (rw is at told)))
-
-pub returns-in-Ok-Verify-clause-wrote : goal.returns-in-Ok-Verify-clause-wrote
-returns-in-Ok-Verify-clause-wrote g c = λ readings folder text taken told script sink.
-    let is = rw c.in-Ok-Verify.field-0-is at (c.in-Ok-Verify.ensures {u = tt}).job in
-    rw is (rw c.as_str-name-in-Ok-Verify.ensures.is at (c.run_certificate-in-Ok-Verify.ensures.wrote readings folder text taken (g.I.Source.told c.args.script.now) (rw is at told) sink))
-
-pub returns-in-Ok-Serve-clause-caused : goal.returns-in-Ok-Serve-clause-caused
-returns-in-Ok-Serve-clause-caused g c =
-    let is = rw c.in-Ok-Serve.field-0-is at (c.in-Ok-Serve.ensures {u = tt}).job in
-    rw is (caused_for _ _ _ _ _ _ _ _ c.run_file.result (rw c.as_str-name.ensures.is at c.run_file.ensures.caused))
-
-pub returns-in-Ok-Batch-clause-caused : goal.returns-in-Ok-Batch-clause-caused
-returns-in-Ok-Batch-clause-caused g c =
-    let is = rw c.in-Ok-Batch.field-0-is at (c.in-Ok-Batch.ensures {u = tt}).job in
-    rw is (caused_for _ _ _ _ _ _ _ _ c.run_file-in-Ok-Batch.result (rw c.as_str-name-in-Ok-Batch.ensures.is at c.run_file-in-Ok-Batch.ensures.caused))
-
-pub returns-in-Ok-Gen-clause-caused : goal.returns-in-Ok-Gen-clause-caused
-returns-in-Ok-Gen-clause-caused g c =
-    let is = rw c.in-Ok-Gen.field-0-is at (c.in-Ok-Gen.ensures {u = tt}).job in
-    rw is (caused_by_end _ _ _ _ _ _ _ _ Done c.run_generated.result (λ serves. absurd serves) c.run_generated.ensures.ends)
-
-pub returns-in-Ok-Cert-clause-caused : goal.returns-in-Ok-Cert-clause-caused
-returns-in-Ok-Cert-clause-caused g c =
-    let is = rw c.in-Ok-Cert.field-0-is at (c.in-Ok-Cert.ensures {u = tt}).job in
-    rw is (caused_by_files _ _ _ _ _ _ _ _ c.run_certificate.result (λ serves. serves) (rw c.as_str-name-in-Ok-Cert.ensures.is at c.run_certificate.ensures.caused))
-
-pub returns-in-Ok-Verify-clause-caused : goal.returns-in-Ok-Verify-clause-caused
-returns-in-Ok-Verify-clause-caused g c =
-    let is = rw c.in-Ok-Verify.field-0-is at (c.in-Ok-Verify.ensures {u = tt}).job in
-    rw is (caused_by_files _ _ _ _ _ _ _ _ c.run_certificate-in-Ok-Verify.result (λ serves. serves) (rw c.as_str-name-in-Ok-Verify.ensures.is at c.run_certificate-in-Ok-Verify.ensures.caused))
-
-pub returns-in-Err-Refused-clause-caused : goal.returns-in-Err-Refused-clause-caused
-returns-in-Err-Refused-clause-caused g c = caused_by_end _ _ _ _ _ _ _ _ Words c.refuse_words.result ((c.in-Err-Refused.ensures {u = tt}).refused c.in-Err-Refused.field-0-is) c.refuse_words.ensures.ends
+pub returns-in-Ok-File-clause-wrote : goal.returns-in-Ok-File-clause-wrote
+returns-in-Ok-File-clause-wrote g c = λ readings folder text taken told script sink.
+    let is = rw (c.in-Ok-File.field-0-is, c.in-Verify.is) at (c.in-Ok-File.ensures {u = tt}).job in
+    let gives = rw (c.as_str-in-Verify.ensures.is, c.as_str-in-Verify-2.ensures.is) at (c.verified-given.ensures.gives readings folder text (rw is at told)) in
+    rw is (c.write_given-in-Verify.ensures.wrote _ gives text taken (g.I.Source.told c.args.script.now) sink)

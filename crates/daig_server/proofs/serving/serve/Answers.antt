@@ -77,7 +77,7 @@ returns-clause-verified g c = λ readings told domain file cert text program nam
     let fine = (c.machines_stay_fine.ensures.source readings (engine_in (job_of_words c.args.words.now)) read.0 program read.1).present.fine in
     let done = same_status c.run.result Done _ c.code.ensures.code zero in
     let wrote = rw (done, named) at (c.run.ensures.wrote readings told.folder told.script told.taken tells.files_are tells.script_is tells.sink_is) in
-    yes_covers readings domain told.folder file cert text told.taken program _ (c.each_yes_is_sound.ensures.sound domain) fine.fit accepted there wrote is
+    yes_covers readings domain told.folder file cert told.script text told.taken program _ (c.each_yes_is_sound.ensures.sound domain) fine.fit accepted there wrote is
 
 pub returns-clause-history_unseen : goal.returns-clause-history_unseen
 returns-clause-history_unseen g c = same_alike (meaning_of (domain_in (job_of_words c.args.words.now))).operations

@@ -1,7 +1,0 @@
-use Rattle.serve_answers.specs.Fine.{opening}
-use Rattle.serve_output.specs.Jobs.{engine_of}
-use Rattle.daig_server.proofs.work.serve_program.Goals as goal
-
-pub returns-in-Ok-clause-wrote : goal.returns-in-Ok-clause-wrote
-returns-in-Ok-clause-wrote g c = λ readings.
-    c.serve_lines.ensures.wrote (opening readings (engine_of c.args.settings.now) c.args.table.program) (c.in-Ok.ensures {u = tt}).begins

@@ -1,0 +1,128 @@
+//! The listing and the report of a program, by batch interpretation; the task `batch`.
+ghost use Rattle.std.specs.Prelude.{◌≡◌, ◌++◌, ◌⊎◌, IfOk, IsErrOf};
+ghost use Rattle.io_edge.specs.Outside.{Lacks, Rose};
+ghost use Rattle.imp_check.specs.Slots.{routines_of};
+ghost use Rattle.call_contexts.specs.Settings.{setting_of};
+ghost use Rattle.serve_command.specs.declared.job.Task.TheVariants.{Batch};
+ghost use Rattle.serve_output.specs.Given.{GivesTask};
+ghost use Rattle.serve_output.specs.Jobs.{engine_of};
+ghost use Rattle.serve_output.specs.Output.{batch_bytes, report_bytes};
+
+use crate::domains::Named;
+use crate::error::JobError;
+use crate::files::load_checked;
+use base_counter::Steps;
+use base_values::Memory;
+use batch_interp::batch_report;
+use call_contexts::Setting;
+use dom_interval::Interval;
+use dom_listseg::ListSeg;
+use dom_octagon::Octagon;
+use dom_product::Pair;
+use imp_table::Checked;
+use io_edge::Files;
+use request_json::{Reply, reply_line};
+use serve_command::{AnalysisOptions, DomainName};
+use serve_replies::listing;
+use std::alloc::Global;
+use std::sync::ledger::Ledger;
+
+/// The line of the report, by this setting.
+fn line_by<D: Named, L: Ledger>(
+    alloc: Global,
+    domain: &D,
+    setting: &Setting,
+    program: &Checked,
+    steps: &mut Steps<L>,
+) -> Result<Vec<u8>, Memory>
+    requires setting { setting.now ≡ setting_of setting.now.engine (routines_of program.now) }
+    ensures bytes { IfOk result (λ v.
+        v.items ≡ report_bytes D.name setting.now.engine program.now) }
+{
+    let findings = batch_report(alloc, domain, program, setting, steps)?;
+    reply_line(alloc, &Reply::Report(findings))
+}
+
+/// The line of the report.
+fn report_line<D: Named, L: Ledger>(
+    alloc: Global,
+    domain: &D,
+    settings: &AnalysisOptions,
+    program: &Checked,
+    steps: &mut Steps<L>,
+) -> Result<Vec<u8>, Memory>
+    ensures bytes { IfOk result (λ v.
+        v.items ≡ report_bytes D.name (engine_of settings.now) program.now) }
+{
+    let setting = Setting::new(alloc, &program.view(), settings.budget, settings.widening)?;
+    line_by(alloc, domain, &setting, program, steps)
+}
+
+/// One text after another.
+fn behind(alloc: Global, first: &[u8], second: &[u8]) -> Result<Vec<u8>, Memory>
+    ensures bytes { IfOk result (λ v. v.items ≡ first.now ++ second.now) }
+{
+    let mut bytes = Vec::from_slice(alloc, first)?;
+    bytes.extend_from_slice(second)?;
+    Ok(bytes)
+}
+
+/// The listing and the line of the report, by the domain of the settings. It fails only when memory runs out.
+#[tactic(auto, unfolding(crate::specs::Output::batch_bytes))]
+fn listed_by<D: Named, L: Ledger>(
+    alloc: Global,
+    domain: &D,
+    settings: &AnalysisOptions,
+    program: &Checked,
+    steps: &mut Steps<L>,
+) -> Result<Vec<u8>, Memory>
+    requires named { settings.now.domain ≡ D.name }
+    ensures bytes { IfOk result (λ v.
+        v.items ≡ batch_bytes settings.now.domain (engine_of settings.now) program.now) }
+{
+    let line = report_line(alloc, domain, settings, program, steps)?;
+    let listing = listing(alloc, program.program())?;
+    behind(alloc, listing.as_slice(), line.as_slice())
+}
+
+/// The listing and the line of the report. It fails only when memory runs out.
+fn listed<L: Ledger>(
+    alloc: Global,
+    settings: &AnalysisOptions,
+    program: &Checked,
+    steps: &mut Steps<L>,
+) -> Result<Vec<u8>, Memory>
+    ensures bytes { IfOk result (λ v.
+        v.items ≡ batch_bytes settings.now.domain (engine_of settings.now) program.now) }
+{
+    match settings.domain {
+        DomainName::Interval => listed_by(alloc, &Interval, settings, program, steps),
+        DomainName::Octagon => listed_by(alloc, &Octagon, settings, program, steps),
+        DomainName::ListSeg => listed_by(alloc, &ListSeg, settings, program, steps),
+        DomainName::IntervalListSeg => {
+            let pair = Pair::new(Interval, ListSeg);
+            listed_by(alloc, &pair, settings, program, steps)
+        }
+        DomainName::OctagonListSeg => {
+            let pair = Pair::new(Octagon, ListSeg);
+            listed_by(alloc, &pair, settings, program, steps)
+        }
+    }
+}
+
+/// What `batch` gives for the program of a file.
+pub fn batch<F: Files, L: Ledger>(
+    alloc: Global,
+    settings: &AnalysisOptions,
+    name: &str,
+    files: &mut F,
+    steps: &mut Steps<L>,
+) -> Result<Vec<u8>, JobError>
+    ensures gives { GivesTask (F.told files.old) name.now (Batch settings.now) result }
+    ensures missing { IsErrOf result JobError.Files →
+        (Rose (F.faults files.old) (F.faults files.new)) ⊎ (Lacks (F.told files.old) name.now) }
+{
+    let program = load_checked(alloc, name, files)?;
+    let bytes = listed(alloc, settings, &program, steps)?;
+    Ok(bytes)
+}
