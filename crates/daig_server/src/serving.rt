@@ -53,6 +53,7 @@ use std::sync::ledger::Ledger;
 /// bytes.
 ///
 /// Of `serve` each line costs what is missing for it in the cells that are kept; a line and its reply are kept at a time.
+/// What it keeps is not freed at the end: the program ends with the job.
 pub fn serve<F: Files, I: Source, O: Sink, L: Ledger>(
     alloc: Global,
     words: &[String],

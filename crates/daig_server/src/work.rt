@@ -20,6 +20,7 @@ use serve_command::{AnalysisOptions, DomainName};
 use serve_output::{Named, Status};
 use serve_script::{Answerer, Stop, answer_script};
 use std::alloc::Global;
+use std::mem;
 use std::sync::ledger::Ledger;
 
 /// Answers the script.
@@ -71,7 +72,12 @@ fn serve_by<D: Named, I: Source, O: Sink, L: Ledger>(
         result }
 {
     match Server::start(alloc, domain, settings, memo, table) {
-        Ok(mut server) => serve_lines(alloc, &mut server, script, out, steps),
+        Ok(mut server) => {
+            let status = serve_lines(alloc, &mut server, script, out, steps);
+            // the process ends now, which gives all memory back at once
+            mem::forget(server);
+            status
+        }
         Err(_) => Status::Memory,
     }
 }
