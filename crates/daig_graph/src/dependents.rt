@@ -49,10 +49,7 @@ fn use_after(links: &[Links], one: Use) -> UseLink
     ensures next { result ≡ next_at links.now one }
 {
     match links.get(one.cell) {
-        Some(found) => match found.beside.as_slice().get(one.place) {
-            Some(beside) => beside.next,
-            None => UseLink::none(),
-        },
+        Some(found) => found.beside(one.place).next,
         None => UseLink::none(),
     }
 }

@@ -2,9 +2,7 @@
 ghost use Rattle.std.specs.Prelude.{◌≡◌, ℕ, ◌^◌, ◌<◌, [], None, Some, suc};
 
 use crate::graph::Use;
-use smallvec::SmallVec;
-use std::alloc::Global;
-use std::default::MadeWith;
+use std::alloc::{AllocError, Global};
 use std::marker::Model;
 
 /// A cell, or none, in the memory of a number.
@@ -130,33 +128,59 @@ pub(crate) struct Beside {
     pub(crate) next: UseLink,
 }
 
-impl MadeWith<Global> for Beside {
-    #[inline]
-    fn made_with(_alloc: Global) -> Beside {
-        Beside {
-            before: UseLink::none(),
-            next: UseLink::none(),
-        }
-    }
-}
-
 /// The first use of a number, and the neighbours of its uses of its inputs, from left to right.
 #[derive(Drop)]
 pub(crate) struct Links {
     pub(crate) first: UseLink,
-    pub(crate) beside: SmallVec<Beside, 2>,
+    // of the uses of the first two inputs, and of those beyond
+    pub(crate) few: [Beside; 2],
+    pub(crate) many: Vec<Beside>,
+}
+
+/// No neighbours.
+#[inline]
+fn alone() -> Beside {
+    Beside {
+        before: UseLink::none(),
+        next: UseLink::none(),
+    }
 }
 
 impl Links {
     /// Of a number that neither is used nor has inputs. It takes no memory.
     #[inline]
     pub(crate) fn new(alloc: Global) -> Links
-        ensures first { result.first ≡ None }
-        ensures beside { result.beside.items ≡ [] }
     {
         Links {
             first: UseLink::none(),
-            beside: SmallVec::new(alloc),
+            few: [alone(); 2],
+            many: Vec::new(alloc),
+        }
+    }
+
+    #[inline]
+    pub(crate) fn reserve(&mut self, inputs: usize) -> Result<(), AllocError> {
+        if inputs > 2 {
+            return self.many.resize(inputs - 2, alone());
+        }
+        Ok(())
+    }
+
+    #[inline]
+    pub(crate) fn beside(&self, place: usize) -> Beside {
+        if place < 2 {
+            self.few[place]
+        } else {
+            self.many[place - 2]
+        }
+    }
+
+    #[inline]
+    pub(crate) fn beside_mut(&mut self, place: usize) -> &mut Beside {
+        if place < 2 {
+            &mut self.few[place]
+        } else {
+            &mut self.many[place - 2]
         }
     }
 }

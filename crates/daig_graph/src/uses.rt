@@ -11,7 +11,6 @@ use crate::graph::Use;
 use crate::inputs::Inputs;
 use crate::links::{Beside, Links, UseLink};
 use base_values::Memory;
-use smallvec::SmallVec;
 use std::alloc::{AllocError, Global};
 use std::marker::Model;
 use std::mem;
@@ -125,7 +124,7 @@ impl Uses {
     {
         unlink_all(&mut self.links, cell, self.inputs[cell].as_slice());
         let mut inputs = mem::replace(&mut self.inputs[cell], Inputs::new(alloc));
-        move_room(alloc, &mut self.links, cell, to);
+        self.links[to].many = mem::replace(&mut self.links[cell].many, Vec::new(alloc));
         inputs.renumber(new_of);
         link_all(&mut self.links, to, inputs.as_slice());
         self.inputs[to] = inputs;
@@ -144,50 +143,26 @@ impl Uses {
     }
 }
 
-/// Room for the neighbours of so many uses of a number that has none.
+
 #[inline]
 fn reserve_links(links: &mut Vec<Links>, cell: usize, count: usize) -> Result<(), AllocError>
-    requires place { cell < length links.old.items }
-    requires none { besides links.old.items cell ≡ [] }
-    ensures room { OnOk result (HasRoom links.new.items cell count) }
-    ensures same { AreSame links.old.items links.new.items }
 {
-    links[cell].beside.reserve(count)
+    if count > 2 {
+        return links[cell].reserve(count);
+    }
+    Ok(())
 }
 
-/// The room for the neighbours of a number's uses becomes that of another. Neither has any.
-fn move_room(alloc: Global, links: &mut Vec<Links>, cell: usize, to: usize)
-    requires cell { cell < length links.old.items }
-    requires to { to < length links.old.items }
-    requires none { besides links.old.items cell ≡ [] }
-    requires none_there { besides links.old.items to ≡ [] }
-    ensures room { (count : ℕ) → HasRoom links.old.items cell count → HasRoom links.new.items to count }
-    ensures same { AreSame links.old.items links.new.items }
-{
-    let beside = mem::replace(&mut links[cell].beside, SmallVec::new(alloc));
-    links[to].beside = beside;
-}
-
-/// Puts the uses of these inputs of a cell, which has none yet, on their lists.
 #[inline]
 fn link_all(links: &mut Vec<Links>, cell: usize, inputs: &[usize])
-    requires cell { suc cell < 2 ^ 64 }
-    requires room { HasRoom links.old.items cell (length inputs.now) }
-    requires threaded { AreThreadedWith links.old.items cell [] }
-    requires inputs { AllBelow inputs.now (length links.old.items) }
-    ensures threads { Threads links.old.items links.new.items cell [] inputs.now }
 {
     for (place, input) in inputs.iter().enumerate() {
         link_one(links, cell, place, *input);
     }
 }
 
-/// Takes the uses of all inputs of a cell off their lists, from the last on.
 #[inline]
 fn unlink_all(links: &mut Vec<Links>, cell: usize, inputs: &[usize])
-    requires threaded { AreThreadedWith links.old.items cell inputs.now }
-    ensures threads { Threads links.old.items links.new.items cell inputs.now [] }
-    ensures room { (count : ℕ) → HasRoom links.old.items cell count → HasRoom links.new.items cell (count + length inputs.now) }
 {
     let mut place = inputs.len();
     while place > 0 {
@@ -196,83 +171,47 @@ fn unlink_all(links: &mut Vec<Links>, cell: usize, inputs: &[usize])
     }
 }
 
-/// Puts a use, the next of its cell, before the list of its input.
 #[inline]
 fn link_one(links: &mut Vec<Links>, cell: usize, place: usize, input: usize)
-    requires cell { suc cell < 2 ^ 64 }
-    requires place { place ≡ length (besides links.old.items cell) }
-    requires input { input < length links.old.items }
-    requires room { HasRoom links.old.items cell 1 }
-    requires first { (u : Use) → first_at links.old.items input ≡ Some u →
-        IsSome (beside_at links.old.items u) }
-    ensures puts { PutsUse links.old.items links.new.items
-        (record { cell = cell; place = place }) input }
-    ensures room { (count : ℕ) → HasRoom links.old.items cell (suc count) →
-        HasRoom links.new.items cell count }
 {
     let link = UseLink::to(cell, place);
     let next = links[input].first;
     links[input].first = link;
-    links[cell].beside.push_reserved(Beside {
+    let beside = links[cell].beside_mut(place);
+    *beside = Beside {
         before: UseLink::none(),
         next,
-    });
+    };
     set_before(links, next, link);
 }
 
-/// Takes the last use of a cell off the list of its input.
 #[inline]
 fn unlink_last(links: &mut Vec<Links>, cell: usize, place: usize, input: usize)
-    requires place { length (besides links.old.items cell) ≡ suc place }
-    requires input { input < length links.old.items }
-    requires neighbours { (b : Beside) → beside_at links.old.items (record { cell = cell; place = place }) ≡ Some b → HasNeighbours links.old.items (record { cell = cell; place = place }) b }
-    ensures takes { (b : Beside) → beside_at links.old.items (record { cell = cell; place = place }) ≡ Some b → TakesUse links.old.items links.new.items (record { cell = cell; place = place }) b input }
-    ensures room { (count : ℕ) → HasRoom links.old.items cell count → HasRoom links.new.items cell (suc count) }
 {
-    if let Some(Beside { before, next }) = links[cell].beside.pop() {
-        set_next(links, input, before, next);
-        set_before(links, next, before);
-    }
+    let Beside { before, next } = links[cell].beside(place);
+    set_next(links, input, before, next);
+    set_before(links, next, before);
 }
 
-/// Another use, or none, comes before that of a link, if there is one.
 #[inline]
 fn set_before(links: &mut Vec<Links>, link: UseLink, before: UseLink)
-    requires there { (u : Use) → link ≡ Some u → IsSome (beside_at links.old.items u) }
-    ensures set { (u : Use) (b : Beside) → link ≡ Some u → beside_at links.old.items u ≡ Some b →
-        beside_at links.new.items u ≡ Some (record b { before = before }) }
-    ensures others { (u : Use) → link ≢ Some u →
-        beside_at links.new.items u ≡ beside_at links.old.items u }
-    ensures firsts { (n : ℕ) → first_at links.new.items n ≡ first_at links.old.items n }
-    ensures shape { HaveOneShape links.old.items links.new.items }
 {
     if let Some(Use { cell, place }) = link.used() {
-        let beside = links[cell].beside.as_mut_slice();
-        beside[place].before = before;
+        let beside = links[cell].beside_mut(place);
+        beside.before = before;
     }
 }
 
-/// Another use, or none, comes after that of a link, or is the first of a number where there is no link.
 #[inline]
 fn set_next(links: &mut Vec<Links>, number: usize, link: UseLink, next: UseLink)
-    requires number { number < length links.old.items }
-    requires there { (u : Use) → link ≡ Some u → IsSome (beside_at links.old.items u) }
-    ensures set { (u : Use) (b : Beside) → link ≡ Some u → beside_at links.old.items u ≡ Some b →
-        beside_at links.new.items u ≡ Some (record b { next = next }) }
-    ensures others { (u : Use) → link ≢ Some u →
-        beside_at links.new.items u ≡ beside_at links.old.items u }
-    ensures first { link ≡ None → first_at links.new.items number ≡ next }
-    ensures firsts { (n : ℕ) → (link ≡ None → n ≢ number) →
-        first_at links.new.items n ≡ first_at links.old.items n }
-    ensures shape { HaveOneShape links.old.items links.new.items }
 {
     match link.used() {
         None => {
             links[number].first = next;
         }
         Some(Use { cell, place }) => {
-            let beside = links[cell].beside.as_mut_slice();
-            beside[place].next = next;
+            let beside = links[cell].beside_mut(place);
+            beside.next = next;
         }
     }
 }
