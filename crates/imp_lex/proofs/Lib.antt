@@ -1,4 +1,5 @@
 pub mod Digits
+pub mod Lengths
 pub mod Fronts
 pub mod Answered
 pub mod Spelled

@@ -1,5 +1,5 @@
 -- The token that a whole text is: a reserved word, a name, a number or a mark.
-use Rattle.std.specs.Prelude.{ℕ, nat_le, List, [], ◌∷◌, length, Option, Some, None, codes, if◌then◌else◌}
+use Rattle.std.specs.Prelude.{ℕ, nat_le, ◌==◌, List, [], ◌∷◌, length, Option, Some, None, codes, if◌then◌else◌}
 use Rattle.std.specs.Str.{bytes_eq}
 use Rattle.imp_lex.specs.declared.token.Word.{Word}
 use Rattle.imp_lex.specs.declared.token.Word.TheVariants as w
@@ -14,6 +14,11 @@ use Rattle.imp_lex.specs.Numbers.{value_on}
 abbrev pub look_up : {A : Type 0} → List ℕ → List (List ℕ × A) → Option A
 look_up text [] = None
 look_up text (entry ∷ entries) = if bytes_eq text entry.0 then Some entry.1 else look_up text entries
+
+-- the entries of a table whose texts have this length
+abbrev pub of_length : {A : Type 0} → ℕ → List (List ℕ × A) → List (List ℕ × A)
+of_length n [] = []
+of_length n (entry ∷ entries) = if length entry.0 == n then entry ∷ of_length n entries else of_length n entries
 
 -- the reserved words
 abbrev pub reserved_words : List (List ℕ × Word)

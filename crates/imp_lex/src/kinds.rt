@@ -1,7 +1,7 @@
 //! The token that a whole text is: a word, a number or a mark.
 ghost use Rattle.std.specs.Prelude.{◌≡◌, [], ◌∷◌, IfOk};
 ghost use Rattle.std.specs.Str.{bytes_eq};
-ghost use Rattle.imp_lex.specs.Kinds.{reserved_word, word_kind, number_kind, mark_of};
+ghost use Rattle.imp_lex.specs.Kinds.{look_up, of_length, reserved_words, reserved_word, word_kind, number_kind, mark_of};
 
 use crate::{Mark, TokenKind, Word};
 use base_values::{Memory, Number, Text};
@@ -28,46 +28,92 @@ pub(crate) fn word_kind(alloc: Global, word: &[u8]) -> Result<Option<TokenKind>,
     Ok(Some(TokenKind::Name(name)))
 }
 
-#[tactic(auto, unfolding(crate::specs::Kinds::reserved_word))]
+/// The reserved word that this is. It is compared only with those of its length.
+#[tactic(auto, using(crate::proofs::Lengths::of_two, crate::proofs::Lengths::of_three, crate::proofs::Lengths::of_four, crate::proofs::Lengths::of_five, crate::proofs::Lengths::of_six, crate::proofs::Lengths::of_no_word))]
 pub(crate) fn reserved_word(word: &[u8]) -> Option<Word>
     ensures is { result ≡ reserved_word word.now }
 {
-    if is(word, b"proc") {
-        Some(Word::Proc)
-    } else if is(word, b"var") {
+    match word.len() {
+        2 => two_letters(word),
+        3 => three_letters(word),
+        4 => four_letters(word),
+        5 => five_letters(word),
+        6 => six_letters(word),
+        _ => None,
+    }
+}
+
+fn two_letters(word: &[u8]) -> Option<Word>
+    ensures is { result ≡ look_up word.now (of_length 2 reserved_words) }
+{
+    if is(word, b"if") {
+        Some(Word::If)
+    } else {
+        None
+    }
+}
+
+fn three_letters(word: &[u8]) -> Option<Word>
+    ensures is { result ≡ look_up word.now (of_length 3 reserved_words) }
+{
+    if is(word, b"var") {
         Some(Word::Var)
     } else if is(word, b"int") {
         Some(Word::Int)
-    } else if is(word, b"array") {
-        Some(Word::Array)
+    } else if is(word, b"new") {
+        Some(Word::New)
+    } else if is(word, b"len") {
+        Some(Word::Len)
+    } else {
+        None
+    }
+}
+
+fn four_letters(word: &[u8]) -> Option<Word>
+    ensures is { result ≡ look_up word.now (of_length 4 reserved_words) }
+{
+    if is(word, b"proc") {
+        Some(Word::Proc)
     } else if is(word, b"list") {
         Some(Word::List)
     } else if is(word, b"skip") {
         Some(Word::Skip)
-    } else if is(word, b"input") {
-        Some(Word::Input)
     } else if is(word, b"null") {
         Some(Word::Null)
-    } else if is(word, b"new") {
-        Some(Word::New)
     } else if is(word, b"next") {
         Some(Word::Next)
     } else if is(word, b"item") {
         Some(Word::Item)
-    } else if is(word, b"assert") {
-        Some(Word::Assert)
-    } else if is(word, b"if") {
-        Some(Word::If)
     } else if is(word, b"else") {
         Some(Word::Else)
-    } else if is(word, b"while") {
-        Some(Word::While)
     } else if is(word, b"call") {
         Some(Word::Call)
-    } else if is(word, b"len") {
-        Some(Word::Len)
+    } else {
+        None
+    }
+}
+
+fn five_letters(word: &[u8]) -> Option<Word>
+    ensures is { result ≡ look_up word.now (of_length 5 reserved_words) }
+{
+    if is(word, b"array") {
+        Some(Word::Array)
+    } else if is(word, b"input") {
+        Some(Word::Input)
+    } else if is(word, b"while") {
+        Some(Word::While)
     } else if is(word, b"break") {
         Some(Word::Break)
+    } else {
+        None
+    }
+}
+
+fn six_letters(word: &[u8]) -> Option<Word>
+    ensures is { result ≡ look_up word.now (of_length 6 reserved_words) }
+{
+    if is(word, b"assert") {
+        Some(Word::Assert)
     } else {
         None
     }
