@@ -18,6 +18,8 @@ use Rattle.imp_parse.specs.Reader.{Stop, Unexpected, Out}
 use Rattle.imp_parse.specs.Limits.{too_deep}
 use Rattle.imp_parse.specs.Answer.{IsTokenAnswer, IsAnswer, OfTokens, HasTree, IsFault, IsOnlyAnswer, HasOneAnswer}
 use Rattle.imp_parse.specs.Judged.{Gives, finished, cut, judged, of_lex}
+use Rattle.imp_parse.specs.Scanned.{IsScanned, IsLexicalFault}
+use Rattle.imp_parse.specs.declared.scanned.Scanned.{Scanned}
 use Rattle.imp_parse.proofs.Exact.{Reader, Exact}
 use Rattle.imp_parse.proofs.Judge.{token_unique, one_tree, judged_answer, never_out}
 
@@ -93,25 +95,26 @@ module _ {A : Type 0} (G : Language A) (p : Nesting) (one : (ts : List TokenKind
   fault_alone text fault sole real (Err (e.Lex other)) h = elim (sole (Err other) h) [ inl same ↦ let is : fault ≡ other = cc in ap (λ q. Err (e.Lex q)) is | inr wrong ↦ absurd (real cc) ]
   fault_alone text fault sole real (Err e.Memory) h = absurd h
 
-  pub lex_answer : (text : List ℕ) (fault : LexError) → lexing.IsFault text fault → lexing.IsOnlyAnswer text (Err fault) → Answers G p text (Err (of_lex fault))
+  lex_answer : (text : List ℕ) (fault : LexError) → lexing.IsFault text fault → lexing.IsOnlyAnswer text (Err fault) → Answers G p text (Err (of_lex fault))
   lex_answer text lex.Memory is sole = by_memory text
   lex_answer text (lex.BadByte at) is sole = right_one text (Err (e.Lex (lex.BadByte at))) is (fault_alone text (lex.BadByte at) sole (λ h. cc))
   lex_answer text (lex.NumberTooBig at) is sole = right_one text (Err (e.Lex (lex.NumberTooBig at))) is (fault_alone text (lex.NumberTooBig at) sole (λ h. cc))
   lex_answer text (lex.NameTooLong at) is sole = right_one text (Err (e.Lex (lex.NameTooLong at))) is (fault_alone text (lex.NameTooLong at) sole (λ h. cc))
 
 module _ {A : Type 0} (G : Language A) (on : TokenKind → Bool) (r : Reader A) (exact : (n : ℕ) → Exact n G on r) (p : Nesting) where
-  -- an answer by the reader, where the budgets were scanned
-  pub text_answer : (text : List ℕ) (tokens : List Token) → lexing.IsLexed 0 text tokens → lexing.IsOnlyAnswer text (Ok tokens) → (slice : List Token) → slice ≡ tokens → (start : Nesting) → start ≡ p
-      → (deep : Option ℕ) → deep ≡ too_deep start (kinds slice) → (upto : List TokenKind) → upto ≡ cut deep (kinds slice)
-      → (read : Result A Stopped) → Gives (λ x. x) read (finished (r upto)) → (result : Result A ParseError) → result ≡ judged deep (length slice) read → Answers G p text result
-  text_answer text tokens lexed sole slice whole start here deep is upto cuts read gives result judge =
-      let ts : List TokenKind = kinds tokens in
-      let whole_kinds : kinds slice ≡ ts = ap kinds whole in
-      let first : deep ≡ too_deep p ts = is ∙ ap (λ q. too_deep q (kinds slice)) here ∙ ap (too_deep p) whole_kinds in
-      let len : length slice ≡ length ts = ap length whole ∙ sym (simp length-map) in
-      let given : Gives (λ x. x) read (finished (r (cut (too_deep p ts) ts))) = subst (λ q. Gives (λ x. x) read (finished (r q))) (cuts ∙ ap (cut deep) whole_kinds ∙ ap (λ d. cut d ts) first) gives in
-      let same : result ≡ judged (too_deep p ts) (length ts) read = judge ∙ ap (λ n. judged deep n read) len ∙ ap (λ d. judged d (length ts) read) first in
-      subst (Answers G p text) (sym same) (lexed_answer G p (one_tree G on r exact) text tokens lexed sole (judged (too_deep p ts) (length ts) read) (judged_answer G on r exact p ts read given))
+  -- an answer by the reader, of the tokens that are not too deep
+  pub scanned_answer : (text : List ℕ) (scanned : Scanned) → IsScanned p text scanned → (readable : List TokenKind) → readable ≡ cut scanned.deep (kinds scanned.tokens)
+      → (read : Result A Stopped) → Gives (λ x. x) read (finished (r readable)) → (result : Result A ParseError) → result ≡ judged scanned.deep (length scanned.tokens) read → Answers G p text result
+  scanned_answer text scanned is readable cuts read gives result judge =
+      let ts : List TokenKind = kinds scanned.tokens in
+      let len : length scanned.tokens ≡ length ts = sym (simp length-map) in
+      let given : Gives (λ x. x) read (finished (r (cut (too_deep p ts) ts))) = subst (λ q. Gives (λ x. x) read (finished (r q))) (cuts ∙ ap (λ d. cut d ts) is.deep) gives in
+      let same : result ≡ judged (too_deep p ts) (length ts) read = judge ∙ ap (λ n. judged scanned.deep n read) len ∙ ap (λ d. judged d (length ts) read) is.deep in
+      subst (Answers G p text) (sym same) (lexed_answer G p (one_tree G on r exact) text scanned.tokens is.lexed is.only (judged (too_deep p ts) (length ts) read) (judged_answer G on r exact p ts read given))
+
+  -- that of a text whose tokens were not read
+  pub unscanned_answer : (text : List ℕ) (error : ParseError) → IsLexicalFault text error → Answers G p text (Err error)
+  unscanned_answer text error h = subst (λ e. Answers G p text (Err e)) (sym h.is) (lex_answer G p (one_tree G on r exact) text h.fault h.faulty h.only)
 
   -- ---- each text has one answer
 

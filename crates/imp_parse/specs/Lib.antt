@@ -15,3 +15,4 @@ pub mod Answer
 pub mod Judged
 pub mod Languages
 pub mod Parts
+pub mod Scanned

@@ -26,6 +26,7 @@ mod limits;
 mod marks;
 mod parse;
 mod procedure;
+mod scanned;
 mod simple;
 mod statement;
 

@@ -1,7 +1,7 @@
 //! The five readings of a text.
-ghost use Rattle.std.specs.Prelude.{◌≡◌, ℕ, ◌+◌, ◌^◌, ◌<◌, ◌≤◌, length, Ok, IfOk, IfErr, IfSome};
+ghost use Rattle.std.specs.Prelude.{◌≡◌, ℕ, ◌+◌, ◌^◌, ◌<◌, ◌≤◌, length, Ok, IfOk, IfErr};
 ghost use Rattle.imp_parse.specs.Answer.{HasTree, IsFault, IsOnlyAnswer, HasOneAnswer};
-ghost use Rattle.imp_parse.specs.Judged.{Gives, finished, cut, judged};
+ghost use Rattle.imp_parse.specs.Judged.{Gives, finished};
 ghost use Rattle.imp_parse.specs.Kinds.{kinds};
 ghost use Rattle.imp_parse.specs.Languages.{SimpleText, BodyText, ProcedureText, ConditionText, ProgramText};
 ghost use Rattle.imp_parse.specs.Limits.{inside, outside};
@@ -11,10 +11,10 @@ ghost use Rattle.imp_parse.specs.StatementReading.{numbered_at, body_at};
 
 use crate::condition::condition;
 use crate::error::{ParseError, Stopped};
-use crate::limits::{Nesting, first_too_deep};
 use crate::procedure::{procedure, program};
+use crate::scanned::Scanned;
 use crate::statement::{numbered, statements};
-use imp_lex::{Token, each_text_has_one_answer as tokens_have_one_answer, tokens};
+use imp_lex::{Token, each_text_has_one_answer as tokens_have_one_answer};
 use imp_syntax::{Block, Cond, Proc, Program, Stmt};
 use std::alloc::Global;
 
@@ -25,47 +25,6 @@ fn finish<X: Drop>(value: X, rest: &[Token]) -> Result<X, Stopped>
     match rest {
         [] => Ok(value),
         _ => Err(Stopped::Unexpected(rest.len())),
-    }
-}
-
-/// The tokens up to the first that is too deep, with it.
-#[tactic(auto, using(crate::proofs::Texts::kinds_take))]
-fn up_to(deep: Option<usize>, tokens: &[Token]) -> &[Token]
-    requires within { IfSome deep (λ i. i < length tokens.now) }
-    ensures is { kinds result.now ≡ cut deep (kinds tokens.now) }
-    ensures shorter { length result.now ≤ length tokens.now }
-{
-    match deep {
-        None => tokens,
-        Some(i) => &tokens[..i + 1],
-    }
-}
-
-/// The answer, from where the first token too deep stands, how many tokens there are, and what
-/// was read of those up to it.
-fn judge<X: Drop>(
-    deep: Option<usize>,
-    total: usize,
-    read: Result<X, Stopped>,
-) -> Result<X, ParseError>
-    ensures is { result ≡ judged deep total read }
-{
-    match read {
-        Ok(tree) => match deep {
-            None => Ok(tree),
-            Some(i) => Err(ParseError::TooDeep(i)),
-        },
-        Err(Stopped::Memory) => Err(ParseError::Memory),
-        Err(Stopped::Unexpected(left)) => match deep {
-            None => Err(ParseError::Unexpected(total.saturating_sub(left))),
-            Some(i) => {
-                if left == 0 {
-                    Err(ParseError::TooDeep(i))
-                } else {
-                    Err(ParseError::Unexpected(i.saturating_sub(left - 1)))
-                }
-            }
-        },
     }
 }
 
@@ -122,11 +81,8 @@ pub fn parse_program(alloc: Global, text: &[u8]) -> Result<Program, ParseError>
     ensures faulty { IfErr result (IsFault ProgramText outside text.now) }
     ensures only { IsOnlyAnswer ProgramText outside text.now result }
 {
-    let found = tokens(alloc, text)?;
-    let tokens = found.as_slice();
-    let deep = first_too_deep(Nesting::new(0), tokens);
-    let read = whole_program(alloc, up_to(deep, tokens));
-    judge(deep, tokens.len(), read)
+    let scanned = Scanned::new(alloc, text, 0)?;
+    scanned.judge(whole_program(alloc, scanned.readable()))
 }
 
 /// The procedure that a text is, its statements numbered from `next` on in the order of the text,
@@ -142,11 +98,8 @@ pub fn parse_proc(alloc: Global, text: &[u8], next: u32) -> Result<(Proc, u32), 
     ensures faulty { IfErr result (IsFault (ProcedureText next) outside text.now) }
     ensures only { IsOnlyAnswer (ProcedureText next) outside text.now result }
 {
-    let found = tokens(alloc, text)?;
-    let tokens = found.as_slice();
-    let deep = first_too_deep(Nesting::new(0), tokens);
-    let read = whole_procedure(alloc, next, up_to(deep, tokens));
-    judge(deep, tokens.len(), read)
+    let scanned = Scanned::new(alloc, text, 0)?;
+    scanned.judge(whole_procedure(alloc, next, scanned.readable()))
 }
 
 /// The statements that a text is, as a block, numbered from `next` on in the order of the text,
@@ -162,11 +115,8 @@ pub fn parse_stmts(alloc: Global, text: &[u8], next: u32) -> Result<(Block, u32)
     ensures faulty { IfErr result (IsFault (BodyText next) inside text.now) }
     ensures only { IsOnlyAnswer (BodyText next) inside text.now result }
 {
-    let found = tokens(alloc, text)?;
-    let tokens = found.as_slice();
-    let deep = first_too_deep(Nesting::new(1), tokens);
-    let read = whole_body(alloc, next, up_to(deep, tokens));
-    judge(deep, tokens.len(), read)
+    let scanned = Scanned::new(alloc, text, 1)?;
+    scanned.judge(whole_body(alloc, next, scanned.readable()))
 }
 
 /// The simple statement that a text is, with the number `next`, and the next number.
@@ -181,11 +131,8 @@ pub fn parse_simple(alloc: Global, text: &[u8], next: u32) -> Result<(Stmt, u32)
     ensures faulty { IfErr result (IsFault (SimpleText next) inside text.now) }
     ensures only { IsOnlyAnswer (SimpleText next) inside text.now result }
 {
-    let found = tokens(alloc, text)?;
-    let tokens = found.as_slice();
-    let deep = first_too_deep(Nesting::new(1), tokens);
-    let read = whole_simple(alloc, next, up_to(deep, tokens));
-    judge(deep, tokens.len(), read)
+    let scanned = Scanned::new(alloc, text, 1)?;
+    scanned.judge(whole_simple(alloc, next, scanned.readable()))
 }
 
 /// The condition that a text is.
@@ -199,11 +146,8 @@ pub fn parse_cond(alloc: Global, text: &[u8]) -> Result<Cond, ParseError>
     ensures faulty { IfErr result (IsFault ConditionText inside text.now) }
     ensures only { IsOnlyAnswer ConditionText inside text.now result }
 {
-    let found = tokens(alloc, text)?;
-    let tokens = found.as_slice();
-    let deep = first_too_deep(Nesting::new(1), tokens);
-    let read = whole_condition(alloc, up_to(deep, tokens));
-    judge(deep, tokens.len(), read)
+    let scanned = Scanned::new(alloc, text, 1)?;
+    scanned.judge(whole_condition(alloc, scanned.readable()))
 }
 
 /// A text has its tree or a fault, one answer and no other, for each of the five readings.
