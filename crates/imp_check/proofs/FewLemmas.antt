@@ -68,13 +68,14 @@ variables_few seen (d ∷ ds) h k =
     let r = variables_few (seen ++ d ∷ []) ds p.1 (variable_few seen d p.0) in
     rw (append_assoc seen (d ∷ []) ds) at r
 
+pub few_of : (p : Procedure) → variables_fault [] (variables p) ≡ None → HasFew p
+few_of p v = let few = variables_few [] (variables p) v (omega arith, omega arith) in record { numbers = few.0; links = few.1 }
+
 procedure_few : (earlier others : List Procedure) (p : Procedure) → procedure_fault earlier others p ≡ None → HasFew p
 procedure_few earlier others p h =
     let block = block_fault (record { earlier = earlier; others = others; variables = variables p }) false p.body in
     let r = (first_none (at 0 (unless (not (is_named earlier p.name)) Redeclared)) (first (at 0 (variables_fault [] (variables p))) block) h).1 in
-    let v = at_none 0 (variables_fault [] (variables p)) (first_none (at 0 (variables_fault [] (variables p))) block r).0 in
-    let few = variables_few [] (variables p) v (omega arith, omega arith) in
-    record { numbers = few.0; links = few.1 }
+    few_of p (at_none 0 (variables_fault [] (variables p)) (first_none (at 0 (variables_fault [] (variables p))) block r).0)
 
 procedures_few : (earlier ps : List Procedure) → procedures_fault earlier ps ≡ None → EachHasFew ps
 procedures_few earlier [] h = tt

@@ -52,10 +52,10 @@ routine_there earlier [] i q P f h = cc
 routine_there earlier (p ∷ ps) zero q P f h = let e : p ≡ q = cc in f (routine_of earlier p) (ap layout_in e)
 routine_there earlier (p ∷ ps) (suc i) q P f h = routine_there (earlier ++ p ∷ []) ps i q P f h
 
-action_none : (vs : List Declaration) (a : Action) → action_fault vs a ≡ None → fits_action vs a ≡ true
+pub action_none : (vs : List Declaration) (a : Action) → action_fault vs a ≡ None → fits_action vs a ≡ true
 action_none vs a h = unless_none (fits_action vs a) WrongKind (first_none (unless (knows_action vs a) UnknownName) (unless (fits_action vs a) WrongKind) h).1
 
-condition_none : (vs : List Declaration) (c : Condition) → condition_fault vs c ≡ None → fits_condition vs c ≡ true
+pub condition_none : (vs : List Declaration) (c : Condition) → condition_fault vs c ≡ None → fits_condition vs c ≡ true
 condition_none vs c h = unless_none (fits_condition vs c) WrongKind (first_none (unless (knows_condition vs c) UnknownName) (unless (fits_condition vs c) WrongKind) h).1
 
 call_at : (vs : List Declaration) (earlier : List Procedure) (x : Option (List ℕ)) (es : List Operand) (i : ℕ) (q : Procedure) → slice_get earlier i ≡ Some q → fits_invoke (layout_of vs) (invoke_of (layout_of vs) x es (Some q)) ≡ true → FitsCall (layout_of vs) (invoke_of (layout_of vs) x es (slice_get earlier i)) (slice_get (routines_of earlier) i)

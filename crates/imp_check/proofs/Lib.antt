@@ -11,6 +11,7 @@ pub mod FitsTerms
 pub mod FitsActions
 pub mod FitsBlocks
 pub mod FitsPrograms
+pub mod SingleLemmas
 pub mod SmallLemmas
 pub mod SiteLemmas
 pub mod RebuildLemmas

@@ -18,3 +18,4 @@ pub mod Fine
 pub mod Walks
 pub mod Puts
 pub mod Small
+pub mod Single

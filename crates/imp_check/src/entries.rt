@@ -52,7 +52,8 @@ fn guard_form(alloc: Global, slots: &Slots, cond: &Cond) -> Result<SlotForm, Mem
 }
 
 /// What a statement does, over slots.
-fn form_in(alloc: Global, resolver: &Resolver, stmt: &Stmt) -> Result<SlotForm, Memory>
+#[inline(always)]
+pub(crate) fn form_in(alloc: Global, resolver: &Resolver, stmt: &Stmt) -> Result<SlotForm, Memory>
     ensures is { IfOk result (λ form. form ≡ form_in resolver.now stmt.now) }
 {
     match stmt.node() {

@@ -6,17 +6,18 @@ ghost use Rattle.imp_syntax.specs.ActionViews.{action_of, operands_of};
 ghost use Rattle.imp_check.specs.Small.{small_expression, small_operand, small_operands, small_condition, small_action};
 ghost use Rattle.imp_check.specs.Kinds.{knows, knows_expression, knows_operand, knows_operands, knows_condition, knows_action, int, array, link, int_expression, int_operand, array_expression, link_expression, array_operand, link_operand, is_equality, fits_condition, fits_assign, fits_action};
 
-use crate::names::{is_array, is_int, is_link, kind_of};
+use crate::names::{is_array, is_int, is_link};
+use crate::variables::Variables;
 use base_values::Text;
-use imp_syntax::{Action, Cond, CondNode, Declaration, Expr, ExprNode, Relation, Side};
+use imp_syntax::{Action, Cond, CondNode, Expr, ExprNode, Relation, Side};
 
-pub(crate) fn knows(variables: &[Declaration], name: &Text) -> bool
+pub(crate) fn knows(variables: &Variables, name: &Text) -> bool
     ensures is { result ≡ knows variables.now name.now }
 {
-    kind_of(variables, name).is_some()
+    variables.kind_of(name).is_some()
 }
 
-fn knows_expression(variables: &[Declaration], expr: &Expr) -> bool
+fn knows_expression(variables: &Variables, expr: &Expr) -> bool
     ensures is { result ≡ knows_expression variables.now expr.now }
     ensures small { result ≡ true → small_expression expr.now ≡ true }
 {
@@ -34,7 +35,7 @@ fn knows_expression(variables: &[Declaration], expr: &Expr) -> bool
     }
 }
 
-fn knows_operand(variables: &[Declaration], side: &Side) -> bool
+fn knows_operand(variables: &Variables, side: &Side) -> bool
     ensures is { result ≡ knows_operand variables.now (operand_of side.now) }
     ensures small { result ≡ true → small_operand (operand_of side.now) ≡ true }
 {
@@ -45,7 +46,7 @@ fn knows_operand(variables: &[Declaration], side: &Side) -> bool
 }
 
 #[tactic(auto, using(crate::proofs::SmallLemmas::operands_step))]
-pub(crate) fn knows_operands(variables: &[Declaration], sides: &[Side]) -> bool
+pub(crate) fn knows_operands(variables: &Variables, sides: &[Side]) -> bool
     ensures is { result ≡ knows_operands variables.now (operands_of sides.now) }
     ensures small { result ≡ true → small_operands (operands_of sides.now) ≡ true }
 {
@@ -57,7 +58,7 @@ pub(crate) fn knows_operands(variables: &[Declaration], sides: &[Side]) -> bool
     true
 }
 
-pub(crate) fn knows_condition(variables: &[Declaration], cond: &Cond) -> bool
+pub(crate) fn knows_condition(variables: &Variables, cond: &Cond) -> bool
     ensures is { result ≡ knows_condition variables.now cond.now }
     ensures small { result ≡ true → small_condition cond.now ≡ true }
 {
@@ -69,7 +70,7 @@ pub(crate) fn knows_condition(variables: &[Declaration], cond: &Cond) -> bool
     }
 }
 
-pub(crate) fn knows_action(variables: &[Declaration], action: &Action) -> bool
+pub(crate) fn knows_action(variables: &Variables, action: &Action) -> bool
     ensures is { result ≡ knows_action variables.now (action_of action.now) }
     ensures small { result ≡ true → small_action (action_of action.now) ≡ true }
 {
@@ -94,25 +95,25 @@ pub(crate) fn knows_action(variables: &[Declaration], action: &Action) -> bool
     }
 }
 
-fn int(variables: &[Declaration], name: &Text) -> bool
+fn int(variables: &Variables, name: &Text) -> bool
     ensures is { result ≡ int variables.now name.now }
 {
-    is_int(kind_of(variables, name))
+    is_int(variables.kind_of(name))
 }
 
-fn array(variables: &[Declaration], name: &Text) -> bool
+fn array(variables: &Variables, name: &Text) -> bool
     ensures is { result ≡ array variables.now name.now }
 {
-    is_array(kind_of(variables, name))
+    is_array(variables.kind_of(name))
 }
 
-fn link(variables: &[Declaration], name: &Text) -> bool
+fn link(variables: &Variables, name: &Text) -> bool
     ensures is { result ≡ link variables.now name.now }
 {
-    is_link(kind_of(variables, name))
+    is_link(variables.kind_of(name))
 }
 
-fn int_expression(variables: &[Declaration], expr: &Expr) -> bool
+fn int_expression(variables: &Variables, expr: &Expr) -> bool
     ensures is { result ≡ int_expression variables.now expr.now }
 {
     match expr.node() {
@@ -124,7 +125,7 @@ fn int_expression(variables: &[Declaration], expr: &Expr) -> bool
     }
 }
 
-fn array_expression(variables: &[Declaration], expr: &Expr) -> bool
+fn array_expression(variables: &Variables, expr: &Expr) -> bool
     ensures is { result ≡ array_expression variables.now expr.now }
 {
     match expr.node() {
@@ -133,7 +134,7 @@ fn array_expression(variables: &[Declaration], expr: &Expr) -> bool
     }
 }
 
-fn link_expression(variables: &[Declaration], expr: &Expr) -> bool
+fn link_expression(variables: &Variables, expr: &Expr) -> bool
     ensures is { result ≡ link_expression variables.now expr.now }
 {
     match expr.node() {
@@ -142,7 +143,7 @@ fn link_expression(variables: &[Declaration], expr: &Expr) -> bool
     }
 }
 
-pub(crate) fn int_operand(variables: &[Declaration], side: &Side) -> bool
+pub(crate) fn int_operand(variables: &Variables, side: &Side) -> bool
     ensures is { result ≡ int_operand variables.now (operand_of side.now) }
 {
     match side {
@@ -151,7 +152,7 @@ pub(crate) fn int_operand(variables: &[Declaration], side: &Side) -> bool
     }
 }
 
-pub(crate) fn array_operand(variables: &[Declaration], side: &Side) -> bool
+pub(crate) fn array_operand(variables: &Variables, side: &Side) -> bool
     ensures is { result ≡ array_operand variables.now (operand_of side.now) }
 {
     match side {
@@ -160,7 +161,7 @@ pub(crate) fn array_operand(variables: &[Declaration], side: &Side) -> bool
     }
 }
 
-pub(crate) fn link_operand(variables: &[Declaration], side: &Side) -> bool
+pub(crate) fn link_operand(variables: &Variables, side: &Side) -> bool
     ensures is { result ≡ link_operand variables.now (operand_of side.now) }
 {
     match side {
@@ -175,7 +176,7 @@ fn is_equality(relation: Relation) -> bool
     matches!(relation, Relation::Equal | Relation::NotEqual)
 }
 
-pub(crate) fn fits_condition(variables: &[Declaration], cond: &Cond) -> bool
+pub(crate) fn fits_condition(variables: &Variables, cond: &Cond) -> bool
     ensures is { result ≡ fits_condition variables.now cond.now }
 {
     match cond.node() {
@@ -189,7 +190,7 @@ pub(crate) fn fits_condition(variables: &[Declaration], cond: &Cond) -> bool
     }
 }
 
-fn fits_assign(variables: &[Declaration], x: &Text, e: &Expr) -> bool
+fn fits_assign(variables: &Variables, x: &Text, e: &Expr) -> bool
     ensures is { result ≡ fits_assign variables.now x.now e.now }
 {
     (int(variables, x) && int_expression(variables, e))
@@ -197,7 +198,7 @@ fn fits_assign(variables: &[Declaration], x: &Text, e: &Expr) -> bool
         || (link(variables, x) && link_expression(variables, e))
 }
 
-pub(crate) fn fits_action(variables: &[Declaration], action: &Action) -> bool
+pub(crate) fn fits_action(variables: &Variables, action: &Action) -> bool
     ensures is { result ≡ fits_action variables.now (action_of action.now) }
 {
     match action {

@@ -19,6 +19,9 @@
 //! their numbers (`AreOf` of `specs/Tables.antt`); `specs/Rebuilt.antt` makes the tree of them again. The crate
 //! `imp_table` keeps and changes such tables.
 //!
+//! [`own_fault`] and [`own_form`] look at one statement of a procedure, without those inside it: its fault, and what it does
+//! over the slots (`specs/Single.antt`).
+//!
 //! Checking takes time linear in the program, times the variables of a procedure for each name, and
 //! times the procedures for the calls.
 #![tactic(auto)]
@@ -39,9 +42,11 @@ mod programs;
 mod putting;
 mod resolve;
 mod routines;
+mod single;
 mod slots;
 mod statements;
 mod terms;
+mod variables;
 
 pub use building::{TableParts, table_parts};
 pub use counts::{block_count, nesting, statement_count};
@@ -51,5 +56,6 @@ pub use heads::{is_headed, place_headed};
 pub use numbered::is_numbered;
 pub use parts::{add_leaving, breaks_of, first_ends, part_of, second_ends};
 pub use place::TableSlot;
-pub use programs::{check_procs, variables_of};
+pub use programs::check_procs;
 pub use routines::routines_of;
+pub use single::{own_fault, own_form};

@@ -13,6 +13,7 @@ use crate::counts::{deepest, program_count};
 use crate::fault::Spot;
 use crate::names::{is_named, kind_of};
 use crate::statements::{Scope, block_fault};
+use crate::variables::Variables;
 use crate::{CheckError, Fault, LocatedFault};
 use base_values::{Items, Memory, Text};
 use imp_syntax::{Declaration, Proc, VariableKind};
@@ -117,7 +118,7 @@ fn variables_fault(variables: &[Declaration]) -> Option<Fault>
 }
 
 /// The variables of a procedure, in order.
-pub fn variables_of(alloc: Global, proc: &Proc) -> Result<Items<Declaration>, Memory>
+pub(crate) fn variables_of(alloc: Global, proc: &Proc) -> Result<Items<Declaration>, Memory>
     ensures is { IfOk result (λ vs. vs ≡ variables proc.now) }
 {
     let mut variables = Items::new(alloc);
@@ -159,7 +160,8 @@ fn procedure_fault(
     if let Some(fault) = variables_fault(variables) {
         return Ok(Some(Spot { fault, at: 0 }));
     }
-    let scope = Scope::new(earlier, others, variables);
+    let variables = Variables::listed(variables);
+    let scope = Scope::new(earlier, others, &variables);
     Ok(block_fault(&scope, false, proc.body()))
 }
 

@@ -45,6 +45,15 @@ impl Slots {
         Ok(Slots { layout })
     }
 
+    /// The slots of this layout.
+    pub(crate) fn of(layout: Layout) -> Slots
+        requires numbers { length layout.numbers < 2 ^ 32 }
+        requires links { length layout.links < 2 ^ 32 }
+        ensures is { result ≡ layout }
+    {
+        Slots { layout }
+    }
+
     pub(crate) fn layout(&self) -> &Layout
         ensures is { result.now ≡ self.now }
     {

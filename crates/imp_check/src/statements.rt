@@ -14,7 +14,8 @@ use crate::kinds::{
     array_operand, fits_action, fits_condition, int_operand, knows, knows_action, knows_condition,
     knows_operands, link_operand,
 };
-use crate::names::{is_array, is_int, is_link, is_named, kind_of, procedure_named};
+use crate::names::{is_array, is_int, is_link, is_named, procedure_named};
+use crate::variables::Variables;
 use base_values::Text;
 use imp_syntax::{
     Action, Block, Call, Cond, Declaration, Proc, Side, Stmt, StmtNode, VariableKind,
@@ -26,7 +27,7 @@ use std::marker::Model;
 pub(crate) struct Scope<'a> {
     earlier: &'a [Proc],
     others: &'a [Proc],
-    variables: &'a [Declaration],
+    variables: &'a Variables<'a>,
 }
 
 impl<'a> Model for Scope<'a> {
@@ -48,7 +49,7 @@ impl<'a> Scope<'a> {
     pub(crate) fn new(
         earlier: &'a [Proc],
         others: &'a [Proc],
-        variables: &'a [Declaration],
+        variables: &'a Variables<'a>,
     ) -> Scope<'a>
         ensures is { result ≡ record {
           earlier = earlier.now;
@@ -73,7 +74,8 @@ fn at(number: u32, fault: Option<Fault>) -> Option<Spot>
     }
 }
 
-fn action_fault(variables: &[Declaration], action: &Action) -> Option<Fault>
+#[inline(always)]
+pub(crate) fn action_fault(variables: &Variables, action: &Action) -> Option<Fault>
     ensures is { result ≡ action_fault variables.now (action_of action.now) }
     ensures small { result ≡ None → small_action (action_of action.now) ≡ true }
 {
@@ -86,7 +88,7 @@ fn action_fault(variables: &[Declaration], action: &Action) -> Option<Fault>
     }
 }
 
-fn condition_fault(variables: &[Declaration], cond: &Cond) -> Option<Fault>
+pub(crate) fn condition_fault(variables: &Variables, cond: &Cond) -> Option<Fault>
     ensures is { result ≡ condition_fault variables.now cond.now }
     ensures small { result ≡ None → small_condition cond.now ≡ true }
 {
@@ -111,7 +113,7 @@ fn callee_fault(scope: &Scope, callee: &Text) -> Option<Fault>
     }
 }
 
-fn knows_target(variables: &[Declaration], target: &Option<Text>) -> bool
+fn knows_target(variables: &Variables, target: &Option<Text>) -> bool
     ensures is { result ≡ knows_target variables.now target.now }
 {
     match target {
@@ -133,7 +135,7 @@ fn gives_result(target: &Option<Text>, outcome: Option<&Declaration>) -> bool
     target.is_none() || outcome.is_some()
 }
 
-fn fits_parameter(variables: &[Declaration], argument: &Side, kind: VariableKind) -> bool
+fn fits_parameter(variables: &Variables, argument: &Side, kind: VariableKind) -> bool
     ensures is { result ≡ fits_parameter variables.now (operand_of argument.now) kind }
 {
     match kind {
@@ -144,7 +146,7 @@ fn fits_parameter(variables: &[Declaration], argument: &Side, kind: VariableKind
 }
 
 #[tactic(auto, using(crate::proofs::Arguments::fit_step, crate::proofs::Arguments::fit_end))]
-fn fit_parameters(variables: &[Declaration], arguments: &[Side], parameters: &[Declaration]) -> bool
+fn fit_parameters(variables: &Variables, arguments: &[Side], parameters: &[Declaration]) -> bool
     ensures is { result ≡ fit_parameters variables.now (operands_of arguments.now) parameters.now }
 {
     for (i, argument) in arguments.iter().enumerate() {
@@ -164,20 +166,16 @@ fn alike(a: Option<VariableKind>, b: Option<VariableKind>) -> bool
     (is_int(a) && is_int(b)) || (is_array(a) && is_array(b)) || (is_link(a) && is_link(b))
 }
 
-fn fits_result(
-    variables: &[Declaration],
-    target: &Option<Text>,
-    outcome: Option<&Declaration>,
-) -> bool
+fn fits_result(variables: &Variables, target: &Option<Text>, outcome: Option<&Declaration>) -> bool
     ensures is { result ≡ fits_result variables.now target.now (option_copied outcome.entry) }
 {
     match (target, outcome) {
-        (Some(x), Some(outcome)) => alike(kind_of(variables, x), Some(outcome.kind)),
+        (Some(x), Some(outcome)) => alike(variables.kind_of(x), Some(outcome.kind)),
         _ => true,
     }
 }
 
-fn arguments_fault(variables: &[Declaration], call: &Call, callee: &Proc) -> Option<Fault>
+fn arguments_fault(variables: &Variables, call: &Call, callee: &Proc) -> Option<Fault>
     ensures is { result ≡ arguments_fault variables.now call.now.target
         (operands_of call.now.arguments) (Some callee.now) }
 {

@@ -1,22 +1,24 @@
 -- Another condition of a statement: its fault alone, and a change of one entry.
 use Rattle.std.proofs.lemmas.Bool.Decides.{nat_tests}
-use Rattle.std.proofs.Common.{◌≡◌, ℕ, ◌<◌, ◌==◌, cond, List, [], ◌∷◌, Option, Some, None, Bool, true, false, refl, sym, ap, ◌∙◌, subst, arith}
+use Rattle.std.proofs.Common.{◌≡◌, ℕ, zero, suc, ◌<◌, ◌==◌, cond, List, [], ◌∷◌, Option, Some, None, Bool, true, false, refl, sym, ap, ◌∙◌, subst, arith}
 use Rattle.std.specs.Prelude.{slice_get, unwrap_or}
 use Rattle.std.specs.List.{All}
 use Rattle.std.specs.Option.{option_map}
 use Rattle.std.proofs.lemmas.List.Elements.{All-push}
 use Rattle.imp_syntax.specs.Plain.{Condition, Statement, Simple, Break, Call, If, While, Statements, Ends, Procedure, number_of, program_numbers}
 use Rattle.imp_syntax.specs.Changes.{with_condition}
+use Rattle.imp_syntax.specs.declared.words.Declaration.{Declaration}
 use Rattle.imp_slots.specs.Fits.{Distinct, IsChecked, fits_guard}
 use Rattle.imp_check.specs.Fine.{IsFine}
 use Rattle.imp_check.specs.Faults.{first, at, in_procedure}
 use Rattle.imp_check.specs.Names.{variables}
-use Rattle.imp_check.specs.Slots.{layout_in, guard_in, routines_of}
+use Rattle.imp_check.specs.Single.{FitsAlone, own_fault}
+use Rattle.imp_check.specs.Slots.{Resolver, layout_in, guard_in, routines_of}
 use Rattle.imp_table.proofs.FallingLemmas.{falling_more}
 use Rattle.imp_check.specs.Statements.{condition_fault, block_fault}
 use Rattle.imp_check.specs.Parts.{part_of}
 use Rattle.imp_check.specs.Programs.{AreNumbered, block_count, program_count, variables_fault, check_fault}
-use Rattle.imp_check.specs.Entries.{entries_of, entry_of, form_in, resolver_at, heads_of, sites_of}
+use Rattle.imp_check.specs.Entries.{entries_of, entry_of, form_in, resolver_at, head_of, heads_of, sites_of}
 use Rattle.imp_table.specs.Changes.{AreWithin, Makes, overlay}
 use Rattle.imp_table.specs.declared.change.Change.{Change}
 use Rattle.imp_table.specs.declared.change.Put.{Put}
@@ -226,6 +228,36 @@ guard_variables n P e h fine k l =
     ap (λ (z : ProcHeader). variables_fault [] (variables z.bare)) t.head
     ∙ (faultless s.own v.holes v.before (one v.stmt) (one v.stmt) v.behind s.front s.back (ap check_fault (sym (old_is n P s)) ∙ fine.faultless)).vars
 
-pub guard_refused : (n : ℕ) (d : Condition) (P : List Procedure) (e : Entry) (h : ProcHeader) (r : EditError) → IsFine P → entry_of (entries_of P) n ≡ Some e → slice_get (heads_of P) e.context.proc ≡ Some h → fits Conditional e.part ≡ true →
-    IsRefusal (option_map Fault (in_procedure h.bare.name (at n (condition_fault (variables h.bare) d)))) r → IsRefusal (option_map Fault (check_fault (in_program n (guarded d) P))) r
-guard_refused n d P e h r fine k l f w = subst (λ o. IsRefusal (option_map Fault o) r) (sym (guard_refusal n d P e h fine k l f)) w
+-- A statement with another condition, by itself.
+pub guarded_fault : (vs : List Declaration) (s : Statement) (d : Condition) → fits Conditional s ≡ true → own_fault vs (with_condition s d) ≡ condition_fault vs d
+guarded_fault vs (Simple n a) d f = cc
+guarded_fault vs (Break n) d f = cc
+guarded_fault vs (Call n x g es) d f = cc
+guarded_fault vs (If n c t e) d f = refl
+guarded_fault vs (While n c b) d f = refl
+
+pub guarded_fits : (p : Procedure) (s : Statement) (d : Condition) → fits Conditional s ≡ true → FitsAlone p (with_condition s d) → fits_guard (layout_in p) (guard_in (layout_in p) d) ≡ true
+guarded_fits p (Simple n a) d f w = cc
+guarded_fits p (Break n) d f w = cc
+guarded_fits p (Call n x g es) d f w = cc
+guarded_fits p (If n c t e) d f w = w
+guarded_fits p (While n c b) d f w = w
+
+pub guarded_form : (r : Resolver) (s : Statement) (d : Condition) → fits Conditional s ≡ true → form_in r (with_condition s d) ≡ form.Cond (guard_in r.layout d)
+guarded_form r (Simple n a) d f = cc
+guarded_form r (Break n) d f = cc
+guarded_form r (Call n x g es) d f = cc
+guarded_form r (If n c t e) d f = refl
+guarded_form r (While n c b) d f = refl
+
+-- the layout of a procedure that is there
+pub head_layout : (P : List Procedure) (k : ℕ) (h : ProcHeader) → slice_get (heads_of P) k ≡ Some h → h.layout ≡ layout_in h.bare
+head_layout [] k h e = cc
+head_layout (p ∷ ps) zero h e = let q : head_of p ≡ h = cc in subst (λ (z : ProcHeader). z.layout ≡ layout_in z.bare) q refl
+head_layout (p ∷ ps) (suc k) h e = head_layout ps k h e
+
+pub guard_refused : (n : ℕ) (d : Condition) (P : List Procedure) (e : Entry) (h : ProcHeader) (s : Statement) (r : EditError) → IsFine P → entry_of (entries_of P) n ≡ Some e → slice_get (heads_of P) e.context.proc ≡ Some h → fits Conditional e.part ≡ true →
+    s ≡ with_condition e.part d → IsRefusal (option_map Fault (in_procedure h.bare.name (at n (own_fault (variables h.bare) s)))) r → IsRefusal (option_map Fault (check_fault (in_program n (guarded d) P))) r
+guard_refused n d P e h s r fine k l f is w =
+    let own : own_fault (variables h.bare) s ≡ condition_fault (variables h.bare) d = ap (own_fault (variables h.bare)) is ∙ guarded_fault (variables h.bare) e.part d f in
+    subst (λ o. IsRefusal (option_map Fault o) r) (ap (λ o. in_procedure h.bare.name (at n o)) own ∙ sym (guard_refusal n d P e h fine k l f)) w

@@ -8,7 +8,6 @@ pub mod RefusalLemmas
 mod Worked
 pub mod ApplyLemmas
 pub mod Exchanged
-pub mod SingleStatementLemmas
 pub mod GuardLemmas
 pub mod CallFreeLemmas
 pub mod GapLemmas

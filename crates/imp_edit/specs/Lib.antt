@@ -1,4 +1,3 @@
-pub mod SingleStatements
 pub mod Changes
 pub mod Edited
 pub mod Gaps

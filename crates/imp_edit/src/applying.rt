@@ -36,12 +36,12 @@ pub struct Edited {
 /// change in, once there is room below the next number.
 ///
 /// A refusal that speaks of the program as it is takes time linear in the procedures and in the edit. Another condition
-/// takes time in proportion to the condition, to the breaks of its statement and to the square of the variables of its
-/// procedure. Where no call stands in the statements that come or in the one that goes, and each break that comes has a
-/// loop, it takes time in proportion to those that come, with those inside them, and, for each, to the square of the
-/// variables of the procedure, and to those that go and, for each of them, to the breaks of the loop around it; where a
-/// break comes to a loop that keeps others, to the statements of that loop before it; at the start or the end of a
-/// procedure's body, time linear in the procedures too. All else takes time linear in the program and in `next`.
+/// takes time in proportion to the condition, times the variables of its procedure, and to the breaks of its statement.
+/// Where no call stands in the statements that come or in the one that goes, and each break that comes has a loop, it
+/// takes time in proportion to those that come, with those inside them, times the variables of the procedure, and to
+/// those that go and, for each of them, to the breaks of the loop around it; where a break comes to a loop that keeps
+/// others, to the statements of that loop before it; at the start or the end of a procedure's body, time linear in the
+/// procedures too. All else takes time linear in the program and in `next`.
 ///
 /// # Errors
 ///

@@ -3,31 +3,28 @@ ghost use Rattle.std.specs.Prelude.{◌≡◌, ◌+◌, ◌<◌, ◌^◌, [], �
 ghost use Rattle.std.specs.Option.{option_map};
 ghost use Rattle.imp_syntax.specs.Plain.{Ends, Starts, block_of, number_of};
 ghost use Rattle.imp_slots.specs.Fits.{FitsCode};
-ghost use Rattle.imp_check.specs.Entries.{block_entries, entry_at, form_in, resolver_at, statement_entries};
+ghost use Rattle.imp_check.specs.Entries.{block_entries, entry_at, resolver_at, statement_entries};
 ghost use Rattle.imp_check.specs.Faults.{at, in_procedure};
 ghost use Rattle.imp_check.specs.Names.{variables};
 ghost use Rattle.imp_check.specs.Parts.{first_or};
 ghost use Rattle.imp_check.specs.Programs.{nesting, statement_nesting, variables_fault};
+ghost use Rattle.imp_check.specs.Single.{FitsAlone, own_fault};
 ghost use Rattle.imp_check.specs.Slots.{code_in, layout_in};
 ghost use Rattle.imp_check.specs.Statements.{block_fault, statement_fault};
 ghost use Rattle.edit_entries.specs.Gaps.{are_quiet, is_quiet, lone};
 ghost use Rattle.imp_edit.specs.declared.error.EditError.TheVariants.{Fault as refused_by};
-ghost use Rattle.imp_edit.specs.SingleStatements.{FitsAlone, alone_fault};
 ghost use Rattle.imp_edit.specs.Refusals.{IsRefusal};
 
 use crate::error::EditError;
-use crate::single_statements::{condition_alone, form_alone};
+use crate::single_statements::form_alone;
 use base_values::Memory;
 use edit_breaks::Gap;
-use imp_check::{
-    Context, Entry, ProcHeader, SlotForm, Which, breaks_of, first_ends, part_of, second_ends,
-};
-use imp_slots::SlotStmt;
+use imp_check::{Context, Entry, ProcHeader, Which, breaks_of, first_ends, part_of, second_ends};
 use imp_syntax::{Block, Stmt, StmtId, StmtNode};
 use std::alloc::Global;
 
 /// What is known of the statements of a block that comes at a place, each followed by those inside it. It takes time in
-/// proportion to the statements and to the square of the procedure's variables for each.
+/// proportion to the statements, times the procedure's variables.
 ///
 /// # Errors
 ///
@@ -39,6 +36,7 @@ pub(crate) fn entries_of(
     news: &Block,
 ) -> Result<Vec<Entry>, EditError>
     requires fine { variables_fault [] (variables head.now.bare) ≡ None }
+    requires layout { head.now.layout ≡ layout_in head.now.bare }
     requires quiet { are_quiet news.now ≡ true }
     requires shallow { gap.now.context.depth + nesting news.now < 2 ^ 32 }
     ensures are { IfOk result (λ entries. entries.items ≡
@@ -96,6 +94,7 @@ fn add_block(
     entries: &mut Vec<Entry>,
 ) -> Result<(), EditError>
     requires fine { variables_fault [] (variables head.now.bare) ≡ None }
+    requires layout { head.now.layout ≡ layout_in head.now.bare }
     requires quiet { are_quiet block.now ≡ true }
     requires shallow { site.now.context.depth + nesting block.now < 2 ^ 32 }
     ensures added { OnOk result (entries.new.items ≡ entries.old.items ++ block_entries
@@ -137,6 +136,7 @@ fn add_statement(
     entries: &mut Vec<Entry>,
 ) -> Result<(), EditError>
     requires fine { variables_fault [] (variables head.now.bare) ≡ None }
+    requires layout { head.now.layout ≡ layout_in head.now.bare }
     requires quiet { is_quiet stmt.now ≡ true }
     requires shallow { site.now.context.depth + statement_nesting stmt.now < 2 ^ 32 }
     ensures added { OnOk result (entries.new.items ≡ entries.old.items ++ statement_entries
@@ -174,18 +174,18 @@ fn add_statement(
 /// [`EditError::Fault`] with its own fault.
 fn entry_at(alloc: Global, head: &ProcHeader, site: &Site, stmt: &Stmt) -> Result<Entry, EditError>
     requires fine { variables_fault [] (variables head.now.bare) ≡ None }
-    requires quiet { is_quiet stmt.now ≡ true }
+    requires layout { head.now.layout ≡ layout_in head.now.bare }
     ensures is { IfOk result (λ entry. entry ≡ entry_at (resolver_at [] head.now.bare)
         site.now.context site.now.front site.now.next stmt.now) }
     ensures fits { IfOk result (λ _. FitsAlone head.now.bare stmt.now) }
-    ensures faultless { IfOk result (λ _. alone_fault (variables head.now.bare) stmt.now ≡ None) }
+    ensures faultless { IfOk result (λ _. own_fault (variables head.now.bare) stmt.now ≡ None) }
     ensures refused { IfErr result (IsRefusal (option_map refused_by
         (in_procedure head.now.bare.name (at (number_of stmt.now)
-        (alone_fault (variables head.now.bare) stmt.now))))) }
+        (own_fault (variables head.now.bare) stmt.now))))) }
 {
     let breaks = breaks_of(alloc, stmt)?;
     let part = part_of(alloc, stmt)?;
-    let form = form_in(alloc, head, stmt)?;
+    let form = form_alone(alloc, head, stmt.id(), stmt)?;
     Ok(Entry {
         number: stmt.id(),
         part,
@@ -197,31 +197,6 @@ fn entry_at(alloc: Global, head: &ProcHeader, site: &Site, stmt: &Stmt) -> Resul
         other: second_ends(stmt),
         breaks,
     })
-}
-
-/// What a statement that is no call does over slots: of an if or while, its condition.
-///
-/// # Errors
-///
-/// [`EditError::Fault`] with its own fault.
-fn form_in(alloc: Global, head: &ProcHeader, stmt: &Stmt) -> Result<SlotForm, EditError>
-    requires fine { variables_fault [] (variables head.now.bare) ≡ None }
-    requires quiet { is_quiet stmt.now ≡ true }
-    ensures is { IfOk result (λ form. form ≡ form_in (resolver_at [] head.now.bare) stmt.now) }
-    ensures fits { IfOk result (λ _. FitsAlone head.now.bare stmt.now) }
-    ensures faultless { IfOk result (λ _. alone_fault (variables head.now.bare) stmt.now ≡ None) }
-    ensures refused { IfErr result (IsRefusal (option_map refused_by
-        (in_procedure head.now.bare.name (at (number_of stmt.now)
-        (alone_fault (variables head.now.bare) stmt.now))))) }
-{
-    let alone = match stmt.node() {
-        StmtNode::Simple(_) => stmt.with_number(StmtId::new(1))?,
-        StmtNode::If(cond, _, _) => condition_alone(alloc, cond)?,
-        StmtNode::While(cond, _) => condition_alone(alloc, cond)?,
-        StmtNode::Break => return Ok(SlotForm::Stmt(SlotStmt::Break)),
-        StmtNode::Call(_) => unreachable!(),
-    };
-    form_alone(alloc, &head.bare, stmt.id(), alone)
 }
 
 /// Adds an entry.

@@ -15,7 +15,7 @@ ghost use Rattle.imp_edit.specs.EditChange.{IsMade};
 
 use crate::error::EditError;
 use crate::gap::gap_of;
-use crate::single_statements::{condition_alone, form_alone};
+use crate::single_statements::form_alone;
 use crate::splicing::splice;
 use base_values::{Items, Memory};
 use edit_breaks::{Gap, closed_at};
@@ -28,11 +28,11 @@ use std::alloc::Global;
 /// takes a statement away in which no call stands; `None` for other edits, and where a break that comes has no loop: then
 /// the change is found from the whole program.
 ///
-/// Another condition takes time in proportion to the condition, the breaks of the statement and the square of the
-/// procedure's variables. Statements take time in proportion to the statements that come, with those inside them, and to
-/// the square of the procedure's variables for each, to those that go and to the breaks of the loop around them for each,
-/// to the statements of that loop before the place where a break comes to it and it keeps others, and, at the start or
-/// the end of a procedure, to the number of procedures.
+/// Another condition takes time in proportion to the condition, times the procedure's variables, and to the breaks of the
+/// statement. Statements take time in proportion to the statements that come, with those inside them, times the
+/// procedure's variables, to those that go and to the breaks of the loop around them for each, to the statements of that
+/// loop before the place where a break comes to it and it keeps others, and, at the start or the end of a procedure, to
+/// the number of procedures.
 ///
 /// # Errors
 ///
@@ -123,7 +123,6 @@ fn block_of_one(alloc: Global, stmt: &Stmt) -> Result<Block, Memory>
 }
 
 /// The change that gives an if or while another condition.
-#[tactic(auto, using(crate::proofs::GuardLemmas::guard_refused))]
 fn guard_change(
     alloc: Global,
     table: &Table,
@@ -148,7 +147,7 @@ fn guard_change(
     };
     let breaks = entry.breaks.clone()?;
     let part = entry.part.with_condition(alloc, cond.clone()?)?;
-    let form = form_alone(alloc, &head.bare, stmt, condition_alone(alloc, cond)?)?;
+    let form = form_alone(alloc, head, stmt, &part)?;
     let entries = one_put(alloc, stmt, changed_entry(entry, part, form, breaks))?;
     Ok(Some(Change {
         entries,

@@ -28,10 +28,9 @@ const MOST_STATEMENTS: u32 = 10_000;
 const MOST_NESTING: u32 = 32;
 
 /// The change that puts statements at a place, in the procedure of this head, and takes away what goes. It takes time in
-/// proportion to the statements that come, with those inside them, and to the square of the procedure's variables for
-/// each, to those that go and to the breaks of the loop around them for each, to the statements of that loop before
-/// the place where a break comes to it and it keeps others, and, where the ends of a body change, to the number of
-/// procedures.
+/// proportion to the statements that come, with those inside them, times the procedure's variables, to those that go and
+/// to the breaks of the loop around them for each, to the statements of that loop before the place where a break comes
+/// to it and it keeps others, and, where the ends of a body change, to the number of procedures.
 ///
 /// # Errors
 ///
@@ -45,6 +44,7 @@ pub(crate) fn splice(
     news: &Block,
 ) -> Result<Change, EditError>
     requires fine { variables_fault [] (variables head.now.bare) ≡ None }
+    requires layout { head.now.layout ≡ layout_in head.now.bare }
     requires quiet { are_quiet news.now ≡ true }
     ensures is { IfOk result (IsSplice table.now.program head.now gap.now news.now) }
     ensures fit { IfOk result (λ _. FitsCode [] (layout_in head.now.bare)

@@ -7,7 +7,7 @@ use Rattle.imp_check.specs.Faults.{in_procedure}
 use Rattle.imp_check.specs.Names.{variables}
 use Rattle.imp_check.specs.Statements.{block_fault, condition_fault, statement_fault}
 use Rattle.edit_entries.specs.Gaps.{lone}
-use Rattle.imp_edit.specs.SingleStatements.{alone_fault}
+use Rattle.imp_check.specs.Single.{own_fault}
 use Rattle.imp_edit.specs.Refusals.{IsRefusal}
 use Rattle.imp_edit.specs.declared.error.EditError.TheVariants.{Fault}
 use Rattle.imp_edit.proofs.NewEntryLemmas.{rest_refused, then_refused}
@@ -35,7 +35,7 @@ add_statement-returns-in_err-add_block-in-If-clause-refused t c =
     let d = c.in-If.field-0 in
     let r = c.in_err-add_block-in-If.field-0.0 in
     let q : If n d c.in-If.then c.in-If.els ≡ c.args.stmt.now = ap (statement_of n) (sym c.in-If.is) ∙ c.node.ensures.is in
-    let f : condition_fault vs d ≡ None = ap (alone_fault vs) q ∙ c.in_ok-entry.ensures.faultless in
+    let f : condition_fault vs d ≡ None = ap (own_fault vs) q ∙ c.in_ok-entry.ensures.faultless in
     let w = then_refused vs x n d c.in-If.then c.in-If.els r f c.in_err-add_block-in-If.ensures.refused in
     let e : c.from_residual-in_err-add_block-in-If.result ≡ Err r = search rules in
     subst (λ z. IfErr z (IsRefusal (option_map Fault (in_procedure x (statement_fault (lone vs) true c.args.stmt.now))))) (sym e)

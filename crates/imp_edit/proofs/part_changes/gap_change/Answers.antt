@@ -10,7 +10,7 @@ use Rattle.imp_edit.specs.Edited.{brought}
 use Rattle.imp_edit.specs.Gaps.{IsSplice, splice_fault}
 use Rattle.imp_edit.specs.Refusals.{IsRefusal}
 use Rattle.imp_edit.specs.declared.error.EditError.TheVariants.{Fault}
-use Rattle.imp_edit.proofs.GuardLemmas.{fine_of}
+use Rattle.imp_edit.proofs.GuardLemmas.{fine_of, head_layout}
 use Rattle.imp_edit.proofs.SpliceMade.{gap_variables, gap_refused, gap_made}
 use Rattle.imp_edit.proofs.part_changes.gap_change.Goals as goal
 
@@ -19,6 +19,12 @@ splice-requires-clause-fine c =
     let P = c.args.table.now.program in
     let g = c.args.gap.now in
     gap_variables c.args.edit.now P g c.in-Some.head.now (fine_of P c.procs.ensures.faultless c.procs.ensures.numbered c.procs.ensures.fit) c.requires.site c.requires.here
+    (ap (λ (os : List Procedure). slice_get (heads_of os) g.context.proc) (sym c.view.ensures.is) ∙ sym c.in-Some.ensures.is)
+
+pub splice-requires-clause-layout : goal.splice-requires-clause-layout
+splice-requires-clause-layout c =
+    let g = c.args.gap.now in
+    head_layout c.args.table.now.program g.context.proc c.in-Some.head.now
     (ap (λ (os : List Procedure). slice_get (heads_of os) g.context.proc) (sym c.view.ensures.is) ∙ sym c.in-Some.ensures.is)
 
 pub splice-requires-clause-quiet : goal.splice-requires-clause-quiet
