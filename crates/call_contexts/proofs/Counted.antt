@@ -1,29 +1,27 @@
 -- Counts of numbers: one more, one less, and those of a statement.
 use Rattle.std.proofs.lemmas.List.{take_all, drop_all}
-use Rattle.std.proofs.Common.{◌≡◌, ◌≢◌, ℕ, zero, suc, ◌+◌, ◌-◌, ◌<◌, ◌≤◌, ◌==◌, ◌++◌, cond, true, false, List, [], ◌∷◌, length, take, drop, get_or, Option, Some, None, refl, sym, ap, ◌∙◌, subst, arith}
-use Rattle.std.specs.Prelude.{if◌then◌else◌, unwrap_or}
+use Rattle.std.proofs.Common.{◌≡◌, ℕ, ◌+◌, ◌-◌, ◌<◌, ◌≤◌, ◌==◌, ◌++◌, true, false, List, [], ◌∷◌, length, take, drop, get_or, Option, refl, sym, ap, ◌∙◌, subst, arith}
+use Rattle.std.specs.Prelude.{if◌then◌else◌}
 use Rattle.std.proofs.lemmas.Bool.Decides.{nat_tests}
 use Rattle.std.specs.Ordering.{nat_cmp}
 use Rattle.std.specs.declared.cmp.Ordering.TheVariants.{Less}
 use Rattle.std.specs.List.{AllByRecursion}
 use Rattle.std.specs.List.Sorted.{IsStrictlySortedBy}
-use Rattle.std.specs.Map.{keys_of, lookup}
-use Rattle.std.specs.BTreeMap.{is_at}
 use Rattle.std.specs.BTreeSet.{insert_key}
 use Rattle.imp_chains.specs.Chains.{has}
 use Rattle.imp_check.specs.declared.entry.Entry.{Entry}
 use Rattle.call_contexts.specs.Literals.{literals_in}
 use Rattle.call_contexts.specs.Differences.{lists_by}
 use Rattle.call_contexts.specs.Tallies.{one_if, times, occurs, rising, or_none, Tells, capped}
-use Rattle.call_contexts.proofs.TallyLemmas.{same_test, times_both, rising_sorted, rising_has}
+use Rattle.call_contexts.proofs.TallyLemmas.{times_both, rising_sorted, rising_has}
 use Rattle.base_values.proofs.Lists.{drop_item, take_item}
 use Rattle.base_values.proofs.Cases.{by_test}
 
 -- a number alone
-pub rising_one : (ns : List ℕ) (n : ℕ) → length ns ≡ 1 → n ≡ get_or ns 0 n → rising ns ≡ n ∷ []
-rising_one [] n h e = absurd (omega arith)
-rising_one (m ∷ []) n h e = ap (λ k. k ∷ []) (sym e)
-rising_one (m ∷ k ∷ ns) n h e = absurd (omega arith)
+pub has_alone : (ns : List ℕ) (n v : ℕ) → 1 ≤ length ns → length ns < 2 → n ≡ get_or ns 0 n → v ≡ n → (m : ℕ) → one_if (m == v) ≡ one_if (has m ns)
+has_alone [] n v l h e s m = absurd (omega arith)
+has_alone (k ∷ []) n v l h e s m = ap (λ j. one_if (m == j)) (s ∙ e) ∙ by_test m k (λ b. one_if b ≡ one_if (if b then true else false)) (λ i. refl) (λ i. refl)
+has_alone (k ∷ j ∷ ns) n v l h e s m = absurd (omega arith)
 
 -- from the last number on
 pub rising_last : (ns : List ℕ) → rising (drop (length ns) ns) ≡ []
@@ -31,67 +29,6 @@ rising_last ns = ap rising (drop_all (length ns) ns (omega arith))
 
 pub rising_more : (ns : List ℕ) (k i n : ℕ) → k ≡ i + 1 → i < length ns → n ≡ get_or ns i n → rising (drop i ns) ≡ insert_key nat_cmp (rising (drop k ns)) n
 rising_more ns k i n e h g = ap rising (drop_item ns i n h g) ∙ ap (λ j. insert_key nat_cmp (rising (drop j ns)) n) (sym e)
-
--- a count by what is told of it
-told_count : (m : ℕ) → unwrap_or (or_none m) 0 ≡ m
-told_count zero = refl
-told_count (suc m) = refl
-
--- Entries that have one value instead of another.
-module _ (es ds : List (ℕ × ℕ)) (k count : ℕ) (f : ℕ → ℕ) (s : IsStrictlySortedBy nat_cmp (keys_of ds)) (t : Tells es f) (c : count ≡ unwrap_or (lookup (is_at (nat_cmp k)) es) 0) where
-  is_count : count ≡ f k
-  is_count = c ∙ ap (λ o. unwrap_or o 0) (t.at k) ∙ told_count (f k)
-
-  put : (g : ℕ → ℕ) (o : Option ℕ) → ((n : ℕ) → lookup (is_at (nat_cmp n)) ds ≡ cond (is_at (nat_cmp k) n) o (lookup (is_at (nat_cmp n)) es)) → o ≡ or_none (g k) → ((n : ℕ) → n ≢ k → f n ≡ g n) → Tells ds g
-  put g o u e h = record {
-    sorted = s;
-    at = λ n.
-        u n ∙ ap (λ b. cond b o (lookup (is_at (nat_cmp n)) es)) (same_test k n)
-        ∙ by_test k n (λ b. cond b o (lookup (is_at (nat_cmp n)) es) ≡ or_none (g n)) (λ i. e ∙ ap (λ m. or_none (g m)) i) (λ i. t.at n ∙ ap or_none (h n (λ j. i (sym j))));
-  }
-
-apart : (n k : ℕ) → n ≢ k → one_if (n == k) ≡ 0
-apart n k h = by_test n k (λ b. one_if b ≡ 0) (λ e. absurd (h e)) (λ e. refl)
-
-itself : (k : ℕ) → one_if (k == k) ≡ 1
-itself k = by_test k k (λ b. one_if b ≡ 1) (λ e. refl) (λ e. absurd (e refl))
-
-some_or_none : (m : ℕ) → 0 < m → Some m ≡ or_none m
-some_or_none zero h = absurd (omega arith)
-some_or_none (suc m) h = refl
-
-pub one_more : (es ds : List (ℕ × ℕ)) (k count new : ℕ) (f : ℕ → ℕ) → count ≡ unwrap_or (lookup (is_at (nat_cmp k)) es) 0 → new ≡ capped (count + 1) → IsStrictlySortedBy nat_cmp (keys_of ds)
-    → ((n : ℕ) → lookup (is_at (nat_cmp n)) ds ≡ cond (is_at (nat_cmp k) n) (Some new) (lookup (is_at (nat_cmp n)) es))
-    → Tells es (λ n. capped (f n)) → Tells ds (λ n. capped (f n + one_if (n == k)))
-one_more es ds k count new f c e s u t =
-    let m : count ≡ capped (f k) = is_count es ds k count (λ n. capped (f n)) s t c in
-    let o : new ≡ capped (f k + one_if (k == k)) = omega (arith, e, m, itself k) in
-    put es ds k count (λ n. capped (f n)) s t c (λ n. capped (f n + one_if (n == k))) (Some new) u
-    (some_or_none new (omega (arith, e)) ∙ ap or_none o)
-    (λ n h. omega (arith, apart n k h))
-
-pub one_less : (es ds : List (ℕ × ℕ)) (k count new : ℕ) (f : ℕ → ℕ) → count ≡ unwrap_or (lookup (is_at (nat_cmp k)) es) 0 → 1 < count → new ≡ count - 1 → IsStrictlySortedBy nat_cmp (keys_of ds)
-    → ((n : ℕ) → lookup (is_at (nat_cmp n)) ds ≡ cond (is_at (nat_cmp k) n) (Some new) (lookup (is_at (nat_cmp n)) es))
-    → Tells es f → Tells ds (λ n. f n - one_if (n == k))
-one_less es ds k count new f c l e s u t =
-    let m : count ≡ f k = is_count es ds k count f s t c in
-    let o : new ≡ f k - one_if (k == k) = omega (arith, e, m, itself k) in
-    put es ds k count f s t c (λ n. f n - one_if (n == k)) (Some new) u
-    (some_or_none new (omega (arith, e, l)) ∙ ap or_none o)
-    (λ n h. omega (arith, apart n k h))
-
-none_or_none : (m : ℕ) → m ≡ 0 → None ≡ or_none m
-none_or_none zero h = refl
-none_or_none (suc m) h = absurd (omega arith)
-
-pub last_one : (es ds : List (ℕ × ℕ)) (k count : ℕ) (f : ℕ → ℕ) → count ≡ unwrap_or (lookup (is_at (nat_cmp k)) es) 0 → count ≤ 1 → IsStrictlySortedBy nat_cmp (keys_of ds)
-    → ((n : ℕ) → lookup (is_at (nat_cmp n)) ds ≡ cond (is_at (nat_cmp k) n) None (lookup (is_at (nat_cmp n)) es))
-    → Tells es f → Tells ds (λ n. f n - one_if (n == k))
-last_one es ds k count f c l s u t =
-    let m : count ≡ f k = is_count es ds k count f s t c in
-    put es ds k count f s t c (λ n. f n - one_if (n == k)) None u
-    (none_or_none (f k - one_if (k == k)) (omega (arith, m, l, itself k)))
-    (λ n h. omega (arith, apart n k h))
 
 -- Numbers that rise, one after the other.
 occurs_both : (n : ℕ) (xs ys : List ℕ) → occurs n (xs ++ ys) ≡ occurs n xs + occurs n ys
@@ -135,6 +72,13 @@ more_once es f ks ns e = retold es (λ n. capped (f n + occurs n ks)) (λ n. cap
 
 pub less_once : (es : List (ℕ × ℕ)) (f : ℕ → ℕ) (ks ns : List ℕ) → ks ≡ rising ns → Tells es (λ n. f n - occurs n ks) → Tells es (λ n. f n - one_if (has n ns))
 less_once es f ks ns e = retold es (λ n. f n - occurs n ks) (λ n. f n - one_if (has n ns)) (λ n. ap (λ m. f n - m) (ap (occurs n) e ∙ occurs_once n ns))
+
+-- a statement with one number
+pub more_alone : (es : List (ℕ × ℕ)) (f : ℕ → ℕ) (v : ℕ) (ns : List ℕ) → ((n : ℕ) → one_if (n == v) ≡ one_if (has n ns)) → Tells es (λ n. capped (f n + one_if (n == v))) → Tells es (λ n. capped (f n + one_if (has n ns)))
+more_alone es f v ns e = retold es (λ n. capped (f n + one_if (n == v))) (λ n. capped (f n + one_if (has n ns))) (λ n. ap (λ m. capped (f n + m)) (e n))
+
+pub less_alone : (es : List (ℕ × ℕ)) (f : ℕ → ℕ) (v : ℕ) (ns : List ℕ) → ((n : ℕ) → one_if (n == v) ≡ one_if (has n ns)) → Tells es (λ n. f n - one_if (n == v)) → Tells es (λ n. f n - one_if (has n ns))
+less_alone es f v ns e = retold es (λ n. f n - one_if (n == v)) (λ n. f n - one_if (has n ns)) (λ n. ap (λ m. f n - m) (e n))
 
 pub occurs_first : (n : ℕ) (ks : List ℕ) → occurs n (take 0 ks) ≡ 0
 occurs_first n [] = refl

@@ -6,7 +6,8 @@ use Rattle.std.specs.Prelude.{pos, if◌then◌else◌, FitsSigned}
 use Rattle.std.specs.Int.{w64}
 use Rattle.std.specs.List.{All, list_any}
 use Rattle.std.specs.Map.{keys_of}
-use Rattle.std.specs.Ordering.{is_eq, int_cmp}
+use Rattle.std.specs.List.Sorted.{IsStrictlySortedBy}
+use Rattle.std.specs.Ordering.{is_eq, int_cmp, nat_cmp}
 use Rattle.std.specs.BTreeMap.{is_at}
 use Rattle.base_values.specs.Numbers.{greatest}
 use Rattle.imp_syntax.specs.Plain.{Procedure}
@@ -22,7 +23,7 @@ use Rattle.call_contexts.specs.Tallies.{rising, all_tallies}
 use Rattle.call_contexts.proofs.LiteralLemmas.{routine_there, threshold_there}
 use Rattle.call_contexts.proofs.ThresholdSets.{thresholds_by_set, threshold_of}
 use Rattle.call_contexts.proofs.Parted.{had, by_thresholds}
-use Rattle.call_contexts.proofs.TallyLemmas.{rising_has, tally_keys}
+use Rattle.call_contexts.proofs.TallyLemmas.{rising_has, rising_sorted, tally_keys}
 use Rattle.base_values.proofs.Cases.{by_test, is_equal}
 use Rattle.std.proofs.lemmas.Option.{same_Some}
 use Rattle.imp_chains.proofs.Rising.{rest_rises}
@@ -68,6 +69,9 @@ module _ (w : Widening) (ps : List Procedure) (k : ℕ) (u : List (ℕ × ℕ)) 
   own_has : (n : ℕ) → has n (literals own.code) ≡ has n (keys_of u)
   own_has n = sym (rising_has n (literals own.code)) ∙ ap (has n) (sym own_keys)
 
+  pub keys_rise : IsStrictlySortedBy nat_cmp (keys_of u)
+  keys_rise = subst (IsStrictlySortedBy nat_cmp) (sym own_keys) (rising_sorted (literals own.code))
+
   pub keys_small : ThresholdsRise → IsChecked (routines_of ps) → All (λ (n : ℕ). n ≤ greatest) (keys_of u)
   keys_small rises checked =
       let fit = fits_at [] (routines_of ps) k own checked.fit (routine_there ps k (had w ps k u h).0 (had w ps k u h).1) in
@@ -80,3 +84,9 @@ module _ (w : Widening) (ps : List Procedure) (k : ℕ) (u : List (ℕ × ℕ)) 
       ∙ ap (λ (b : Bool). Some (if b then thresholds_of (literals own.code) else [])) e
       ∙ ap Some (thresholds_by_set (literals own.code) (keys_of u) own_has)
       ∙ ap Some (sym m)
+
+-- Where they are not, it has no thresholds.
+pub no_thresholds : (w : Widening) (ps : List Procedure) (k : ℕ) (u : List (ℕ × ℕ)) → w.thresholds ≡ false → slice_get (all_tallies w (routines_of ps)) k ≡ Some u → slice_get (all_thresholds w (routines_of ps)) k ≡ Some []
+no_thresholds w ps k u e h =
+    let p = had w ps k u h in
+    threshold_there w ps k p.0 p.1 ∙ ap (λ (b : Bool). Some (if b then thresholds_of (literals (routine_of (take k ps) p.0).code) else [])) e

@@ -2,7 +2,7 @@ pub mod Numbered
 pub mod Few
 pub mod Sorted
 pub mod ThresholdSets
-pub mod ThresholdLemmas
+pub mod Mirrored
 pub mod SameEntries
 pub mod TallyLemmas
 pub mod Counted

@@ -4,7 +4,7 @@ use Rattle.std.specs.Prelude.{if◌then◌else◌}
 use Rattle.std.proofs.lemmas.Bool.{cases_lt}
 use Rattle.imp_syntax.specs.Plain.{Statements, Ends, Starts, Procedure}
 use Rattle.imp_syntax.specs.Plain as tree
-use Rattle.imp_slots.specs.Plain.{Simple, If, While, Call, Break, Routine}
+use Rattle.imp_slots.specs.Plain.{Routine}
 use Rattle.imp_slots.specs.Fits.{FitInTurn, IsChecked}
 use Rattle.imp_chains.specs.Chains.{calls_to, extended, through, chains_within, chains}
 use Rattle.imp_chains.proofs.Found.{called_earlier}

@@ -17,7 +17,7 @@ use Rattle.call_contexts.proofs.Sorted.{inserted_sorted, inserted_has}
 use Rattle.base_values.proofs.Cases.{by_test}
 
 -- a threshold goes where a key of a set goes
-pub threshold_is_key : (z : ℤ) (xs : List ℤ) → with_threshold z xs ≡ insert_key int_cmp xs z
+threshold_is_key : (z : ℤ) (xs : List ℤ) → with_threshold z xs ≡ insert_key int_cmp xs z
 threshold_is_key z [] = refl
 threshold_is_key z (x ∷ xs) = by (int_lt z x) (int_lt x z) (threshold_is_key z xs)
   where

@@ -7,3 +7,4 @@ pub mod Touches
 pub mod Tallies
 pub mod Loops
 pub mod Differences
+pub mod Mirrored

@@ -1,5 +1,5 @@
 -- The numbers that stand in statements, by what is known of these.
-use Rattle.std.specs.Prelude.{ℕ, List, [], ◌∷◌, ◌++◌, Option, Some, None}
+use Rattle.std.specs.Prelude.{ℕ, List, [], Option, Some, None}
 use Rattle.imp_slots.specs.ActionViews.{effect_of}
 use Rattle.imp_slots.specs.declared.actions.SlotStmt.{SlotStmt}
 use Rattle.imp_slots.specs.declared.actions.SlotStmt.TheVariants as act
@@ -21,8 +21,3 @@ form_literals (form.Call i q) = argument_literals i.entering.arguments
 abbrev pub literals_in : Option Entry → List ℕ
 literals_in None = []
 literals_in (Some e) = form_literals e.form
-
--- those of these statements, in their order
-abbrev pub literals_by : (at : ℕ → Option Entry) → List ℕ → List ℕ
-literals_by at [] = []
-literals_by at (n ∷ ns) = literals_in (at n) ++ literals_by at ns

@@ -1,10 +1,8 @@
 //! In how many statements each number stands.
-ghost use Rattle.std.specs.Prelude.{◌≡◌, ◌≤◌, ◌+◌, ◌-◌, ◌==◌, ℕ, List, [], map, min, ◌^◌, unwrap_or, IfOk, OnOk};
+ghost use Rattle.std.specs.Prelude.{◌≡◌, ◌≤◌, ◌+◌, ◌-◌, ◌==◌, ℕ, [], IfOk, OnOk};
 ghost use Rattle.std.specs.Bool.{OnTrue};
-ghost use Rattle.std.specs.Ordering.{nat_cmp};
 ghost use Rattle.std.specs.List.{All};
 ghost use Rattle.std.specs.Map.{keys_of};
-ghost use Rattle.std.specs.BTreeMap.{get, IsOrdered, Updates};
 ghost use Rattle.base_values.specs.Numbers.{greatest};
 ghost use Rattle.imp_chains.specs.Chains.{has};
 ghost use Rattle.call_contexts.specs.Tallies.{one_if, occurs, rising, Tells, capped};
@@ -32,13 +30,10 @@ impl Model for Counts {
 }
 
 /// These numbers, rising, each once.
-#[tactic(auto, using(crate::proofs::Counted::rising_one, crate::proofs::Counted::rising_last, crate::proofs::Counted::rising_more))]
+#[tactic(auto, using(crate::proofs::Counted::rising_last, crate::proofs::Counted::rising_more))]
 fn rising(alloc: Global, numbers: &[Number]) -> Result<Vec<u64>, Memory>
     ensures is { IfOk result (λ found. found.items ≡ rising numbers.now) }
 {
-    if numbers.len() == 1 {
-        return Ok(vec![in alloc; numbers[0].value()]?);
-    }
     let mut found = BTreeSet::new(alloc);
     for i in (0..numbers.len()).rev() {
         found.insert(numbers[i].value())?;
@@ -58,38 +53,31 @@ fn numbers_of(alloc: Global, values: &[u64]) -> Result<Items<Number>, Memory>
     Ok(numbers)
 }
 
-/// The count of a number.
-fn count_of(counts: &BTreeMap<u64, u32>, number: u64) -> u32
-    ensures is { result ≡ unwrap_or (get nat_cmp counts.now number) 0 }
-{
-    match counts.get(&number) {
-        Some(count) => *count,
-        None => 0,
-    }
-}
-
 /// One more for a number.
 fn add_one(counts: &mut BTreeMap<u64, u32>, number: u64) -> Result<(), Memory>
     ensures more { OnOk result ((f : ℕ → ℕ) → Tells counts.old.entries (λ n. capped (f n)) →
         Tells counts.new.entries (λ n. capped (f n + one_if (n == number)))) }
 {
-    let count = count_of(counts, number);
-    counts.insert(number, count.saturating_add(1))?;
+    match counts.get_mut(&number) {
+        Some(count) => *count = count.saturating_add(1),
+        None => {
+            counts.insert(number, 1)?;
+        }
+    }
     Ok(())
 }
 
 /// One less for a number.
-fn take_one(counts: &mut BTreeMap<u64, u32>, number: u64) -> Result<(), Memory>
-    ensures less { OnOk result ((f : ℕ → ℕ) → Tells counts.old.entries f →
-        Tells counts.new.entries (λ n. f n - one_if (n == number))) }
+fn take_one(counts: &mut BTreeMap<u64, u32>, number: u64)
+    ensures less { (f : ℕ → ℕ) → Tells counts.old.entries f →
+        Tells counts.new.entries (λ n. f n - one_if (n == number)) }
 {
-    let count = count_of(counts, number);
-    if count > 1 {
-        counts.insert(number, count - 1)?;
-    } else {
-        counts.remove(&number);
+    match counts.get_mut(&number) {
+        Some(count) if *count > 1 => *count -= 1,
+        _ => {
+            counts.remove(&number);
+        }
     }
-    Ok(())
 }
 
 /// One more for each of these numbers.
@@ -104,14 +92,13 @@ fn add_each(counts: &mut BTreeMap<u64, u32>, numbers: &[u64]) -> Result<(), Memo
 }
 
 /// One less for each of these numbers.
-fn take_each(counts: &mut BTreeMap<u64, u32>, numbers: &[u64]) -> Result<(), Memory>
-    ensures less { OnOk result ((f : ℕ → ℕ) → Tells counts.old.entries f →
-        Tells counts.new.entries (λ n. f n - occurs n numbers.now)) }
+fn take_each(counts: &mut BTreeMap<u64, u32>, numbers: &[u64])
+    ensures less { (f : ℕ → ℕ) → Tells counts.old.entries f →
+        Tells counts.new.entries (λ n. f n - occurs n numbers.now) }
 {
     for item in numbers {
-        take_one(counts, *item)?;
+        take_one(counts, *item);
     }
-    Ok(())
 }
 
 impl Counts {
@@ -129,8 +116,14 @@ impl Counts {
         ensures more { OnOk result ((f : ℕ → ℕ) → Tells self.old (λ n. capped (f n)) →
             Tells self.new (λ n. capped (f n + one_if (has n numbers.now)))) }
     {
-        let once = rising(alloc, numbers)?;
-        add_each(&mut self.counts, once.as_slice())?;
+        match numbers {
+            [] => {}
+            [number] => add_one(&mut self.counts, number.value())?,
+            _ => {
+                let once = rising(alloc, numbers)?;
+                add_each(&mut self.counts, once.as_slice())?;
+            }
+        }
         Ok(())
     }
 
@@ -139,8 +132,14 @@ impl Counts {
         ensures less { OnOk result ((f : ℕ → ℕ) → Tells self.old f →
             Tells self.new (λ n. f n - one_if (has n numbers.now))) }
     {
-        let once = rising(alloc, numbers)?;
-        take_each(&mut self.counts, once.as_slice())?;
+        match numbers {
+            [] => {}
+            [number] => take_one(&mut self.counts, number.value()),
+            _ => {
+                let once = rising(alloc, numbers)?;
+                take_each(&mut self.counts, once.as_slice());
+            }
+        }
         Ok(())
     }
 

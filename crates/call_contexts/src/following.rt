@@ -20,10 +20,8 @@ use crate::part::{NumberTally, Part, Thresholds};
 use crate::setting::{Setting, no_parts};
 use crate::table::procedure_count;
 use crate::tallying::changed;
-use crate::threshold_sets::thresholds_of;
 use crate::touched::touched_places;
 use base_values::Memory;
-use imp_chains::thresholds_rise;
 use imp_syntax::ProcId;
 use imp_table::{Change, Put, Table, View};
 use std::alloc::Global;
@@ -61,7 +59,7 @@ impl Setting {
     /// share what is counted. It takes time linear in the change and in the number of procedures. Where other numbers come
     /// than go, it also takes time linear in the different numbers of the procedure, times the logarithm of these where
     /// their set changes; where loops come or go, in its loops, times the logarithm of these; and for a procedure more the
-    /// time of [`thresholds`]. It fails only when memory runs out.
+    /// time of [`Setting::new`] for it. It fails only when memory runs out.
     pub fn after(&self, alloc: Global, table: &Table, change: &Change) -> Result<Setting, Memory>
         ghost program: { List Procedure }
         requires makes { Makes table.now.program change.now program }
@@ -190,7 +188,6 @@ impl Setting {
         counts: &Counts,
         is_kept: bool,
     ) -> Result<Thresholds, Memory>
-        requires widens { self.now.engine.widening.thresholds ≡ true }
         requires counts { slice_get (all_tallies self.now.engine.widening (routines_of new.now))
             proc ≡ Some counts.now }
         requires kept { OnTrue is_kept (slice_get (all_thresholds self.now.engine.widening
@@ -202,9 +199,6 @@ impl Setting {
         if is_kept {
             return Ok(before.clone()?);
         }
-        new.procs();
-        thresholds_rise();
-        let numbers = counts.numbers(alloc)?;
-        Thresholds::new(alloc, thresholds_of(alloc, numbers.as_slice())?)
+        Thresholds::of_counts(alloc, self.widening, new, proc, counts)
     }
 }

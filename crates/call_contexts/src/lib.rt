@@ -3,10 +3,10 @@
 //! [`place_of`] finds the procedure of a location, or says why there is none. [`chains_to`] gives the
 //! chains to a procedure, in the order in which their states are joined. [`joined`] sheds one chain's state and joins it
 //! after those before.
-//! [`thresholds`] gives the numbers at which widening stops in a procedure, and a [`Setting`] has those of
-//! all procedures, with how often and how the iterates of a loop are made. It counts in how many statements
-//! each number stands, and knows the loops of each procedure, so after a change of the program [`Setting::after`] looks
-//! at the change alone, and makes the thresholds of those procedures that have other numbers then of the numbers that it counts.
+//! A [`Setting`] has the thresholds of each procedure, at which widening stops, with how often and how the iterates of a loop
+//! are made. It counts in how many statements each number stands, makes the thresholds of the numbers that it counts, and
+//! knows the loops of each procedure. So after a change of the program [`Setting::after`] looks at the change alone, and
+//! makes the thresholds anew only of those procedures that have other numbers then.
 //!
 //! A program has at most 4,096 chains, each of at most 8 calls. Nothing walks the program: a place is
 //! read off what is known of the statement, and the chains to a procedure are found along call
@@ -33,4 +33,3 @@ pub use numbers::holds;
 pub use places::{few_routines, place_of};
 pub use setting::Setting;
 pub use table::{chains_to, main_place, procedure_count};
-pub use threshold_sets::thresholds;

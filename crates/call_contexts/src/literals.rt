@@ -1,23 +1,23 @@
-//! The numbers that stand in a procedure.
+//! The numbers that stand in a statement.
 ghost use Rattle.std.specs.Prelude.{◌≡◌, ◌++◌, [], ◌∷◌, IfOk, OnOk, map};
 ghost use Rattle.imp_slots.specs.ActionViews.{effect_of};
 ghost use Rattle.imp_slots.specs.CallViews.{argument_of};
 ghost use Rattle.imp_chains.specs.Thresholds.{term_literals, guard_literals, effect_literals, argument_literals};
-ghost use Rattle.imp_check.specs.Entries.{entries_of, entry_of};
-ghost use Rattle.call_contexts.specs.Literals.{stmt_literals, form_literals, literals_in, literals_by};
+ghost use Rattle.call_contexts.specs.Literals.{stmt_literals, form_literals};
 
 use base_values::{Items, Memory, Number};
 use imp_check::SlotForm;
 use imp_slots::{Argument, SlotAction, SlotCond, SlotCondNode, SlotExpr, SlotExprNode, SlotStmt};
-use imp_syntax::StmtId;
-use imp_table::View;
 use std::alloc::Global;
 
-fn add_term(expr: &SlotExpr, found: &mut Items<Number>) -> Result<(), Memory>
-    ensures added { OnOk result (found.new ≡ found.old ++ term_literals expr.now) }
+fn add_term(expr: &SlotExpr, found: &mut Vec<Number>) -> Result<(), Memory>
+    ensures added { OnOk result (found.new.items ≡ found.old.items ++ term_literals expr.now) }
 {
     match expr.node() {
-        SlotExprNode::Literal(n) => found.push(*n),
+        SlotExprNode::Literal(n) => {
+            found.push(*n)?;
+            Ok(())
+        }
         SlotExprNode::Slot(_) => Ok(()),
         SlotExprNode::Length(_) => Ok(()),
         SlotExprNode::Negative(e) => add_term(e, found),
@@ -28,8 +28,8 @@ fn add_term(expr: &SlotExpr, found: &mut Items<Number>) -> Result<(), Memory>
     }
 }
 
-fn add_guard(cond: &SlotCond, found: &mut Items<Number>) -> Result<(), Memory>
-    ensures added { OnOk result (found.new ≡ found.old ++ guard_literals cond.now) }
+fn add_guard(cond: &SlotCond, found: &mut Vec<Number>) -> Result<(), Memory>
+    ensures added { OnOk result (found.new.items ≡ found.old.items ++ guard_literals cond.now) }
 {
     match cond.node() {
         SlotCondNode::Compare(_, a, b) => {
@@ -49,8 +49,9 @@ fn add_guard(cond: &SlotCond, found: &mut Items<Number>) -> Result<(), Memory>
     }
 }
 
-fn add_action(action: &SlotAction, found: &mut Items<Number>) -> Result<(), Memory>
-    ensures added { OnOk result (found.new ≡ found.old ++ effect_literals (effect_of action.now)) }
+fn add_action(action: &SlotAction, found: &mut Vec<Number>) -> Result<(), Memory>
+    ensures added { OnOk result (found.new.items ≡ found.old.items ++ effect_literals
+        (effect_of action.now)) }
 {
     match action {
         SlotAction::Assert(c) => add_guard(c, found),
@@ -74,8 +75,8 @@ fn add_action(action: &SlotAction, found: &mut Items<Number>) -> Result<(), Memo
     }
 }
 
-fn add_argument(argument: &Argument, found: &mut Items<Number>) -> Result<(), Memory>
-    ensures added { OnOk result (found.new ≡ found.old ++ argument_literals
+fn add_argument(argument: &Argument, found: &mut Vec<Number>) -> Result<(), Memory>
+    ensures added { OnOk result (found.new.items ≡ found.old.items ++ argument_literals
         (argument_of argument.now ∷ [])) }
 {
     match argument {
@@ -85,8 +86,8 @@ fn add_argument(argument: &Argument, found: &mut Items<Number>) -> Result<(), Me
     }
 }
 
-fn add_arguments(arguments: &[Argument], found: &mut Items<Number>) -> Result<(), Memory>
-    ensures added { OnOk result (found.new ≡ found.old ++ argument_literals
+fn add_arguments(arguments: &[Argument], found: &mut Vec<Number>) -> Result<(), Memory>
+    ensures added { OnOk result (found.new.items ≡ found.old.items ++ argument_literals
         (map argument_of arguments.now)) }
 {
     for argument in arguments {
@@ -95,8 +96,8 @@ fn add_arguments(arguments: &[Argument], found: &mut Items<Number>) -> Result<()
     Ok(())
 }
 
-fn add_stmt(stmt: &SlotStmt, found: &mut Items<Number>) -> Result<(), Memory>
-    ensures added { OnOk result (found.new ≡ found.old ++ stmt_literals stmt.now) }
+fn add_stmt(stmt: &SlotStmt, found: &mut Vec<Number>) -> Result<(), Memory>
+    ensures added { OnOk result (found.new.items ≡ found.old.items ++ stmt_literals stmt.now) }
 {
     match stmt {
         SlotStmt::Simple(action) => add_action(action, found),
@@ -104,8 +105,9 @@ fn add_stmt(stmt: &SlotStmt, found: &mut Items<Number>) -> Result<(), Memory>
     }
 }
 
-fn add_form(form: &SlotForm, found: &mut Items<Number>) -> Result<(), Memory>
-    ensures added { OnOk result (found.new ≡ found.old ++ form_literals form.now) }
+/// Adds the numbers of a statement, without those inside it.
+pub(crate) fn add_form(form: &SlotForm, found: &mut Vec<Number>) -> Result<(), Memory>
+    ensures added { OnOk result (found.new.items ≡ found.old.items ++ form_literals form.now) }
 {
     match form {
         SlotForm::Stmt(stmt) => add_stmt(stmt, found),
@@ -118,33 +120,7 @@ fn add_form(form: &SlotForm, found: &mut Items<Number>) -> Result<(), Memory>
 pub(crate) fn numbers_of(alloc: Global, form: &SlotForm) -> Result<Items<Number>, Memory>
     ensures are { IfOk result (λ numbers. numbers ≡ form_literals form.now) }
 {
-    let mut numbers = Items::new(alloc);
+    let mut numbers = Vec::new(alloc);
     add_form(form, &mut numbers)?;
-    Ok(numbers)
-}
-
-/// Adds the numbers of the statement of a number, if it is there.
-fn add_entry(prog: &View<'_>, stmt: StmtId, found: &mut Items<Number>) -> Result<(), Memory>
-    ensures added { OnOk result (found.new ≡ found.old ++ literals_in
-        (entry_of (entries_of prog.now) stmt)) }
-{
-    match prog.entry(stmt) {
-        Some(entry) => add_form(&entry.form, found),
-        None => Ok(()),
-    }
-}
-
-/// Adds the numbers of these statements, in their order.
-pub(crate) fn add_statements(
-    prog: &View<'_>,
-    stmts: &[StmtId],
-    found: &mut Items<Number>,
-) -> Result<(), Memory>
-    ensures added { OnOk result (found.new ≡ found.old ++ literals_by
-        (entry_of (entries_of prog.now)) stmts.now) }
-{
-    for stmt in stmts {
-        add_entry(prog, *stmt, found)?;
-    }
-    Ok(())
+    Ok(Items::from_vec(numbers))
 }

@@ -7,6 +7,7 @@ ghost use Rattle.std.specs.Option.{option_copied};
 ghost use Rattle.std.specs.Ordering.{nat_cmp};
 ghost use Rattle.imp_check.specs.Entries.{entries_of, entry_of};
 ghost use Rattle.imp_check.specs.Slots.{routines_of};
+ghost use Rattle.imp_check.specs.Walks.{numbers_at};
 ghost use Rattle.imp_chains.specs.Chains.{has};
 ghost use Rattle.call_contexts.specs.Loops.{all_loops, loop_in, put_numbers, IsGap};
 ghost use Rattle.call_contexts.specs.Touches.{Brings};
@@ -215,17 +216,22 @@ impl Loops {
         Ok(Loops { stmts })
     }
 
-    /// The loops of a procedure, found among its statements. It takes time linear in the procedure, and in its loops times
-    /// their logarithm.
-    pub(crate) fn new(alloc: Global, prog: &View<'_>, proc: ProcId) -> Result<Loops, Memory>
+    /// The loops of a procedure, found among its statements, which are these. It takes time linear in the statements, and in
+    /// the loops times their logarithm.
+    pub(crate) fn new(
+        alloc: Global,
+        prog: &View<'_>,
+        proc: ProcId,
+        stmts: &[StmtId],
+    ) -> Result<Loops, Memory>
         requires there { proc < length prog.now }
+        requires stmts { stmts.now ≡ numbers_at prog.now proc }
         ensures are { IfOk result (λ loops. slice_get (all_loops (routines_of prog.now)) proc ≡
             Some loops) }
     {
         prog.procs();
-        let stmts = prog.statements(alloc, proc)?;
         let mut found = BTreeSet::new(alloc);
-        add_loops(prog, proc, stmts.as_slice(), &mut found)?;
+        add_loops(prog, proc, stmts, &mut found)?;
         let loops = Loops::of(alloc, found)?;
         Ok(loops)
     }

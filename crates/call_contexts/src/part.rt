@@ -1,14 +1,15 @@
 //! What a setting knows of one procedure.
-ghost use Rattle.std.specs.Prelude.{◌≡◌, ◌<◌, length, IfOk};
+ghost use Rattle.std.specs.Prelude.{◌≡◌, ◌<◌, length, slice_get, IfOk, Some};
 ghost use Rattle.imp_check.specs.Slots.{routines_of};
-ghost use Rattle.call_contexts.specs.Settings.{IsPart};
+ghost use Rattle.call_contexts.specs.Settings.{all_thresholds, IsPart};
+ghost use Rattle.call_contexts.specs.Tallies.{all_tallies};
 
 use crate::counts::Counts;
 use crate::loops::Loops;
 use crate::tallying::tally;
-use crate::threshold_sets::thresholds;
+use crate::threshold_sets::thresholds_of;
 use base_values::{Items, Memory};
-use imp_chains::Widening;
+use imp_chains::{Widening, thresholds_rise};
 use imp_syntax::ProcId;
 use imp_table::View;
 use std::alloc::{AllocError, Global};
@@ -42,11 +43,34 @@ impl Clone for Thresholds {
 }
 
 impl Thresholds {
-    pub(crate) fn new(alloc: Global, thresholds: Items<i64>) -> Result<Thresholds, Memory>
+    fn new(alloc: Global, thresholds: Items<i64>) -> Result<Thresholds, Memory>
         ensures is { IfOk result (λ m. m ≡ thresholds) }
     {
         let thresholds = Rc::new(alloc, thresholds)?;
         Ok(Thresholds { thresholds })
+    }
+
+    /// The thresholds of a procedure that has these counts: those of the numbers that are counted, and none where widening
+    /// stops at none. It takes time linear in these numbers.
+    pub(crate) fn of_counts(
+        alloc: Global,
+        widening: Widening,
+        prog: &View<'_>,
+        proc: ProcId,
+        counts: &Counts,
+    ) -> Result<Thresholds, Memory>
+        requires counts { slice_get (all_tallies widening (routines_of prog.now)) proc ≡
+            Some counts.now }
+        ensures are { IfOk result (λ thresholds. slice_get (all_thresholds widening
+            (routines_of prog.now)) proc ≡ Some thresholds) }
+    {
+        if !widening.thresholds {
+            return Thresholds::new(alloc, Items::new(alloc));
+        }
+        prog.procs();
+        thresholds_rise();
+        let numbers = counts.numbers(alloc)?;
+        Thresholds::new(alloc, thresholds_of(alloc, numbers.as_slice())?)
     }
 
     pub(crate) fn as_slice(&self) -> &[i64]
@@ -106,7 +130,8 @@ pub(crate) struct Part {
 }
 
 impl Part {
-    /// The part of a procedure, made of its statements.
+    /// The part of a procedure, made of its statements. It takes time linear in the procedure, times the logarithm of its
+    /// numbers and loops.
     pub(crate) fn new(
         alloc: Global,
         widening: Widening,
@@ -117,13 +142,12 @@ impl Part {
         ensures is { IfOk result (λ part. IsPart widening
             (routines_of prog.now) proc part.thresholds part.tally part.loops) }
     {
-        let thresholds = Thresholds::new(alloc, thresholds(alloc, widening, prog, proc)?)?;
-        let tally = NumberTally::new(alloc, tally(alloc, widening, prog, proc)?)?;
-        let loops = Loops::new(alloc, prog, proc)?;
+        let stmts = prog.statements(alloc, proc)?;
+        let counts = tally(alloc, widening, prog, proc, stmts.as_slice())?;
         Ok(Part {
-            thresholds,
-            tally,
-            loops,
+            thresholds: Thresholds::of_counts(alloc, widening, prog, proc, &counts)?,
+            tally: NumberTally::new(alloc, counts)?,
+            loops: Loops::new(alloc, prog, proc, stmts.as_slice())?,
         })
     }
 

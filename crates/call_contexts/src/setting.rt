@@ -60,8 +60,8 @@ pub(crate) fn no_parts(alloc: Global, budget: u32, widening: Widening) -> Settin
 }
 
 impl Setting {
-    /// The setting of a program, of whose loops the iterates are made `budget` times at most. It takes
-    /// the time of [`thresholds`] of each procedure, and fails only when memory runs out.
+    /// The setting of a program, of whose loops the iterates are made `budget` times at most. It takes time linear in the
+    /// program, times the logarithm of the numbers and loops of a procedure, and fails only when memory runs out.
     pub fn new(
         alloc: Global,
         prog: &View<'_>,

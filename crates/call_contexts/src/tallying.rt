@@ -2,38 +2,38 @@
 ghost use Rattle.std.specs.Prelude.{◌≡◌, ◌+◌, ◌-◌, ◌<◌, ◌^◌, ℕ, length, slice_get, IfOk, OnOk, Some};
 ghost use Rattle.imp_check.specs.Entries.{entries_of, entry_of};
 ghost use Rattle.imp_check.specs.Slots.{routines_of};
+ghost use Rattle.imp_check.specs.Walks.{numbers_at};
 ghost use Rattle.imp_chains.specs.Chains.{has};
 ghost use Rattle.call_contexts.specs.Literals.{literals_in};
 ghost use Rattle.call_contexts.specs.Tallies.{one_if, times, Tells, capped, all_tallies};
 ghost use Rattle.call_contexts.specs.Differences.{lists_by};
 
 use crate::counts::Counts;
-use crate::literals::numbers_of;
+use crate::literals::add_form;
 use base_values::{Items, Memory, Number};
 use imp_chains::Widening;
 use imp_syntax::{ProcId, StmtId};
 use imp_table::View;
 use std::alloc::Global;
 
-/// Counts a statement, if it is there.
+/// Counts a statement, if it is there. `numbers` lends room for its numbers; what it held is lost.
 fn count_statement(
     alloc: Global,
     prog: &View<'_>,
     stmt: StmtId,
+    numbers: &mut Vec<Number>,
     counts: &mut Counts,
 ) -> Result<(), Memory>
     ensures more { OnOk result ((f : ℕ → ℕ) → Tells counts.old (λ n. capped (f n)) →
         Tells counts.new (λ n. capped (f n + one_if (has n
         (literals_in (entry_of (entries_of prog.now) stmt)))))) }
 {
-    match prog.entry(stmt) {
-        Some(entry) => {
-            let numbers = numbers_of(alloc, &entry.form)?;
-            counts.add(alloc, numbers.as_slice())?;
-            Ok(())
-        }
-        None => Ok(()),
+    if let Some(entry) = prog.entry(stmt) {
+        numbers.clear();
+        add_form(&entry.form, numbers)?;
+        counts.add(alloc, numbers.as_slice())?;
     }
+    Ok(())
 }
 
 /// Counts these statements.
@@ -47,22 +47,25 @@ fn count_statements(
         Tells counts.new (λ n. capped (f n + times n
         (lists_by (entry_of (entries_of prog.now)) stmts.now)))) }
 {
+    let mut numbers = Vec::new(alloc);
     for stmt in stmts {
-        count_statement(alloc, prog, *stmt, counts)?;
+        count_statement(alloc, prog, *stmt, &mut numbers, counts)?;
     }
     Ok(())
 }
 
-/// The counts of a procedure; none where there are no thresholds. It takes time linear in the procedure, times the
-/// logarithm of its numbers.
+/// The counts of a procedure of these statements; none where there are no thresholds. It takes time linear in the statements,
+/// times the logarithm of their numbers.
 #[tactic(auto, using(crate::proofs::Parted::no_tally))]
 pub(crate) fn tally(
     alloc: Global,
     widening: Widening,
     prog: &View<'_>,
     proc: ProcId,
+    stmts: &[StmtId],
 ) -> Result<Counts, Memory>
     requires there { proc < length prog.now }
+    requires stmts { stmts.now ≡ numbers_at prog.now proc }
     ensures is { IfOk result (λ counts. slice_get (all_tallies widening (routines_of prog.now))
         proc ≡ Some counts) }
 {
@@ -71,8 +74,7 @@ pub(crate) fn tally(
     if !widening.thresholds {
         return Ok(counts);
     }
-    let stmts = prog.statements(alloc, proc)?;
-    count_statements(alloc, prog, stmts.as_slice(), &mut counts)?;
+    count_statements(alloc, prog, stmts, &mut counts)?;
     Ok(counts)
 }
 

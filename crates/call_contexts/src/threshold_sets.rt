@@ -1,72 +1,52 @@
-//! The thresholds of a procedure.
-ghost use Rattle.std.specs.Prelude.{◌≡◌, ◌<◌, [], length, slice_get, IfOk, OnOk, Some};
-ghost use Rattle.imp_chains.specs.Thresholds.{thresholds_of, with_threshold};
-ghost use Rattle.imp_check.specs.Slots.{routines_of};
-ghost use Rattle.call_contexts.specs.Settings.{all_thresholds};
+//! The thresholds of numbers.
+ghost use Rattle.std.specs.Prelude.{◌≡◌, ◌++◌, IfOk, OnOk};
+ghost use Rattle.std.specs.Ordering.{nat_cmp};
+ghost use Rattle.std.specs.List.Sorted.{IsStrictlySortedBy};
+ghost use Rattle.imp_chains.specs.Thresholds.{thresholds_of};
+ghost use Rattle.call_contexts.specs.Mirrored.{above_one, negatives};
 
-use crate::literals::add_statements;
 use base_values::{Items, Memory, Number};
-use imp_chains::Widening;
-use imp_syntax::ProcId;
-use imp_table::View;
 use std::alloc::Global;
-use std::collections::BTreeSet;
 
-/// Adds a threshold in its place, once.
-#[tactic(auto, using(crate::proofs::ThresholdSets::threshold_is_key))]
-fn add_threshold(thresholds: &mut BTreeSet<i64>, threshold: i64) -> Result<(), Memory>
-    ensures added { OnOk result (thresholds.new.keys ≡ with_threshold threshold
-        thresholds.old.keys) }
+/// Adds the negatives of the numbers above 1, the last first.
+#[tactic(auto, using(crate::proofs::Mirrored::negatives_last, crate::proofs::Mirrored::negatives_more))]
+fn add_negatives(thresholds: &mut Items<i64>, numbers: &[Number]) -> Result<(), Memory>
+    ensures added { OnOk result (thresholds.new ≡ thresholds.old ++ negatives numbers.now) }
 {
-    thresholds.insert(threshold)?;
+    for i in (0..numbers.len()).rev() {
+        let number = numbers[i].value();
+        if number > 1 {
+            thresholds.push(-(number as i64))?;
+        }
+    }
     Ok(())
 }
 
-/// The thresholds of no numbers.
-fn first_thresholds(alloc: Global) -> Result<BTreeSet<i64>, Memory>
-    ensures are { IfOk result (λ thresholds. thresholds.keys ≡ thresholds_of []) }
+/// Adds the numbers above 1, in their order.
+fn add_numbers(thresholds: &mut Items<i64>, numbers: &[Number]) -> Result<(), Memory>
+    ensures added { OnOk result (thresholds.new ≡ thresholds.old ++ above_one numbers.now) }
 {
-    let mut thresholds = BTreeSet::new(alloc);
-    add_threshold(&mut thresholds, 1)?;
-    add_threshold(&mut thresholds, 0)?;
-    add_threshold(&mut thresholds, -1)?;
-    Ok(thresholds)
+    for i in 0..numbers.len() {
+        let number = numbers[i].value();
+        if number > 1 {
+            thresholds.push(number as i64)?;
+        }
+    }
+    Ok(())
 }
 
-/// The thresholds of these numbers, in time n log n in them.
-#[tactic(auto, using(crate::proofs::ThresholdLemmas::thresholds_first, crate::proofs::ThresholdLemmas::thresholds_more))]
+/// The thresholds of rising numbers, in time linear in them.
+#[tactic(auto, using(crate::proofs::Mirrored::thresholds_mirrored))]
 pub(crate) fn thresholds_of(alloc: Global, numbers: &[Number]) -> Result<Items<i64>, Memory>
-    ensures is { IfOk result (λ thresholds. thresholds ≡ thresholds_of numbers.now) }
+    requires rise { IsStrictlySortedBy nat_cmp numbers.now }
+    ensures are { IfOk result (λ thresholds. thresholds ≡ thresholds_of numbers.now) }
 {
-    let mut thresholds = first_thresholds(alloc)?;
-    for i in (0..numbers.len()).rev() {
-        let number = numbers[i].value() as i64;
-        add_threshold(&mut thresholds, -number)?;
-        add_threshold(&mut thresholds, number)?;
-    }
-    Ok(Items::from_vec(thresholds.into_iter().collect(alloc)?))
-}
-
-/// The thresholds at which widening stops in a procedure: -1, 0, 1, and L and -L for each number L of its
-/// statements and conditions, rising, each once; none where there are no thresholds. It takes time
-/// linear in the procedure and n log n in its numbers.
-#[tactic(auto, using(crate::proofs::LiteralLemmas::thresholds_by, crate::proofs::LiteralLemmas::no_thresholds))]
-pub fn thresholds(
-    alloc: Global,
-    widening: Widening,
-    prog: &View<'_>,
-    proc: ProcId,
-) -> Result<Items<i64>, Memory>
-    requires there { proc < length prog.now }
-    ensures is { IfOk result (λ thresholds. slice_get (all_thresholds widening
-        (routines_of prog.now)) proc ≡ Some thresholds) }
-{
-    prog.procs();
-    if !widening.thresholds {
-        return Ok(Items::new(alloc));
-    }
-    let stmts = prog.statements(alloc, proc)?;
-    let mut numbers = Items::new(alloc);
-    add_statements(prog, stmts.as_slice(), &mut numbers)?;
-    thresholds_of(alloc, numbers.as_slice())
+    let room = numbers.len().saturating_mul(2).saturating_add(3);
+    let mut thresholds = Items::with_capacity(alloc, room)?;
+    add_negatives(&mut thresholds, numbers)?;
+    thresholds.push(-1)?;
+    thresholds.push(0)?;
+    thresholds.push(1)?;
+    add_numbers(&mut thresholds, numbers)?;
+    Ok(thresholds)
 }

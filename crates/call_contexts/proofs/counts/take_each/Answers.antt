@@ -9,7 +9,7 @@ loop-item-init c = record { less = less_none _ (λ n. occurs n (take 0 c.args.nu
 pub loop-item-preserved : goal.loop-item-preserved
 loop-item-preserved c =
     record {
-      less = less_then _ _ _ (λ n. occurs n (take c.loop-item.item-index c.args.numbers.now)) _ (λ n. occurs n (take (c.loop-item.item-index + 1) c.args.numbers.now)) (λ n. occurs_step n c.args.numbers.now c.loop-item.item-index _ c.loop-item-test.true (search rules)) c.loop-item.invariant.less c.in_ok-take_one.ensures.less;
+      less = less_then _ _ _ (λ n. occurs n (take c.loop-item.item-index c.args.numbers.now)) _ (λ n. occurs n (take (c.loop-item.item-index + 1) c.args.numbers.now)) (λ n. occurs_step n c.args.numbers.now c.loop-item.item-index _ c.loop-item-test.true (search rules)) c.loop-item.invariant.less c.take_one.ensures.less;
     }
 
 pub returns : goal.returns

@@ -1,4 +1,4 @@
-use Rattle.std.proofs.Common.{◌+◌, Bool, not, true, false, subst, sym, ◌≡◌, refl, ◌∙◌}
+use Rattle.std.proofs.Common.{◌+◌, Bool, not, true, false, subst, sym, ◌≡◌, refl}
 use Rattle.imp_check.specs.Entries.{entries_of, entry_of}
 use Rattle.call_contexts.specs.Tallies.{times, Tells, capped}
 use Rattle.call_contexts.specs.Differences.{lists_by}
@@ -12,7 +12,7 @@ returns c =
     record {
       is =
           tally_made c.args.widening ps c.args.proc c.count_statements.new.counts c.requires.there c.procs.ensures.numbered c.procs.ensures.faultless (set c.args.widening.thresholds c.if-not-widening.false)
-          (subst (λ ns. Tells c.count_statements.new.counts (λ n. capped (0 + times n (lists_by (entry_of (entries_of ps)) ns)))) (c.as_slice.ensures.same ∙ c.in_ok-stmts.ensures.are) told);
+          (subst (λ ns. Tells c.count_statements.new.counts (λ n. capped (0 + times n (lists_by (entry_of (entries_of ps)) ns)))) c.requires.stmts told);
     }
   where
     set : (b : Bool) → not b ≡ false → b ≡ true

@@ -1,4 +1,4 @@
-use Rattle.std.proofs.Common.{ℕ, ◌≡◌, ◌||◌, ◌&&◌, List, ap, subst, ◌∙◌}
+use Rattle.std.proofs.Common.{ℕ, ◌≡◌, ◌||◌, ◌&&◌, List, ap, subst}
 use Rattle.std.specs.List.{list_any}
 use Rattle.std.specs.BTreeMap.{is_at}
 use Rattle.std.specs.BTreeSet.{contains}
@@ -19,6 +19,6 @@ returns c =
       are =
           loops_made ps k c.in_ok-loops.loops none found c.procs.ensures.numbered c.requires.there c.in_ok-loops.ensures.rising
           (λ n. ap (list_any (is_at (nat_cmp n))) c.new-found.ensures.empty)
-          (subst (λ (ns : List ℕ). (n : ℕ) → found n ≡ (none n || (has n ns && loop_in k (entry_of (entries_of ps) n)))) (c.as_slice.ensures.same ∙ c.in_ok-stmts.ensures.are) c.in_ok-add_loops.ensures.added)
+          (subst (λ (ns : List ℕ). (n : ℕ) → found n ≡ (none n || (has n ns && loop_in k (entry_of (entries_of ps) n)))) c.requires.stmts c.in_ok-add_loops.ensures.added)
           c.in_ok-loops.ensures.are;
     }
