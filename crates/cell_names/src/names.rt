@@ -100,7 +100,7 @@ impl Names {
     }
 
     /// The same for the input at a place of the name that has a number. It is fast where that was asked for before.
-    #[inline]
+    #[inline(always)]
     pub fn add_input(&mut self, name: Name, of: usize, place: usize) -> Result<usize, Memory>
         requires there { name.path < length self.old.paths }
         ensures name { IfOk result (Adds self.old.names self.new.names
@@ -130,13 +130,16 @@ impl Names {
         if found == *name { Some(number) } else { None }
     }
 
-    // notes a number, where there is memory
+    // notes a number, where there is memory: room is made for half as many names more than there are
     #[inline]
     fn note(&mut self, of: usize, place: usize, number: usize)
         ensures same { self.new ≡ self.old }
     {
         if of >= self.near.len() {
-            let _ = self.near.resize(self.names.len(), Near::new());
+            let count = self.names.len();
+            let _ = self
+                .near
+                .resize(count.saturating_add(count / 2), Near::new());
         }
         if let Some(near) = self.near.get_mut(of) {
             *near = near.with(place, number);

@@ -284,7 +284,7 @@ impl<'a> Flow<'a> {
         }
     }
 
-    #[inline]
+    #[inline(always)]
     fn node_row(&self, frame: Option<NameFrame>, point: Point) -> Option<Row<'_>>
         ensures is { (w : List PathFrame) → last_frame w ≡ frame →
             option_map (row_in w) result ≡ node_row self.now w point }
@@ -314,7 +314,7 @@ impl<'a> Flow<'a> {
     }
 
     /// The point of the first input of the row after a statement.
-    #[inline]
+    #[inline(always)]
     fn point_before_post(&self, stmt: StmtId) -> Option<Point>
         ensures is { result ≡ option_map before_post (node_of (plan_nodes self.now) stmt) }
     {
@@ -342,7 +342,7 @@ impl<'a> Flow<'a> {
     /// The point of the first input of a name's row, by the name's point, where both have the same path. It spares the
     /// row where that input is to be filled first. It is `None` for the start of a body, and after a loop with some of
     /// its breaks, where the row alone tells it. It takes constant time.
-    #[inline]
+    #[inline(always)]
     pub fn point_before(&self, point: Point) -> Option<Point>
         ensures is { result ≡ point_before self.now point }
         ensures first { IfSome result (λ p. (w : List PathFrame) → BeginsWith
@@ -362,7 +362,7 @@ impl<'a> Flow<'a> {
     /// there is `None` where the program has no such point. It takes constant time, except a [`Point::Leap`], which
     /// takes time linear in the breaks of its loop.
     #[tactic(auto, using(crate::proofs::Ties::rows_tie))]
-    #[inline]
+    #[inline(always)]
     pub fn row(&self, frame: Option<NameFrame>, point: Point) -> Option<Row<'_>>
         ensures is { (w : List PathFrame) → last_frame w ≡ frame →
             option_map (row_in w) result ≡ flat_row self.now.engine
