@@ -1,5 +1,5 @@
 //! Marks on numbers.
-ghost use Rattle.std.specs.Prelude.{◌≡◌, ◌/◌, ◌<◌, ℕ, IfOk, length, vec_len};
+ghost use Rattle.std.specs.Prelude.{◌≡◌, ◌+◌, ◌/◌, ◌<◌, ℕ, IfOk, length, vec_len};
 ghost use Rattle.std.specs.Bool.{Decides};
 ghost use Rattle.cell_removal.specs.Marks.{HasMark, HasRoom, Puts, with_mark};
 
@@ -22,12 +22,13 @@ impl Model for BitSet {
 }
 
 impl BitSet {
-    /// No number is marked, and there is room for those below this.
+    /// No number is marked, and there is room for those below this: a word for each 64 of them, and one more.
     #[tactic(auto, using(crate::proofs::Marking::none_marked, crate::proofs::Marking::room_below))]
     #[inline]
     pub(crate) fn with_room(alloc: Global, room: usize) -> Result<BitSet, Memory>
         ensures none { IfOk result (λ marks. (n : ℕ) → HasMark marks n → ⊥) }
         ensures room { IfOk result (λ marks. (n : ℕ) → n < room → HasRoom marks n) }
+        ensures words { IfOk result (λ marks. length marks ≡ room / 64 + 1) }
     {
         let mut words = Vec::new(alloc);
         words.resize(room / 64 + 1, 0)?;

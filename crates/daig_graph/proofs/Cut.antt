@@ -1,5 +1,5 @@
 -- Places from a number on, with nothing, are given back.
-use Rattle.std.proofs.Common.{◌≡◌, ℕ, zero, suc, ◌<◌, ◌≤◌, cond, true, List, [], ◌∷◌, length, Option, Some, None, is_some, count_by, get_or, take, refl, sym, ap, ◌∙◌, arith}
+use Rattle.std.proofs.Common.{◌≡◌, ℕ, zero, suc, ◌<◌, ◌≤◌, cond, true, List, [], ◌∷◌, length, Option, Some, None, IsSome, is_some, count_by, get_or, take, refl, sym, ap, ◌∙◌, arith, length-take-le}
 use Rattle.std.specs.FinMap.{FinMap, get}
 use Rattle.std.specs.Ordering.{nat_cmp}
 use Rattle.daig_graph.specs.declared.value.Value.{Value}
@@ -9,7 +9,7 @@ use Rattle.daig_graph.specs.Numbers.{renumbered, EndsBy, Moves}
 use Rattle.daig_graph.specs.Owners.{owner_at}
 use Rattle.daig_graph.specs.Renumbered.{renumbered_cell, Renumbers}
 use Rattle.daig_graph.specs.Threads.{inputs_at, AllBelow}
-use Rattle.daig_graph.proofs.Agreeing.{some-is, cell-some, cell-at}
+use Rattle.daig_graph.proofs.Agreeing.{some-is, at-below, cell-some, cell-at}
 use Rattle.daig_graph.proofs.Filled.{Keeps, filled-keep}
 use Rattle.daig_graph.proofs.Maps.{cell_map, get-cell}
 use Rattle.daig_graph.proofs.NewNumbers.{is-none}
@@ -76,6 +76,20 @@ module _ {V : Type 0} (values : List (Option (Value V))) (owners : List (Option 
     inputs_many = λ a b. let h = take-shorter values inputs room b in omega (arith, h, ap (λ l. length l) v, ap (λ l. length l) i);
     counted = ap (λ l. count_by is_some l) v ∙ count-cut values room no-value;
   }
+
+  -- where something is right below the room, the last place that is left has it
+  module _ (last : (n : ℕ) → room ≡ suc n → IsSome (value_at values n)) where
+    room-placed : room ≤ length values
+    room-placed = by room refl
+      where
+        by : (r : ℕ) → room ≡ r → room ≤ length values
+        by zero e = omega (arith, e)
+        by (suc n) e = omega (arith, e, at-below values n (last n e))
+
+    pub cut-last : (new_values : List (Option (Value V))) → new_values ≡ take room values → (n : ℕ) → length new_values ≡ suc n → IsSome (value_at new_values n)
+    cut-last new_values v n e =
+        let many : length new_values ≡ room = ap (λ l. length l) v ∙ length-take-le room values room-placed in
+        ap is_some (ap (λ l. value_at l n) v ∙ cut-same values None room no-value n) ∙ last n (sym many ∙ e)
 
 -- the map has each cell at its new number
 module _ {V : Type 0} (new_of : List ℕ) (values0 values new_values : List (Option (Value V))) (owners0 owners new_owners : List (Option ℕ)) (inputs0 inputs new_inputs : List (List ℕ)) (count : ℕ)

@@ -1,5 +1,5 @@
 -- One cell after another gets its new number.
-use Rattle.std.proofs.Common.{◌≡◌, ◌≢◌, ℕ, ◌+◌, ◌<◌, ◌≤◌, List, [], length, map, Option, Some, None, IsSome, is_some, count_by, slice_get, refl, sym, ap, ◌∙◌, arith, inl, inr}
+use Rattle.std.proofs.Common.{◌≡◌, ◌≢◌, ℕ, suc, ◌+◌, ◌<◌, ◌≤◌, List, [], length, map, Option, Some, None, IsSome, is_some, count_by, slice_get, refl, sym, ap, ◌∙◌, arith, inl, inr}
 use Rattle.daig_graph.specs.declared.value.Value.{Value}
 use Rattle.daig_graph.specs.Agrees.{cell_of, filled_at, value_at, Agrees}
 use Rattle.daig_graph.specs.Cells.{Filled}
@@ -25,15 +25,16 @@ is-none None p e none = refl
 is-none (Some a) p e none = let no = e ∙ ap is_some none in absurd (cc)
 
 module _ {V : Type 0} (new_of : List ℕ) (values0 : List (Option (Value V))) (owners0 : List (Option ℕ)) (inputs0 : List (List ℕ)) (count : ℕ) (agrees : Agrees values0 owners0 inputs0 count) where
-  pub are-moving-start : (room : ℕ) → AreMoving new_of values0 values0 owners0 owners0 inputs0 inputs0 0 room
-  are-moving-start room = record {
+  pub are-moving-start : AreMoving new_of values0 values0 owners0 owners0 inputs0 inputs0 0 0
+  are-moving-start = record {
     value_places = refl;
     owner_places = refl;
     input_places = refl;
     owned = agrees.owned;
     blank = agrees.blank;
     counted = refl;
-    moving = moving-start (renumbered_cell new_of) (filled_at values0 owners0 inputs0) new_of room;
+    moving = moving-start (renumbered_cell new_of) (filled_at values0 owners0 inputs0) new_of 0;
+    last = λ n e. absurd (omega (arith, e));
   }
 
   -- a value is that of a cell
@@ -53,6 +54,7 @@ module _ {V : Type 0} (new_of : List ℕ) (values0 : List (Option (Value V))) (o
       blank = m.blank;
       counted = m.counted;
       moving = moving-none (renumbered_cell new_of) (filled_at values0 owners0 inputs0) (filled_at values owners inputs) new_of number room m.moving (cell-none (value_at values number) (owner_at owners number) (inputs_at inputs number) none);
+      last = m.last;
     }
 
     module _ (there : IsSome (value_at values number)) where
@@ -168,7 +170,11 @@ module _ {V : Type 0} (new_of : List ℕ) (values0 : List (Option (Value V))) (o
           counted = count_is ∙ m.counted;
           moving = moving-some (renumbered_cell new_of) (filled_at values0 owners0 inputs0) (filled_at values owners inputs) new_of number room m.moving rising below cell.0 cell.1
               (filled_at new_values new_owners new_inputs) filled-to (λ ne. cell-none (value_at new_values number) (owner_at new_owners number) (inputs_at new_inputs number) (value-from ne)) filled-other;
+          last = λ n e. ap (λ k. is_some (value_at new_values k)) (next-same n e) ∙ (ap is_some value-to ∙ there);
         }
+          where
+            next-same : (n : ℕ) → to + 1 ≡ suc n → n ≡ to
+            next-same n e = omega (arith, e)
 
     -- all have moved
     module _ (all : length values ≤ number) where

@@ -12,9 +12,10 @@ pub record Filled (V : Type 0) : Type 0 where
   pub value : Value V
   pub inputs : List ℕ
 
--- the cells by their numbers
+-- the cells by their numbers, and how many numbers have a place, from 0 on
 pub record Cells (V : Type 0) : Type 0 where
   pub cells : FinMap nat_cmp (Filled V)
+  pub places : ℕ
 
 -- whether there is a cell, and it belongs to a statement
 abbrev pub owned_by : {V : Type 0} → ℕ → Option (Filled V) → Bool

@@ -1,5 +1,5 @@
 -- Cells with other numbers.
-use Rattle.std.specs.Prelude.{◌≡◌, ℕ, map, List, [], length, Option, Some, None, is_some, count_by}
+use Rattle.std.specs.Prelude.{◌≡◌, ℕ, suc, map, List, [], length, Option, Some, None, IsSome, is_some, count_by}
 use Rattle.std.specs.Ordering.{nat_cmp}
 use Rattle.std.specs.FinMap.{FinMap, get}
 use Rattle.daig_graph.specs.declared.value.Value.{Value}
@@ -19,8 +19,8 @@ module _ (new_of : List ℕ) {V : Type 0} where
     pub there : (n : ℕ) (f : Filled V) → get old n ≡ Some f → get new (renumbered new_of n) ≡ Some (renumbered_cell f)
     pub back : (q : ℕ) (g : Filled V) → get new q ≡ Some g → (n : ℕ) × (f : Filled V) × (get old n ≡ Some f) × (renumbered new_of n ≡ q)
 
-  -- The cells below a number stand at their new numbers, below the room. The parts have as many places as before, and agree,
-  -- except that inputs may be cells that are still to move.
+  -- The cells below a number stand at their new numbers, below the room, the last of them right below it. The parts have as
+  -- many places as before, and agree, except that inputs may be cells that are still to move.
   pub record AreMoving (values mid_values : List (Option (Value V))) (owners mid_owners : List (Option ℕ)) (inputs mid_inputs : List (List ℕ)) (number room : ℕ) : Type 0 where
     pub value_places : length mid_values ≡ length values
     pub owner_places : length mid_owners ≡ length owners
@@ -29,3 +29,4 @@ module _ (new_of : List ℕ) {V : Type 0} where
     pub blank : (n : ℕ) → value_at mid_values n ≡ None → inputs_at mid_inputs n ≡ []
     pub counted : count_by is_some mid_values ≡ count_by is_some values
     pub moving : Moving renumbered_cell (filled_at values owners inputs) (filled_at mid_values mid_owners mid_inputs) new_of number room
+    pub last : (n : ℕ) → room ≡ suc n → IsSome (value_at mid_values n)

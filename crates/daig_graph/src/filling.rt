@@ -1,5 +1,5 @@
 //! Filling cells and taking them away.
-ghost use Rattle.std.specs.Prelude.{◌≡◌, ℕ, ◌<◌, None, IsSome, OnOk, OnErr, length};
+ghost use Rattle.std.specs.Prelude.{◌≡◌, ℕ, ◌<◌, ◌≤◌, None, IsSome, OnOk, OnErr, length, max, suc};
 ghost use Rattle.std.specs.FinMap as map;
 ghost use Rattle.daig_graph.specs.Agrees.{filled_at, Agrees};
 ghost use Rattle.daig_graph.specs.Cells.{AreCells, HoldsState, IsUnused, ReplacesHeld};
@@ -7,16 +7,18 @@ ghost use Rattle.daig_graph.specs.Cells.{AreCells, HoldsState, IsUnused, Replace
 use crate::graph::Graph;
 use crate::inputs::Inputs;
 use crate::owned::{Owned, bucket};
+use crate::room::make_room;
 use crate::uses::Uses;
 use crate::value::Value;
 use base_values::Memory;
 use std::alloc::{AllocError, Global};
 
 impl<V> Graph<V> {
-    /// No cells. It takes no memory yet.
+    /// No cells, and no places. It takes no memory yet.
     #[inline]
     pub fn new(alloc: Global) -> Graph<V>
         ensures empty { result.cells ≡ map.empty }
+        ensures places { result.places ≡ 0 }
     {
         Graph {
             values: Vec::new(alloc),
@@ -29,12 +31,12 @@ impl<V> Graph<V> {
 
     /// Fills a cell that is not there: its number, the statement that it belongs to, its value and its inputs. It takes
     /// as many steps as the cell has inputs, and as many more as its number, or the list of the statement, lies beyond
-    /// all before it.
+    /// all before it. Its number and those below it get places, and no others do.
     ///
     /// # Errors
     ///
-    /// [`Memory`] when memory runs out. The cells are what they were then.
-    #[inline]
+    /// [`Memory`] when memory runs out. The cells are what they were then; some of the places may be there.
+    #[inline(always)]
     pub fn fill(
         &mut self,
         cell: usize,
@@ -49,6 +51,9 @@ impl<V> Graph<V> {
         ensures fills { OnOk result (self.new.cells ≡ map.insert self.old.cells cell
             (record { owner = owner; value = value; inputs = inputs })) }
         ensures err { OnErr result (self.new.cells ≡ self.old.cells) }
+        ensures places { OnOk result (self.new.places ≡ max self.old.places (suc cell)) }
+        ensures kept { self.old.places ≤ self.new.places }
+        ensures most { self.new.places ≤ max self.old.places (suc cell) }
     {
         reserve(
             self.alloc,
@@ -72,11 +77,13 @@ impl<V> Graph<V> {
         V: Drop,
         requires state { HoldsState self.old.cells cell }
         ensures replaces { ReplacesHeld self.old.cells cell held self.new.cells }
+        ensures places { self.new.places ≡ self.old.places }
     {
         self.values[cell] = Some(Value::State(held));
     }
 
-    /// Takes a cell away that is an input of no other. It takes as many steps as the cell has inputs, and no memory.
+    /// Takes a cell away that is an input of no other; its place stays. It takes as many steps as the cell has inputs, and
+    /// no memory.
     #[inline]
     pub fn remove(&mut self, cell: usize)
     where
@@ -84,6 +91,7 @@ impl<V> Graph<V> {
         requires there { IsSome (map.get self.old.cells cell) }
         requires unused { IsUnused self.old.cells cell }
         ensures removes { self.new.cells ≡ map.remove self.old.cells cell }
+        ensures places { self.new.places ≡ self.old.places }
     {
         self.uses.clear(self.alloc, cell);
         let _owner = self.owned.take(cell);
@@ -104,6 +112,8 @@ fn reserve<V: Drop>(
 ) -> Result<(), AllocError>
     ensures place { OnOk result (cell < length values.new.items) }
     ensures list { OnOk result (list < owned.new.lists) }
+    ensures kept { length values.old.items ≤ length values.new.items }
+    ensures most { length values.new.items ≤ max (length values.old.items) (suc cell) }
     ensures same { (n : ℕ) → filled_at values.new.items owned.new.of uses.new n ≡
         filled_at values.old.items owned.old.of uses.old n }
     ensures agrees { (count : ℕ) → Agrees values.old.items owned.old.of uses.old count →
@@ -128,6 +138,8 @@ fn make_places<V: Drop>(
 ) -> Result<(), AllocError>
     ensures place { OnOk result (cell < length values.new.items) }
     ensures list { OnOk result (list < owned.new.lists) }
+    ensures kept { length values.old.items ≤ length values.new.items }
+    ensures most { length values.new.items ≤ max (length values.old.items) (suc cell) }
     ensures same { (n : ℕ) → filled_at values.new.items owned.new.of uses.new n ≡
         filled_at values.old.items owned.old.of uses.old n }
     ensures agrees { (count : ℕ) → Agrees values.old.items owned.old.of uses.old count →
@@ -135,6 +147,7 @@ fn make_places<V: Drop>(
 {
     owned.reserve(cell, list)?;
     uses.reserve(alloc, cell)?;
+    make_room(values, cell)?;
     while values.len() <= cell {
         values.push(None)?;
     }

@@ -26,6 +26,7 @@ pub struct Graph<V> {
 }
 
 impl<V> Model for Graph<V> {
+    ghost use Rattle.std.specs.Prelude.{length};
     ghost use Rattle.std.specs.FinMap as map;
     ghost use Rattle.daig_graph.specs.Cells.{Cells};
 
@@ -39,6 +40,7 @@ impl<V> Model for Graph<V> {
 
     ghost view = { λ a. record {
       cells = map.from_entries (numbered 0 (filled_cells a.values.items a.owned.of a.uses));
+      places = length a.values.items;
     } };
 
     ghost invariant = { λ a. Agrees a.values.items a.owned.of a.uses a.count };

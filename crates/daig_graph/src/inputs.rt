@@ -32,7 +32,7 @@ impl Inputs {
     }
 
     /// One input more, on the right.
-    #[inline]
+    #[inline(always)]
     pub fn push(&mut self, cell: usize) -> Result<(), Memory>
         ensures added { OnOk result (self.new ≡ self.old ++ cell ∷ []) }
         ensures err { OnErr result (self.new ≡ self.old) }

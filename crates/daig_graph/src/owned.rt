@@ -7,6 +7,7 @@ ghost use Rattle.daig_graph.specs.Owners.{first_owned, owned_at, next_owned, own
 
 use crate::graph::Graph;
 use crate::links::CellLink;
+use crate::room::make_room;
 use std::alloc::{AllocError, Global};
 use std::marker::Model;
 
@@ -83,6 +84,7 @@ impl Owned {
         ensures kept { length self.old.of ≤ length self.new.of }
         ensures most { length self.new.of ≤ max (length self.old.of) (suc cell) }
     {
+        make_room(&mut self.members, cell)?;
         while self.members.len() <= cell {
             self.members.push(None)?;
         }

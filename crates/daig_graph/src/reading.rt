@@ -68,9 +68,10 @@ impl<V> Graph<V> {
         self.count
     }
 
-    /// A number beyond those of all cells.
+    /// How many numbers have a place: a number beyond those of all cells.
     #[inline]
     pub fn room(&self) -> usize
+        ensures places { result ≡ self.now.places }
         ensures room { (n : ℕ) → IsSome (map.get self.now.cells n) → n < result }
     {
         self.values.len()

@@ -1,7 +1,7 @@
 //! Other numbers for the cells that are there.
-ghost use Rattle.std.specs.Prelude.{◌≡◌, map, count_by, is_some};
+ghost use Rattle.std.specs.Prelude.{◌≡◌, ℕ, suc, map, IsSome, count_by, is_some};
 ghost use Rattle.std.specs.FinMap as map_of;
-ghost use Rattle.daig_graph.specs.Agrees.{filled_at, Agrees};
+ghost use Rattle.daig_graph.specs.Agrees.{filled_at, value_at, Agrees};
 ghost use Rattle.daig_graph.specs.Numbers.{renumbered, AreRising, AreBelow, EndsBy, Moves};
 ghost use Rattle.daig_graph.specs.Renumbered.{renumbered_cell, Renumbers};
 
@@ -15,8 +15,8 @@ use std::alloc::Global;
 impl<V> Graph<V> {
     /// Calls each cell, also as an input, by the number that stands in `new_of` at its own, and by its own beyond
     /// `new_of`. The new numbers rise with the old, and none is greater. Values, statements and the order of inputs
-    /// stay. It takes as many steps as there is room for cells and inputs, and no memory, and gives back the memory of
-    /// numbers beyond the last.
+    /// stay. It takes as many steps as there is room for cells and inputs, and no memory, and gives back the places of
+    /// numbers beyond the last cell's.
     pub fn renumber(&mut self, new_of: &[usize])
     where
         V: Drop,
@@ -24,6 +24,7 @@ impl<V> Graph<V> {
         requires below { AreBelow (map_of.get self.old.cells) new_of.now }
         ensures renumbers { Renumbers new_of.now self.old.cells self.new.cells }
         ensures same_len { map_of.len self.new.cells ≡ map_of.len self.old.cells }
+        ensures last { (n : ℕ) → self.new.places ≡ suc n → IsSome (map_of.get self.new.cells n) }
     {
         let room = move_cells(
             self.alloc,
@@ -39,8 +40,8 @@ impl<V> Graph<V> {
     }
 }
 
-/// Moves each cell to its new number, which is not greater, and gives a number beyond those. The new numbers rise with the
-/// old.
+/// Moves each cell to its new number, which is not greater, and gives the number after the last of those, or 0 where there is
+/// no cell. The new numbers rise with the old.
 fn move_cells<V: Drop>(
     alloc: Global,
     values: &mut Vec<Option<Value<V>>>,
@@ -56,6 +57,7 @@ fn move_cells<V: Drop>(
         (filled_at values.old.items owned.old.of uses.old)
         (filled_at values.new.items owned.new.of uses.new) new_of.now }
     ensures room { EndsBy (filled_at values.new.items owned.new.of uses.new) result }
+    ensures last { (n : ℕ) → result ≡ suc n → IsSome (value_at values.new.items n) }
     ensures agrees { Agrees values.new.items owned.new.of uses.new
         (count_by is_some values.old.items) }
 {

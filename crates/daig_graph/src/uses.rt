@@ -10,6 +10,7 @@ use crate::dependents::Dependents;
 use crate::graph::Use;
 use crate::inputs::Inputs;
 use crate::links::{Beside, Links, UseLink};
+use crate::room::make_room;
 use base_values::Memory;
 use smallvec::SmallVec;
 use std::alloc::{AllocError, Global};
@@ -54,6 +55,8 @@ impl Uses {
         ensures kept { length self.old ≤ length self.new }
         ensures most { length self.new ≤ max (length self.old) (suc cell) }
     {
+        make_room(&mut self.inputs, cell)?;
+        make_room(&mut self.links, cell)?;
         while self.inputs.len() <= cell {
             self.inputs.reserve(1)?;
             self.links.push(Links::new(alloc))?;
@@ -85,7 +88,7 @@ impl Uses {
     }
 
     /// Gives a number that has no inputs these. It takes as many steps as there are.
-    #[inline]
+    #[inline(always)]
     pub(crate) fn set(&mut self, cell: usize, inputs: Inputs) -> Result<(), Memory>
         requires place { cell < length self.old }
         requires none { inputs_at self.old cell ≡ [] }
@@ -155,7 +158,7 @@ fn first_use(links: &[Links], cell: usize) -> UseLink
 }
 
 /// Room for the neighbours of so many uses of a number that has none.
-#[inline]
+#[inline(always)]
 fn reserve_links(links: &mut Vec<Links>, cell: usize, count: usize) -> Result<(), AllocError>
     requires place { cell < length links.old.items }
     requires none { besides links.old.items cell ≡ [] }

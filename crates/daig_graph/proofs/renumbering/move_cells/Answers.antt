@@ -11,7 +11,7 @@ use Rattle.daig_graph.proofs.renumbering.move_cells.Goals.{then-is_some, else-is
 use Rattle.std.proofs.lemmas.List.Edits.{swap_is}
 
 pub loop-number-init : goal.loop-number-init
-loop-number-init g c = record { moving = are-moving-start _ _ _ _ _ c.requires.agrees 0 }
+loop-number-init g c = record { moving = are-moving-start _ _ _ _ _ c.requires.agrees }
 
 pub swap-requires-clause-j_in_bounds : goal.swap-requires-clause-j_in_bounds
 swap-requires-clause-j_in_bounds g c =
@@ -100,3 +100,6 @@ returns-clause-room g c = all-end _ _ _ _ _ c.requires.agrees c.requires.rising 
 
 pub returns-clause-agrees : goal.returns-clause-agrees
 returns-clause-agrees g c = all-agree _ _ _ _ _ c.requires.agrees c.requires.rising c.requires.below _ _ _ _ _ c.loop-number.invariant.moving (omega (arith, c.loop-number-test.false, c.loop-number.invariant.moving.value_places, c.len-number-end.ensures))
+
+pub returns-clause-last : goal.returns-clause-last
+returns-clause-last g c = c.loop-number.invariant.moving.last

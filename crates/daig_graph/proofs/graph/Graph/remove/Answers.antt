@@ -51,4 +51,5 @@ invariant_of-self g c =
 pub returns : goal.returns
 returns g c = record {
   removes = map-take _ _ _ _ _ _ c.self.inside.count _ c.args.cell _ _ _ c.self.invariant (puts g c) (invariant_of-self g c) refl ∙ ap (λ v. remove v.cells c.args.cell) c.self.view_is;
+  places = length-set c.self.inside.values.items c.args.cell None ∙ ap (λ v. v.places) c.self.view_is;
 }

@@ -1,7 +1,7 @@
-use Rattle.std.proofs.Common.{ap, sym, ◌∙◌}
+use Rattle.std.proofs.Common.{refl, ap, sym, ◌∙◌}
 use Rattle.std.specs.FinMap.{len}
-use Rattle.daig_graph.proofs.Agreeing.{cell-at}
-use Rattle.daig_graph.proofs.Cut.{no-owner, no-inputs, inputs-end, keeps-cut, map-renumber}
+use Rattle.daig_graph.proofs.Agreeing.{cell-at, some-value}
+use Rattle.daig_graph.proofs.Cut.{no-owner, no-inputs, inputs-end, keeps-cut, cut-last, map-renumber}
 use Rattle.daig_graph.proofs.Filled.{Keeps, agrees-keep}
 use Rattle.daig_graph.proofs.Maps.{map-len}
 use Rattle.daig_graph.proofs.graph.Graph.renumber.Goals as goal
@@ -36,3 +36,8 @@ returns-clause-renumbers g c =
 
 pub returns-clause-same_len : goal.returns-clause-same_len
 returns-clause-same_len g c = map-len _ _ _ _ (invariant_of-self g c) ∙ sym (map-len _ _ _ _ c.self.invariant) ∙ ap (λ v. len v.cells) c.self.view_is
+
+pub returns-clause-last : goal.returns-clause-last
+returns-clause-last g c n e =
+    some-value _ _ _ _ (invariant_of-self g c) _ refl n
+    ∙ cut-last _ _ _ _ c.move_cells-room.result c.move_cells-room.ensures.agrees c.move_cells-room.ensures.room c.move_cells-room.ensures.last _ (c.shrink_to_fit.ensures.items ∙ c.truncate.ensures.items) n e

@@ -43,4 +43,5 @@ returns g c = record {
   replaces = λ f e.
       map-put _ _ _ _ _ _ c.self.inside.count c.self.inside.count c.args.cell _ _ _ c.self.invariant (puts g c f e) (invariant_of-self g c) (record f { value = State c.args.held }) refl
       ∙ ap (λ v. insert v.cells c.args.cell (record f { value = State c.args.held })) c.self.view_is;
+  places = length-set c.self.inside.values.items c.args.cell (Some (State c.args.held)) ∙ ap (λ v. v.places) c.self.view_is;
 }

@@ -10,7 +10,7 @@ pushed-same c n = ap (λ s. owned_at s n) c.in_ok-push.ensures.items ∙ push-no
 
 -- the owners are what they were
 loop-same : (c : After-loop-self) (n : ℕ) → owner_at (owners c.loop-self.self-inside.members.items) n ≡ owner_at c.args.self.now.of n
-loop-same c n = owners-along c.self.inside.members.items c.loop-self.self-inside.members.items c.loop-self.invariant.same n ∙ ap (λ s. owner_at s n) (ap (λ v. v.of) c.self.view_is)
+loop-same c n = owners-along c.self.inside.members.items c.loop-self.self-inside.members.items (λ m. c.loop-self.invariant.same m ∙ ap (λ s. owned_at s m) c.make_room.ensures.same) n ∙ ap (λ s. owner_at s n) (ap (λ v. v.of) c.self.view_is)
 
 pub loop-self-preserved : goal.loop-self-preserved
 loop-self-preserved c =
@@ -25,7 +25,7 @@ loop-self-preserved c =
     }
 
 pub returns-in_err-push-clause-same : goal.returns-in_err-push-clause-same
-returns-in_err-push-clause-same c n = ap (λ s. owner_at (owners s) n) c.in_err-push.ensures.items ∙ owners-along c.self.inside.members.items c.loop-self.self-inside.members.items c.loop-self.invariant.same n ∙ ap (λ s. owner_at s n) (ap (λ v. v.of) c.self.view_is)
+returns-in_err-push-clause-same c n = ap (λ s. owner_at (owners s) n) c.in_err-push.ensures.items ∙ owners-along c.self.inside.members.items c.loop-self.self-inside.members.items (λ m. c.loop-self.invariant.same m ∙ ap (λ s. owned_at s m) c.make_room.ensures.same) n ∙ ap (λ s. owner_at s n) (ap (λ v. v.of) c.self.view_is)
 
 pub loop-self-2-preserved : goal.loop-self-2-preserved
 loop-self-2-preserved c =
