@@ -1,5 +1,5 @@
 -- What a name asks for next, by what its first inputs' cells store.
-use Rattle.std.proofs.Common.{◌≡◌, ◌≢◌, ℕ, zero, suc, ◌≤◌, List, [], ◌∷◌, ◌++◌, map, take, length, Option, Some, None, Bool, true, false, nat_lt, slice_get, refl, sym, ap, subst, ◌∙◌, arith}
+use Rattle.std.proofs.Common.{◌≡◌, ◌≢◌, ℕ, zero, suc, ◌<◌, ◌≤◌, List, [], ◌∷◌, ◌++◌, map, take, length, Option, Some, None, Bool, true, false, nat_lt, slice_get, refl, sym, ap, subst, ◌∙◌, arith}
 use Rattle.std.proofs.lemmas.List.{length-map, length-take-le}
 use Rattle.domain_laws.specs.Operations.{Operations}
 use Rattle.batch_meaning.specs.Values as batch
@@ -17,6 +17,8 @@ use Rattle.daig_demands.proofs.Machine.{answered}
 use Rattle.imp_flow_rows.specs.Near.{row_in}
 use Rattle.imp_flow_rows.specs.NodeRows.{iterate_at}
 use Rattle.imp_flow.specs.Plans.{Plan}
+use Rattle.imp_flow_rows.specs.declared.input.Input.{Input}
+use Rattle.imp_flow_rows.specs.declared.row.Unary.{Unary}
 use Rattle.imp_flow_rows.specs.declared.row.Row.{Row}
 use Rattle.imp_flow_rows.specs.declared.row.Row.TheVariants.{Init, One, Two, Fixed, Joins}
 use Rattle.daig_graph.specs.Cells.{AreCells}
@@ -48,6 +50,17 @@ gather_length {T} {V} value asks (suc n) vs = next_length value (gather value as
 pub same_iterate : (engine : LoopOptions) (n : ℕ) (p : Point) (k : ℕ) → iterate_at n p k ≡ iterate_point engine bare n p k
 same_iterate engine n p zero = refl
 same_iterate engine n p (suc k) = refl
+
+one_fixed : (op : Unary) (a : Input) (n : ℕ) (p : Point) → One op a ≡ Fixed n p → ⊥
+one_fixed op a n p e = cc
+
+one_joins : (op : Unary) (a : Input) (s : Bool) (l : Point) (n : ℕ) (p : Point) → One op a ≡ Joins s l n p → ⊥
+one_joins op a s l n p e = cc
+
+by_one : (op : Unary) (a : Input) (w : List NameFrame) (n : ℕ) → 0 < n → by_count n (row_in w (One op a)) ≡ None
+by_one op a w zero h = absurd (omega (arith, h))
+by_one op a w (suc zero) h = refl
+by_one op a w (suc (suc n)) h = refl
 
 module _ {S : Type 0} (dom : Operations S) (engine : LoopOptions) where
   -- an operation on one value or two asks by the count
@@ -129,6 +142,13 @@ module _ {S : Type 0} (dom : Operations S) (plan : Plan) (store : Store S) (row 
       ∙ joined_asks dom plan store at.right o.inputs (take (length o.inputs) I) at.entry.numbers at.entry.cells s (name X.path l) n X.path p
       ∙ ap (λ q. asks_row dom plan.engine (row_in X.path q) (front (length o.inputs))) (sym e)
       ∙ asks (length o.inputs) at.entry.within
+
+  -- an operation on one value that has it asks for no more
+  pub asked_one : (op : Unary) (a : Input) → row ≡ One op a → 0 < length o.inputs → next_of dom plan store o ≡ None
+  asked_one op a e h =
+      sym (asked_operation (λ n p q. absurd (one_fixed op a n p (sym e ∙ q))) (λ t l n p q. absurd (one_joins op a t l n p (sym e ∙ q))))
+      ∙ ap (λ q. by_count (length o.inputs) (row_in X.path q)) e
+      ∙ by_one op a X.path (length o.inputs) h
 
   -- at most as many inputs as the row may have
   pub most_inputs : length I ≤ most_row dom plan.engine r

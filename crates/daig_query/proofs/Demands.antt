@@ -1,25 +1,22 @@
 -- Turns that follow one another come to what a demand promises.
 use Rattle.std.proofs.Common.{◌≡◌, ℕ, suc, ◌+◌, ◌-◌, ◌*◌, ◌<◌, ◌≤◌, Bool, true, false, List, length, Option, Some, None, sym, ap, subst, ◌∙◌, arith, mul-add, eqb}
 use Rattle.std.specs.Prelude.{IfSome, IfOk, Result, Ok, Err}
-use Rattle.std.specs.FinMap.{len}
 use Rattle.std.specs.Option.{option_eq}
 use Rattle.std.proofs.lemmas.Bool.Decides.{nat_tests}
 use Rattle.domain_laws.specs.Operations.{Operations}
-use Rattle.cell_names.specs.Paths.{CellName}
 use Rattle.cell_rows.specs.Targets.{Target}
 use Rattle.imp_flow.specs.Plans.{Plan}
 use Rattle.daig_query.specs.declared.advance.Progress.{Progress}
-use Rattle.daig_query.specs.declared.advance.AdvanceResult.{AdvanceResult}
-use Rattle.daig_query.specs.declared.advance.AdvanceResult.TheVariants.{Pushed, Filled, Spent, Done}
 use Rattle.daig_query.specs.declared.store.Store.{Store}
+use Rattle.daig_query.specs.declared.turning.TurnOutcome.{TurnOutcome}
+use Rattle.daig_query.specs.declared.turning.TurnOutcome.TheVariants.{Pushed, Filled, Spent, Done}
 use Rattle.daig_query.specs.declared.walk.Walk.{Walk}
 use Rattle.daig_query.specs.Kept.{AddsFew, Names}
 use Rattle.daig_query.specs.Filled.{cells_added, missing, Fills}
-use Rattle.daig_query.specs.Turned.{stacked_names, fills_of, Obeys, Pushes, FillsTop, Waits, Ends}
+use Rattle.daig_query.specs.Turned.{stacked_names, fills_of, Ends, FillsTop, IsTurn, Obeys, Pushes, Waits}
 use Rattle.daig_query.specs.Walked.{IsDone, IsGood}
 use Rattle.daig_query.proofs.Growing.{few_more, few_trans, names_few}
-use Rattle.daig_query.proofs.Turning.{IsTurn}
-use Rattle.daig_query.proofs.Turns.{IsRunning, running_left, stops, pushes, pushes_smaller, fills_one, fills_smaller, fills_more, waits_more, ends_all, within_still, within_more, turned, ticks_same, ticks_more}
+use Rattle.daig_query.proofs.Turns.{IsRunning, added_still, running_left, stops, pushes, pushes_smaller, fills_one, fills_smaller, fills_more, waits_more, ends_all, within_still, within_more, turned, ticks_same, ticks_more}
 
 -- What the clauses of a demand say, of a result.
 pub record IsDemand {S E : Type 0} (dom : Operations S) (plan : Plan) (ts : List Target) (old new : Store S) (after : Walk) (limit : Option ℕ) (each ticks later : ℕ) (result : Result Progress E) : Type 0 where
@@ -50,15 +47,15 @@ ticks_past first before after each a b e h k =
     let m : each * suc b ≡ each * a + each * 1 = ap (λ n. each * n) q ∙ mul-add each a 1 in
     omega arith
 
-module _ {S : Type 0} (dom : Operations S) (plan : Plan) (ts : List Target) (first : Store S) (limit : Option ℕ) (each start : ℕ) where
-  -- turns have come to a store, a walk and these ticks
-  pub record HasCome (store : Store S) (w : Walk) (ticks : ℕ) : Type 0 where
-    pub running : IsRunning dom plan ts first store w
-    pub within : IfSome limit (λ n. cells_added first store ≤ n)
-    pub least : start ≤ ticks
-    pub most : ticks ≤ start + each * cells_added first store
-    pub few : AddsFew (cells_added first store) first store
+-- turns have come from a first store and these ticks to a store, a walk and ticks
+pub record HasCome {S : Type 0} (dom : Operations S) (plan : Plan) (ts : List Target) (first : Store S) (limit : Option ℕ) (each start : ℕ) (store : Store S) (w : Walk) (ticks : ℕ) : Type 0 where
+  pub running : IsRunning dom plan ts first store w
+  pub within : IfSome limit (λ n. cells_added first store ≤ n)
+  pub least : start ≤ ticks
+  pub most : ticks ≤ start + each * cells_added first store
+  pub few : AddsFew (cells_added first store) first store
 
+module _ {S : Type 0} (first : Store S) where
   -- a few more, and those of a cell more
   few_past : (old new : Store S) (a b : ℕ) → b ≡ a → AddsFew a first old → AddsFew 1 old new → AddsFew (suc b) first new
   few_past old new a b same h k = few_more first new (a + 1) (suc b) (omega (arith, same)) (few_trans first old new a 1 h k)
@@ -69,18 +66,13 @@ module _ {S : Type 0} (dom : Operations S) (plan : Plan) (ts : List Target) (fir
   few_ends : (old new : Store S) (a b : ℕ) → b ≡ a → AddsFew a first old → Names old new → AddsFew (suc b) first new
   few_ends old new a b same h k = few_more first new b (suc b) (omega arith) (few_still old new a b same h k)
 
-  module _ (old new : Store S) (before after : Walk) (spent : Bool) (ticks later : ℕ) (come : HasCome old before ticks) where
-    abbrev names : List CellName
-    names = stacked_names old before.stack.items
-
-    still : new.graph.cells ≡ old.graph.cells → cells_added first new ≡ cells_added first old
-    still cells = ap (λ m. len m - len first.graph.cells) cells
-
-    pub demand_failed : {E : Type 0} {e : E} → IsTurn dom plan ts old new names after spent each ticks later (Err e) → {F : Type 0} (f : F) (r : Result Progress F) → r ≡ Err f → IsDemand dom plan ts first new after limit each start later r
+module _ {S : Type 0} {dom : Operations S} {plan : Plan} {ts : List Target} {first : Store S} {limit : Option ℕ} {each start : ℕ} where
+  module _ {old new : Store S} {before after : Walk} {spent : Bool} {ticks later : ℕ} (come : HasCome dom plan ts first limit each start old before ticks) where
+    pub demand_failed : {E : Type 0} {e : E} → IsTurn dom plan ts old new (stacked_names old before.stack.items) after spent each ticks later (Err e) → {F : Type 0} (f : F) (r : Result Progress F) → r ≡ Err f → IsDemand dom plan ts first new after limit each start later r
     demand_failed t {F} f r is =
-        let same : cells_added first new ≡ cells_added first old = still t.err.cells in
+        let same : cells_added first new ≡ cells_added first old = added_still dom plan ts first old new t.err.cells in
         subst (IsDemand {E = F} dom plan ts first new after limit each start later) (sym is) (record {
-          fills = stops dom plan ts first old new before after come.running t.right t.grows t.walk t.err.cells (few_past old new (cells_added first old) (cells_added first new) same come.few t.err.few);
+          fills = stops dom plan ts first old new before after come.running t.right t.grows t.walk t.err.cells (few_past first old new (cells_added first old) (cells_added first new) same come.few t.err.few);
           walk = t.walk;
           within = within_still dom plan ts limit (cells_added first old) (cells_added first new) same come.within;
           counted = tt;
@@ -93,36 +85,36 @@ module _ {S : Type 0} (dom : Operations S) (plan : Plan) (ts : List Target) (fir
           most = ticks_past start ticks later each (cells_added first old) (cells_added first new) same come.most t.most;
         })
 
-    module _ {E : Type 0} (turn : AdvanceResult) (t : IsTurn {E = E} dom plan ts old new names after spent each ticks later (Ok turn)) where
-      ticked_by : (is : AdvanceResult) → turn ≡ is → later ≤ ticks + each * fills_of is
+    module _ {E : Type 0} {turn : TurnOutcome} (t : IsTurn {E = E} dom plan ts old new (stacked_names old before.stack.items) after spent each ticks later (Ok turn)) where
+      ticked_by : (is : TurnOutcome) → turn ≡ is → later ≤ ticks + each * fills_of is
       ticked_by is e = subst (λ u. later ≤ ticks + each * fills_of u) e t.ticked
 
       least_by : start ≤ later
       least_by = omega (arith, come.least, t.least)
 
       module _ (e : turn ≡ Pushed) where
-        abbrev pushed : Pushes old new names after
-        pushed = turned dom plan ts old new names after turn Pushed e t.turns
+        abbrev pushed : Pushes old new (stacked_names old before.stack.items) after
+        pushed = turned dom plan ts old new (stacked_names old before.stack.items) after turn Pushed e t.turns
 
-        pub come_pushed : HasCome new after later
+        pub come_pushed : HasCome dom plan ts first limit each start new after later
         come_pushed =
-            let same : cells_added first new ≡ cells_added first old = still (ap (λ g. g.cells) pushed.only.graph) in
+            let same : cells_added first new ≡ cells_added first old = added_still dom plan ts first old new (ap (λ g. g.cells) pushed.only.graph) in
             record {
               running = pushes dom plan ts first old new before after come.running t.right t.grows t.walk pushed;
               within = within_still dom plan ts limit (cells_added first old) (cells_added first new) same come.within;
               least = least_by;
               most = ticks_same start ticks later each (cells_added first old) (cells_added first new) same come.most (ticked_by Pushed e);
-              few = few_still old new (cells_added first old) (cells_added first new) same come.few pushed.only;
+              few = few_still first old new (cells_added first old) (cells_added first new) same come.few pushed.only;
             }
 
         pub pushed_smaller : running_left dom plan ts first new after < running_left dom plan ts first old before
         pushed_smaller = pushes_smaller dom plan ts first old new before after come.running t.right t.grows t.walk pushed
 
       module _ (e : turn ≡ Filled) where
-        abbrev filled : FillsTop dom plan ts old new names after
-        filled = turned dom plan ts old new names after turn Filled e t.turns
+        abbrev filled : FillsTop dom plan ts old new (stacked_names old before.stack.items) after
+        filled = turned dom plan ts old new (stacked_names old before.stack.items) after turn Filled e t.turns
 
-        pub come_filled : (spent ≡ false → limit ≡ Some (cells_added first old) → ⊥) → HasCome new after later
+        pub come_filled : (spent ≡ false → limit ≡ Some (cells_added first old) → ⊥) → HasCome dom plan ts first limit each start new after later
         come_filled free =
             let more : cells_added first new ≡ cells_added first old + 1 = fills_more dom plan ts first old new before after come.running t.right t.grows t.walk filled in
             record {
@@ -137,15 +129,15 @@ module _ {S : Type 0} (dom : Operations S) (plan : Plan) (ts : List Target) (fir
         filled_smaller = fills_smaller dom plan ts first old new before after come.running t.right t.grows t.walk filled
 
       -- the demand ends here
-      module _ (count : ℕ) (counted : count ≡ cells_added first old) where
+      module _ {count : ℕ} (counted : count ≡ cells_added first old) where
         pub demand_spent : turn ≡ Spent → (spent ≡ true → limit ≡ Some count) → {F : Type 0} → IsDemand {E = F} dom plan ts first new after limit each start later (Ok (record { filled = count; done = false }))
         demand_spent e met =
-            let waits : Waits dom plan ts old new names after = turned dom plan ts old new names after turn Spent e t.turns in
+            let waits : Waits dom plan ts old new (stacked_names old before.stack.items) after = turned dom plan ts old new (stacked_names old before.stack.items) after turn Spent e t.turns in
             let cells : new.graph.cells ≡ old.graph.cells = ap (λ g. g.cells) waits.only.graph in
-            let same : cells_added first new ≡ cells_added first old = still cells in
+            let same : cells_added first new ≡ cells_added first old = added_still dom plan ts first old new cells in
             let more : cells_added first new < length (missing dom plan ts first) = waits_more dom plan ts first old new before after come.running t.right t.grows t.walk waits in
             record {
-              fills = stops dom plan ts first old new before after come.running t.right t.grows t.walk cells (few_ends old new (cells_added first old) (cells_added first new) same come.few waits.only);
+              fills = stops dom plan ts first old new before after come.running t.right t.grows t.walk cells (few_ends first old new (cells_added first old) (cells_added first new) same come.few waits.only);
               walk = t.walk;
               within = within_still dom plan ts limit (cells_added first old) (cells_added first new) same come.within;
               counted = counted ∙ sym same;
@@ -160,12 +152,12 @@ module _ {S : Type 0} (dom : Operations S) (plan : Plan) (ts : List Target) (fir
 
         pub demand_done : turn ≡ Done → {F : Type 0} → IsDemand {E = F} dom plan ts first new after limit each start later (Ok (record { filled = count; done = true }))
         demand_done e =
-            let ends : Ends dom plan ts old new names after = turned dom plan ts old new names after turn Done e t.turns in
+            let ends : Ends dom plan ts old new (stacked_names old before.stack.items) after = turned dom plan ts old new (stacked_names old before.stack.items) after turn Done e t.turns in
             let cells : new.graph.cells ≡ old.graph.cells = ap (λ g. g.cells) ends.only.graph in
-            let same : cells_added first new ≡ cells_added first old = still cells in
+            let same : cells_added first new ≡ cells_added first old = added_still dom plan ts first old new cells in
             let all : cells_added first new ≡ length (missing dom plan ts first) = ends_all dom plan ts first old new before after come.running t.right t.grows t.walk ends in
             record {
-              fills = stops dom plan ts first old new before after come.running t.right t.grows t.walk cells (few_ends old new (cells_added first old) (cells_added first new) same come.few ends.only);
+              fills = stops dom plan ts first old new before after come.running t.right t.grows t.walk cells (few_ends first old new (cells_added first old) (cells_added first new) same come.few ends.only);
               walk = t.walk;
               within = within_still dom plan ts limit (cells_added first old) (cells_added first new) same come.within;
               counted = counted ∙ sym same;

@@ -23,7 +23,8 @@ pub mod Turns
 pub mod Starting
 pub mod Tops
 pub mod Firsts
-pub mod Turning
+pub mod Outcomes
+pub mod TopTurns
 pub mod Demands
 pub mod Holding
 pub mod Reading

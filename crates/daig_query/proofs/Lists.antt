@@ -29,6 +29,12 @@ last_set (x ∷ y ∷ ys) d v (suc n) e =
     let p = last_set (y ∷ ys) d v n (omega (arith, e)) in
     (x ∷ p.0, ap (λ zs. x ∷ zs) p.1, ap (λ zs. x ∷ zs) p.2)
 
+-- a list ends with its last item
+pub ends_with : {A : Type 0} (xs : List A) (n : ℕ) → length xs ≡ suc n → (x : A) → x ≡ get_or xs n x → (rest : List A) × (xs ≡ rest ++ x ∷ [])
+ends_with xs n size x is =
+    let p = last_set xs x x n size in
+    (p.0, p.1 ∙ ap (λ y. p.0 ++ y ∷ []) (sym is))
+
 -- two lists that are the same have the same last item
 pub same_last : {A : Type 0} (xs ys : List A) (x y : A) → xs ++ x ∷ [] ≡ ys ++ y ∷ [] → (xs ≡ ys) × (x ≡ y)
 same_last xs ys x y e =

@@ -135,11 +135,16 @@ module _ {S : Type 0} (dom : Operations S) (plan : Plan) where
 
   module _ (ts : List Target) where
     -- a walk with another stack
-    pub good_with : (store : Store S) (w new : Walk) → new.target ≡ w.target → new.step ≡ w.step → new.path ≡ w.path → new.found.items ≡ w.found.items → IsPlaced dom plan ts store w → AreStacked dom plan store (place_of ts store w) new.stack.items → IsGood dom plan ts store new
-    good_with store w new target step path found placed stacked = record {
-      placed = placed_same dom plan ts store w new target step path found placed;
-      stacked = subst (λ k. AreStacked dom plan store k new.stack.items) (sym (place_same dom plan ts store w new target step path)) stacked;
-    }
+    pub good_with : (store : Store S) (w new : Walk) → new ≡ record w { stack = new.stack } → IsPlaced dom plan ts store w → AreStacked dom plan store (place_of ts store w) new.stack.items → IsGood dom plan ts store new
+    good_with store w new on placed stacked =
+        let target : new.target ≡ w.target = ap (λ (v : Walk). v.target) on in
+        let step : new.step ≡ w.step = ap (λ (v : Walk). v.step) on in
+        let path : new.path ≡ w.path = ap (λ (v : Walk). v.path) on in
+        let found : new.found.items ≡ w.found.items = ap (λ (v : Walk). v.found.items) on in
+        record {
+          placed = placed_same dom plan ts store w new target step path found placed;
+          stacked = subst (λ k. AreStacked dom plan store k new.stack.items) (sym (place_same dom plan ts store w new target step path)) stacked;
+        }
 
     -- In a turn the name on top of others is looked at in a store with more names.
     module _ (old mid : Store S) (w : Walk) (os : List Open) (top : Open) (right : IsRight dom plan old) (later : IsRight dom plan mid) (names : Names old mid) (placed : IsPlaced dom plan ts old w) (stacked : AreStacked dom plan old (place_of ts old w) (os ++ top ∷ [])) where
@@ -159,8 +164,8 @@ module _ {S : Type 0} (dom : Operations S) (plan : Plan) where
       stacked_rest = stacked_front dom plan mid (place_of ts mid w) (os ++ top ∷ []) os (length os) (sym (take_start os (top ∷ []))) stacked_mid
 
       -- without the top
-      pub good_rest : (new : Walk) → new.target ≡ w.target → new.step ≡ w.step → new.path ≡ w.path → new.found.items ≡ w.found.items → new.stack.items ≡ os → IsGood dom plan ts mid new
-      good_rest new target step path found stack = good_with mid w new target step path found placed_mid (subst (AreStacked dom plan mid (place_of ts mid w)) (sym stack) stacked_rest)
+      pub good_rest : (new : Walk) → new ≡ record w { stack = new.stack } → new.stack.items ≡ os → IsGood dom plan ts mid new
+      good_rest new on stack = good_with mid w new on placed_mid (subst (AreStacked dom plan mid (place_of ts mid w)) (sym stack) stacked_rest)
 
       within : (i : ℕ) (o : Open) → slice_get os i ≡ Some o → o.name.path < length old.names.paths
       within i o e = (stacked.opens i o (get_front os (top ∷ []) i o e)).path
@@ -179,8 +184,8 @@ module _ {S : Type 0} (dom : Operations S) (plan : Plan) where
         stacked_entry = stacked_again mid (place_of ts mid w) os top entry same_top stays.entry stacked_mid
 
         -- with it
-        pub good_entry : (new : Walk) → new.target ≡ w.target → new.step ≡ w.step → new.path ≡ w.path → new.found.items ≡ w.found.items → new.stack.items ≡ os ++ entry ∷ [] → IsGood dom plan ts mid new
-        good_entry new target step path found stack = good_with mid w new target step path found placed_mid (subst (AreStacked dom plan mid (place_of ts mid w)) (sym stack) stacked_entry)
+        pub good_entry : (new : Walk) → new ≡ record w { stack = new.stack } → new.stack.items ≡ os ++ entry ∷ [] → IsGood dom plan ts mid new
+        good_entry new on stack = good_with mid w new on placed_mid (subst (AreStacked dom plan mid (place_of ts mid w)) (sym stack) stacked_entry)
 
         pub entry_names : stacked_names mid (os ++ entry ∷ []) ≡ stacked_names old (os ++ top ∷ [])
         entry_names =
@@ -206,8 +211,8 @@ module _ {S : Type 0} (dom : Operations S) (plan : Plan) where
         }
 
         -- it is filled and handed down
-        pub good_handed : (new : Store S) (after : Walk) → after.target ≡ w.target → after.step ≡ w.step → after.path ≡ w.path → after.found.items ≡ w.found.items → Puts dom plan mid new (name_of mid entry) → HandsDown entry.cell os after.stack.items → IsGood dom plan ts new after
-        good_handed new after target step path found puts hands = good_with new w after target step path found (placed_grows dom plan ts mid new w puts.right puts.grows placed_mid) (by hands)
+        pub good_handed : (new : Store S) (after : Walk) → after ≡ record w { stack = after.stack } → Puts dom plan mid new (name_of mid entry) → HandsDown entry.cell os after.stack.items → IsGood dom plan ts new after
+        good_handed new after on puts hands = good_with new w after on (placed_grows dom plan ts mid new w puts.right puts.grows placed_mid) (by hands)
           where
             stacked_new : AreStacked dom plan new (place_of ts new w) os
             stacked_new = stacked_with_names ts mid new w os puts.grows placed_mid stacked_rest
@@ -259,9 +264,9 @@ module _ {S : Type 0} (dom : Operations S) (plan : Plan) where
 
       module _ (entry u : Open) (stays : StaysOpen dom plan mid top entry) (next : IsNext dom plan mid entry (Some u)) where
         -- its next input is pushed on it
-        pub good_pushed : (new : Walk) → new.target ≡ w.target → new.step ≡ w.step → new.path ≡ w.path → new.found.items ≡ w.found.items → new.stack.items ≡ (os ++ entry ∷ []) ++ u ∷ [] → IsGood dom plan ts mid new
-        good_pushed new target step path found stack =
-            good_with mid w new target step path found placed_mid (
+        pub good_pushed : (new : Walk) → new ≡ record w { stack = new.stack } → new.stack.items ≡ (os ++ entry ∷ []) ++ u ∷ [] → IsGood dom plan ts mid new
+        good_pushed new on stack =
+            good_with mid w new on placed_mid (
             subst (AreStacked dom plan mid (place_of ts mid w)) (sym stack) (stacked_push mid (place_of ts mid w) os entry u next.1 next.0 (stacked_entry entry stays))
             )
 

@@ -15,8 +15,8 @@ use Rattle.cell_rows.specs.Targets.{Target}
 use Rattle.imp_flow.specs.Plans.{Plan}
 use Rattle.cell_graph.specs.Same.{same_name}
 use Rattle.cell_graph.specs.Named.{filled_at}
-use Rattle.daig_query.specs.declared.advance.AdvanceResult.{AdvanceResult}
 use Rattle.daig_query.specs.declared.store.Store.{Store}
+use Rattle.daig_query.specs.declared.turning.TurnOutcome.{TurnOutcome}
 use Rattle.daig_query.specs.declared.walk.Walk.{Walk}
 use Rattle.daig_query.specs.Kept.{kept, AddsFew, Grows}
 use Rattle.daig_query.specs.Right.{found, IsRight}
@@ -51,7 +51,8 @@ module _ {S : Type 0} (dom : Operations S) (plan : Plan) (ts : List Target) wher
       ∙ filled_same old.graph.cells old.names.names new.names.names before.once after.once grows.names (λ n f e. let p = before.cells n f e in (p.0, p.1)) x
       )
 
-  added_still : (first old new : Store S) → new.graph.cells ≡ old.graph.cells → cells_added first new ≡ cells_added first old
+  -- nor are more cells added
+  pub added_still : (first old new : Store S) → new.graph.cells ≡ old.graph.cells → cells_added first new ≡ cells_added first old
   added_still first old new cells = ap (λ m. len m - len first.graph.cells) cells
 
   -- what the names under the top wait for is the top
@@ -193,7 +194,7 @@ module _ {S : Type 0} (dom : Operations S) (plan : Plan) (ts : List Target) wher
       more other = grind (arith, other)
 
 -- what a turn did, by what it was
-pub turned : {S : Type 0} (dom : Operations S) (plan : Plan) (ts : List Target) (old new : Store S) (before : List CellName) (after : Walk) (turn is : AdvanceResult) → turn ≡ is → Turns dom plan ts old new before after turn → Turns dom plan ts old new before after is
+pub turned : {S : Type 0} (dom : Operations S) (plan : Plan) (ts : List Target) (old new : Store S) (before : List CellName) (after : Walk) (turn is : TurnOutcome) → turn ≡ is → Turns dom plan ts old new before after turn → Turns dom plan ts old new before after is
 turned dom plan ts old new before after turn is e h = subst (Turns dom plan ts old new before after) e h
 
 -- a limit that is not reached

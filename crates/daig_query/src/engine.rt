@@ -96,6 +96,7 @@ impl<D: Domain> Engine<D> {
     pub fn empty(&mut self, plan: cell_removal::RemovalOrder)
         requires order { IsOrder self.old.store.graph.cells plan }
         ensures removes { self.new.store.graph.cells ≡ without self.old.store.graph.cells plan }
+        ensures places { self.new.store.graph.places ≡ self.old.store.graph.places }
         ensures lessens { Lessens self.old.store self.new.store }
         ensures domain { self.new.domain ≡ self.old.domain }
         ensures spare { self.new.spare ≡ self.old.spare }

@@ -1,5 +1,5 @@
 //! What a row asks for next.
-ghost use Rattle.std.specs.Prelude.{◌≡◌, List, length, None, option_map};
+ghost use Rattle.std.specs.Prelude.{◌≡◌, List, length, None, IsTrue, option_map};
 ghost use Rattle.daig_graph.specs.Cells.{AreCells};
 ghost use Rattle.loop_unroll.specs.Iterates.{iterate_of, value_at, GoesOnTo, StopsWithin};
 ghost use Rattle.imp_flow_rows.specs.Near.{PathFrame, input_name, row_in};
@@ -65,6 +65,25 @@ fn next_joined(graph: &Graph<Held>, budget: u32, row: &Row<'_>, found: &[usize])
         0 => row.first(),
         1 => row.before_break(last_round(graph, budget, found[0])?),
         _ => None,
+    }
+}
+
+/// Whether a name whose row has one input alone has that. Then there is no next one, and none is made to be looked at.
+#[inline]
+pub(crate) fn has_one_input<D: Domain>(
+    dom: &D,
+    flow: &Flow<'_>,
+    store: &Store<D::State>,
+    row: &Row<'_>,
+    entry: &Open,
+) -> bool
+    requires at { IsAt (D.operations dom.now) flow.now store.now row.now entry.now }
+    ensures complete { IsTrue result → next_of (D.operations dom.now) flow.now store.now entry.now ≡
+        None }
+{
+    match row {
+        Row::One(_, _) => entry.inputs.len() > 0,
+        _ => false,
     }
 }
 

@@ -20,6 +20,7 @@ mod operation_table;
 mod operations;
 mod store;
 mod sweep;
+mod turning;
 mod walk;
 
 pub use advance::Progress;

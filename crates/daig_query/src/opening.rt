@@ -12,7 +12,7 @@ ghost use Rattle.daig_query.specs.Right.{IsRight};
 
 use crate::compute::compute;
 use crate::held::Held;
-use crate::inputs::next_input;
+use crate::inputs::{has_one_input, next_input};
 use crate::store::Store;
 use base_values::Memory;
 use cell_names::{Name, Names};
@@ -70,7 +70,7 @@ pub(crate) fn has_cell(graph: &Graph<Held>, cell: usize) -> bool
 }
 
 /// The row of a name.
-#[inline]
+#[inline(always)]
 pub(crate) fn row_of<'a>(flow: &'a Flow<'_>, names: &Names, name: &Name) -> Option<Row<'a>>
     requires there { name.now.path < length names.now.paths }
     ensures is { option_map (row_in (path_at names.now.paths name.now.path)) result ≡
@@ -157,6 +157,9 @@ pub(crate) fn next_absent<D: Domain>(
     ensures next { IfOk result (λ found. IsNext (D.operations dom.now) flow.now store.new entry.new
         (option_map unfound found)) }
 {
+    if has_one_input(dom, flow, store, row, entry) {
+        return Ok(None);
+    }
     'inputs: while let Some(input) = next_input(dom, flow, store, row, entry) {
         let name = input.name(&mut store.names, entry.name.path)?;
         let cell = store.names.add_input(name, entry.cell, entry.inputs.len())?;

@@ -67,7 +67,7 @@ impl OperationTable {
 
     /// The number of the operation of a row that belongs to a statement: the noted one where it is right, else that of
     /// the operation, owned, which is looked up, or added where it is new.
-    #[inline]
+    #[inline(always)]
     pub(crate) fn number_of(
         &mut self,
         alloc: Global,
@@ -90,7 +90,7 @@ impl OperationTable {
     }
 
     /// The number that is noted at a place, where it is that of the row's operation.
-    #[inline]
+    #[inline(always)]
     fn noted_number(&self, row: &Row<'_>, place: usize) -> Option<usize>
         ensures is { IfSome result (HasOperation self.now row.now) }
         ensures once { AreOnce ⟦<Operation as PartialEq>⟧.eq self.now }
@@ -133,7 +133,7 @@ fn place_of(row: &Row<'_>, owner: u32) -> usize {
 }
 
 /// Whether an operation is that of an operation on one value.
-#[inline]
+#[inline(always)]
 fn is_of_unary(op: &Unary<'_>, operation: &Operation) -> bool
     ensures sound { IsTrue result → IsUnaryOf op.now operation.now }
 {
@@ -162,7 +162,7 @@ fn is_of_binary(op: &Binary<'_>, operation: &Operation) -> bool
 }
 
 /// Whether an operation is that of a row. It compares, and copies nothing.
-#[inline]
+#[inline(always)]
 fn is_of(row: &Row<'_>, operation: &Operation) -> bool
     ensures sound { IsTrue result → IsOperationOf row.now operation.now }
 {

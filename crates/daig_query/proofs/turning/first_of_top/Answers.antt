@@ -8,7 +8,7 @@ use Rattle.daig_query.specs.declared.store.Store.{Store}
 use Rattle.daig_query.specs.Opened.{unfound, IsNext, StaysOpen}
 use Rattle.daig_query.specs.Looked.{HasOpenTop, LooksAtFirst}
 use Rattle.daig_query.proofs.Lists.{last_set}
-use Rattle.daig_query.proofs.advance.first_of_top.Goals as goal
+use Rattle.daig_query.proofs.turning.first_of_top.Goals as goal
 
 module _ {S : Type 0} (dom : Operations S) (plan : Plan) (store : Store S) (stack : List Open) (n : ℕ) (size : length stack ≡ suc n) (top entry : Open) (is : top ≡ get_or stack n top) (stays : StaysOpen dom plan store top entry) where
   abbrev has_open : HasOpenTop dom plan store stack (set stack n entry)

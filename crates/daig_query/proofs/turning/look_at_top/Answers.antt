@@ -9,7 +9,7 @@ use Rattle.daig_query.specs.declared.store.Store.{Store}
 use Rattle.daig_query.specs.Opened.{unfound, IsFurther, IsNext}
 use Rattle.daig_query.specs.Looked.{HasFurtherTop, LooksAtTop}
 use Rattle.daig_query.proofs.Lists.{last_set}
-use Rattle.daig_query.proofs.advance.look_at_top.Goals as goal
+use Rattle.daig_query.proofs.turning.look_at_top.Goals as goal
 
 module _ {S : Type 0} (dom : Operations S) (plan : Plan) (store : Store S) (row : Row) (stack : List Open) (n : ℕ) (size : length stack ≡ suc n) (top entry : Open) (is : top ≡ get_or stack n top) (further : IsFurther dom plan store row top entry) where
   abbrev has_further : HasFurtherTop dom plan store row stack (set stack n entry)

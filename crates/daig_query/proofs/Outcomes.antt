@@ -1,5 +1,5 @@
 -- What turns at the name on top of a stack come to.
-use Rattle.std.proofs.Common.{◌≡◌, ℕ, suc, ◌||◌, ◌+◌, ◌*◌, ◌≤◌, Bool, true, false, List, Result, Ok, Err, IfOk, OnErr, sym, ap, subst, ◌∙◌, arith}
+use Rattle.std.proofs.Common.{◌≡◌, ℕ, suc, ◌||◌, ◌+◌, ◌≤◌, Bool, true, false, List, Result, Ok, Err, IfOk, OnErr, sym, ap, subst, ◌∙◌, arith}
 use Rattle.std.specs.FinMap.{len}
 use Rattle.domain_laws.specs.Operations.{Operations}
 use Rattle.cell_names.specs.Known.{IsOnce}
@@ -7,35 +7,23 @@ use Rattle.cell_names.specs.Paths.{CellName}
 use Rattle.cell_graph.specs.Same.{same_name}
 use Rattle.cell_rows.specs.Targets.{Target}
 use Rattle.imp_flow.specs.Plans.{Plan}
-use Rattle.daig_query.specs.declared.advance.AdvanceResult.{AdvanceResult}
-use Rattle.daig_query.specs.declared.advance.AdvanceResult.TheVariants.{Pushed, Filled, Spent, Done}
 use Rattle.daig_query.specs.declared.store.Store.{Store}
+use Rattle.daig_query.specs.declared.turning.TurnOutcome.{TurnOutcome}
+use Rattle.daig_query.specs.declared.turning.TurnOutcome.TheVariants.{Pushed, Filled, Spent, Done}
 use Rattle.daig_query.specs.declared.walk.Walk.{Walk}
-use Rattle.daig_query.specs.Kept.{kept, AddsNoCell, Grows, Names}
+use Rattle.daig_query.specs.Kept.{kept, AddsNoCell, Names}
 use Rattle.daig_query.specs.Right.{IsRight}
 use Rattle.daig_query.specs.Opened.{Computes, Puts}
-use Rattle.daig_query.specs.Turned.{fills_of, Obeys, Pushes, FillsTop, Waits, Turns}
+use Rattle.daig_query.specs.Turned.{Pushes, FillsTop, Waits, IsTurn, Turns}
 use Rattle.daig_query.specs.Walked.{IsGood}
 use Rattle.daig_query.proofs.Filling.{computes_grow}
 use Rattle.daig_query.proofs.Growing.{few_trans, grows_trans, kept_same, names_few, names_grow, names_no_cell, names_trans}
 use Rattle.daig_query.proofs.Walks.{good_grows}
 
--- What the clauses of a turn say, of a result.
-pub record IsTurn {S E : Type 0} (dom : Operations S) (plan : Plan) (ts : List Target) (old new : Store S) (before : List CellName) (after : Walk) (spent : Bool) (each ticks later : ℕ) (result : Result AdvanceResult E) : Type 0 where
-  pub right : IsRight dom plan new
-  pub grows : Grows old new
-  pub walk : IsGood dom plan ts new after
-  pub turns : IfOk result (Turns dom plan ts old new before after)
-  pub obeys : IfOk result (Obeys spent)
-  pub err : OnErr result (AddsNoCell old new)
-  pub least : ticks ≤ later
-  pub ticked : IfOk result (λ turn. later ≤ ticks + each * fills_of turn)
-  pub most : later ≤ ticks + each
-
 module _ {S : Type 0} (dom : Operations S) (plan : Plan) (ts : List Target) where
   -- Turns that fill nothing, after a look that gave names numbers.
   module _ (old mid : Store S) (before : List CellName) (after : Walk) (spent : Bool) (each ticks : ℕ) (right : IsRight dom plan mid) (names : Names old mid) (good : IsGood dom plan ts mid after) where
-    pub turn_failed : {E : Type 0} (e : E) (r : Result AdvanceResult E) → r ≡ Err e → IsTurn dom plan ts old mid before after spent each ticks ticks r
+    pub turn_failed : {E : Type 0} (e : E) (r : Result TurnOutcome E) → r ≡ Err e → IsTurn dom plan ts old mid before after spent each ticks ticks r
     turn_failed {E} e r is =
         subst (IsTurn {E = E} dom plan ts old mid before after spent each ticks ticks) (sym is) (record {
           right = right;
@@ -77,7 +65,7 @@ module _ {S : Type 0} (dom : Operations S) (plan : Plan) (ts : List Target) wher
 
   -- Turns that come to a fill, after such a look.
   module _ (old mid new : Store S) (before : List CellName) (spent : Bool) (each ticks later : ℕ) (names : Names old mid) (least : ticks ≤ later) (most : later ≤ ticks + each) where
-    pub turn_unfilled : (w : Walk) → Computes dom plan mid new → IsGood dom plan ts mid w → {E : Type 0} (e : E) (r : Result AdvanceResult E) → r ≡ Err e → IsTurn dom plan ts old new before w spent each ticks later r
+    pub turn_unfilled : (w : Walk) → Computes dom plan mid new → IsGood dom plan ts mid w → {E : Type 0} (e : E) (r : Result TurnOutcome E) → r ≡ Err e → IsTurn dom plan ts old new before w spent each ticks later r
     turn_unfilled w computes good {E} e r is =
         subst (IsTurn {E = E} dom plan ts old new before w spent each ticks later) (sym is) (record {
           right = computes.right;
@@ -109,7 +97,7 @@ module _ {S : Type 0} (dom : Operations S) (plan : Plan) (ts : List Target) wher
     same : (x : CellName) → kept mid x ≡ kept old x
     same = kept_same dom plan old mid right names once
 
-    turns_before : (before : List CellName) (after : Walk) (t : AdvanceResult) → Turns dom plan ts mid new before after t → Turns dom plan ts old new before after t
+    turns_before : (before : List CellName) (after : Walk) (t : TurnOutcome) → Turns dom plan ts mid new before after t → Turns dom plan ts old new before after t
     turns_before before after Pushed p = record { top = p.top; names = p.names; absent = p.absent; only = names_trans old mid new names p.only }
     turns_before before after Filled p = record {
       top = p.top;
@@ -126,7 +114,7 @@ module _ {S : Type 0} (dom : Operations S) (plan : Plan) (ts : List Target) wher
     turns_before before after Spent p = record { rest = p.rest; top = p.top; names = p.names; split = p.split; ready = p.ready; only = names_trans old mid new names p.only }
     turns_before before after Done p = record { names = p.names; bottom = p.bottom; done = p.done; only = names_trans old mid new names p.only }
 
-    pub turn_before : {E : Type 0} (before : List CellName) (after : Walk) (spent : Bool) (each ticks later : ℕ) (r : Result AdvanceResult E) → IsTurn dom plan ts mid new before after spent each ticks later r → IsTurn dom plan ts old new before after spent each ticks later r
+    pub turn_before : {E : Type 0} (before : List CellName) (after : Walk) (spent : Bool) (each ticks later : ℕ) (r : Result TurnOutcome E) → IsTurn dom plan ts mid new before after spent each ticks later r → IsTurn dom plan ts old new before after spent each ticks later r
     turn_before before after spent each ticks later r t = record {
       right = t.right;
       grows = grows_trans old mid new (names_grow old mid names) t.grows;
@@ -139,10 +127,10 @@ module _ {S : Type 0} (dom : Operations S) (plan : Plan) (ts : List Target) wher
       most = t.most;
     }
       where
-        turns : {E : Type 0} (r : Result AdvanceResult E) → IfOk r (Turns dom plan ts mid new before after) → IfOk r (Turns dom plan ts old new before after)
+        turns : {E : Type 0} (r : Result TurnOutcome E) → IfOk r (Turns dom plan ts mid new before after) → IfOk r (Turns dom plan ts old new before after)
         turns (Ok u) h = turns_before before after u h
         turns (Err e) h = tt
 
-        fails : {E : Type 0} (r : Result AdvanceResult E) → OnErr r (AddsNoCell mid new) → OnErr r (AddsNoCell old new)
+        fails : {E : Type 0} (r : Result TurnOutcome E) → OnErr r (AddsNoCell mid new) → OnErr r (AddsNoCell old new)
         fails (Ok u) h = tt
         fails (Err e) h = record { cells = h.cells ∙ ap (λ g. g.cells) names.graph; few = few_trans old mid new 0 1 (names_few old mid names) h.few }

@@ -3,7 +3,7 @@ use Rattle.std.specs.Prelude.{Result, Ok, Err, OnOk, OnErr, vec_len}
 use Rattle.daig_query.specs.declared.opening.Open.{Open}
 use Rattle.daig_query.specs.Turned.{HandsDown}
 use Rattle.daig_query.proofs.Lists.{last_set}
-use Rattle.daig_query.proofs.advance.hand_down.Goals as goal
+use Rattle.daig_query.proofs.turning.hand_down.Goals as goal
 
 handed : {T E : Type 0} (r : Result T E) (cell n : ℕ) (os : List Open) (o : Open) (inputs : List ℕ) → length os ≡ suc n → o ≡ get_or os n o → OnOk r (inputs ≡ o.inputs ++ cell ∷ []) → OnErr r (inputs ≡ o.inputs) →
     HandsDown cell os (set os n (record { cell = o.cell; name = o.name; inputs = inputs }))
