@@ -38,7 +38,7 @@ CODE_ENDINGS = (".rt", ".antt", ".py", ".sh", ".js", ".lua", ".mk", ".edit", ".m
 OUTSIDE = """
  rt check lib ci test lemma must-fail plant fmt tidy doc expand start FN allow-holes only module function rust text
  requires ensures returns search omega record rules std using tactic auto unfolding NAME WORD goal ulimit find make clang
- git python3 serde_json json clap thiserror itoa indexmap slab smallvec lru llvm path cache local daig DAIG_PROGRAM PATH
+ git python3 serde_json json fast_float clap thiserror itoa indexmap slab smallvec lru llvm path cache local daig DAIG_PROGRAM PATH
  vim opt runtimepath prepend require setup true src wildcard patsubst make_mut Type impl
  daig_no_server eglot-server-programs init.lua toml tests measure_typing x.imp mypy nvim
 """.split()

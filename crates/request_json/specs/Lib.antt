@@ -5,3 +5,4 @@ pub mod Requests
 pub mod Replies
 pub mod Pieces
 pub mod Heads
+pub mod Trees

@@ -4,7 +4,10 @@
 //! fields; members that no request has are passed over. [`read_request`] gives the request of a line,
 //! or the first of its faults: no JSON, a member that is missing or not as it should be, a name of no
 //! request, a call string of more than two statements. `request_of` of `specs/Requests.antt` is the
-//! definition, over what `serde_json` reads of a line.
+//! definition, over what `read` of `serde_json` makes of a line.
+//!
+//! A line is read as a tree of `json`, whose texts stand in the line or in a scratch that the caller keeps and lends to
+//! each line. `data_in` of `specs/Trees.antt` gives the data that the tree stands for.
 //!
 //! [`reply_line`] gives the line of a reply: compact JSON with its keys in order, and LF. `reply_text`
 //! of `specs/Replies.antt` is the definition: the text that `serde_json`'s data have, an object of the
@@ -21,8 +24,10 @@ mod error;
 mod escapes;
 mod fields;
 mod ids;
+mod line;
 mod names;
 mod numbers;
+mod numerals;
 mod places;
 mod reading;
 mod reply;
@@ -33,7 +38,8 @@ pub use error::ReadError;
 pub use escapes::{put_number, put_quoted};
 pub use fields::{ids_at, number_at, text_at};
 pub use ids::put_ids;
-pub use reading::{json_of, read_request};
+pub use line::json_of;
+pub use reading::read_request;
 pub use reply::{ProgramFault, Refusal, Reply};
 pub use request::{Query, Request};
 pub use writing::reply_line;
