@@ -1,5 +1,5 @@
 -- What a tally of replies comes to while a server answers the lines of a script.
-use Rattle.std.specs.Prelude.{◌≡◌, ℕ, suc, List, [], ◌∷◌}
+use Rattle.std.specs.Prelude.{◌≡◌, ℕ, suc, List, [], ◌∷◌, Result, Vec}
 use Rattle.imp_syntax.specs.Plain.{Procedure}
 use Rattle.domain_laws.specs.Operations.{Operations}
 use Rattle.gen_summary.specs.declared.tally.ReplyTally.{ReplyTally}
@@ -9,12 +9,17 @@ use Rattle.serve_answers.specs.Fine.{opening}
 use Rattle.serve_answers.specs.Lines.{Served, server}
 use Rattle.serve_answers.specs.Readings.{Readings}
 use Rattle.serve_output.specs.Domains.{meaning_of}
+use Rattle.serve_output.specs.Given.{GivesBytes}
 use Rattle.serve_output.specs.Jobs.{engine_of}
 use Rattle.serve_output.specs.Output.{gen_bytes, tally_output}
 
 -- the summary of the generated script over a program
 abbrev pub summary_bytes : Readings → AnalysisOptions → List Procedure → (seed size : ℕ) → List ℕ
 summary_bytes readings settings program seed size = gen_bytes settings.domain (opening readings (engine_of settings) program) seed size
+
+-- This is given of the program, if any bytes are.
+abbrev pub GivesSummary : {Z E : Type 0} → AnalysisOptions → List Procedure → (seed size : ℕ) → Result (Vec ℕ Z) E → Type 0
+GivesSummary settings program seed size given = (readings : Readings) → GivesBytes (summary_bytes readings settings program seed size) given
 
 -- what serves after lines, however long they are
 abbrev pub after_lines : {S : Type 0} → Operations S → List (List ℕ) → Served → Served

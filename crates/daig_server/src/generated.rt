@@ -10,7 +10,7 @@ ghost use Rattle.daig_gen.specs.Source.{source_of};
 ghost use Rattle.serve_output.specs.Given.{Gives};
 ghost use Rattle.serve_output.specs.Output.{gen_bytes, generated_output};
 ghost use Rattle.serve_output.specs.Sources.{IsNumbered, IsTextOf};
-ghost use Rattle.daig_server.specs.Tallies.{summary_bytes, ServesOn, Tallies, UsesOne};
+ghost use Rattle.daig_server.specs.Tallies.{GivesSummary, ServesOn, Tallies, UsesOne};
 
 use crate::server::Server;
 use base_counter::Steps;
@@ -136,8 +136,7 @@ fn summary_by<D: Named, L: Ledger>(
 ) -> Result<Vec<u8>, Memory>
     requires named { settings.now.domain ≡ D.name }
     requires numbered { IsNumbered table.program }
-    ensures summary { (readings : Readings) → IfOk result (λ v. v.items ≡
-        summary_bytes readings settings.now table.program seed size) }
+    ensures summary { GivesSummary settings.now table.program seed size result }
 {
     let mut server = Server::start(alloc, domain, settings, MEMO, table)?;
     let line = summed(alloc, &mut server, seed, size, steps)?;
@@ -154,8 +153,7 @@ fn summary<L: Ledger>(
     steps: &mut Steps<L>,
 ) -> Result<Vec<u8>, Memory>
     requires numbered { IsNumbered table.program }
-    ensures summary { (readings : Readings) → IfOk result (λ v. v.items ≡
-        summary_bytes readings settings.now table.program seed size) }
+    ensures summary { GivesSummary settings.now table.program seed size result }
 {
     match settings.domain {
         DomainName::Interval => summary_by(alloc, Interval, settings, table, seed, size, steps),

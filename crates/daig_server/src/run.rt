@@ -1,9 +1,9 @@
 //! From words to a status: the job that they name is matched once, and what each task gives is written.
-ghost use Rattle.std.specs.Prelude.{◌≡◌, ◌⊎◌, ℕ, List, None, Option, Some};
+ghost use Rattle.std.specs.Prelude.{◌≡◌, ℕ, List, None, Option, Some};
 ghost use Rattle.io_edge.specs.Outside.{Rose};
 ghost use Rattle.serve_answers.specs.Readings.{Readings};
 ghost use Rattle.serve_output.specs.Jobs.{AsksToGenerate, AsksToServe};
-ghost use Rattle.serve_output.specs.Output.{output, usage, LacksFile};
+ghost use Rattle.serve_output.specs.Output.{output, usage, FailsOnFiles};
 ghost use Rattle.serve_output.specs.Ends.{Caused, EndsBy, Fits, WritesOutput, Wrote};
 ghost use Rattle.serve_output.specs.Told.{job_of_words, TellsFiles, TellsScript};
 
@@ -59,8 +59,7 @@ pub(crate) fn run<F: Files, I: Source, O: Sink, L: Ledger>(
     ensures unread { (AsksToServe (job_of_words words.now) → ⊥) → script.new ≡ script.old }
     ensures caused { Caused (job_of_words words.now ≡ None) (AsksToServe (job_of_words words.now))
         (O.told out.new ≡ O.told out.old)
-        ((Rose (F.faults files.old) (F.faults files.new)) ⊎
-        (LacksFile (F.told files.old) (job_of_words words.now)))
+        (FailsOnFiles F.faults F.told files.old files.new (job_of_words words.now))
         (Rose (I.faults script.old) (I.faults script.new))
         (Rose (O.faults out.old) (O.faults out.new)) (I.told script.old) (I.told script.new)
         result }

@@ -14,7 +14,7 @@ ghost use Rattle.serve_answers.specs.Readings.{Readings};
 ghost use Rattle.reply_lines.specs.Refused.{RefusalsKeep};
 ghost use Rattle.reply_lines.specs.Replied.{OneForEach};
 ghost use Rattle.serve_output.specs.Jobs.{AsksToGenerate, AsksToServe, engine_in};
-ghost use Rattle.serve_output.specs.Output.{IsAccepted, IsProgram, LacksFile};
+ghost use Rattle.serve_output.specs.Output.{FailsOnFiles, IsAccepted, IsProgram};
 ghost use Rattle.serve_output.specs.Kept.{WrittenAreAccepted};
 ghost use Rattle.serve_output.specs.Sound.{AreRunsCovered};
 ghost use Rattle.serve_output.specs.Ends.{Fits, IsStatus, Wrote, WroteAll, status_of};
@@ -104,8 +104,7 @@ pub fn serve<F: Files, I: Source, O: Sink, L: Ledger>(
         → AsksToServe (job_of_words words.now) × Rose (I.faults script.old) (I.faults script.new) }
     ensures sink_failed { result ≡ 5 → Rose (O.faults out.old) (O.faults out.new) }
     ensures files_failed { result ≡ 7
-        → (Rose (F.faults files.old) (F.faults files.new))
-        ⊎ (LacksFile (F.told files.old) (job_of_words words.now)) }
+        → FailsOnFiles F.faults F.told files.old files.new (job_of_words words.now) }
     ensures long_script { result ≡ 8
         → AsksToServe (job_of_words words.now)
         × ReadsBytes (2 ^ 40) (I.told script.old) (I.told script.new) }

@@ -1,11 +1,7 @@
 //! The task `serve` for a program: the lines of the script are answered.
 ghost use Rattle.std.specs.Prelude.{◌≡◌, ◌≤◌, ◌^◌};
-ghost use Rattle.io_edge.specs.Outside.{Rose};
-ghost use Rattle.serve_output.specs.Ends.{CausedByScript, Fits, WritesServed};
-ghost use Rattle.serve_output.specs.Jobs.{engine_of};
+ghost use Rattle.serve_output.specs.Ends.{CausedByStreams, Fits, ServesProgram, WritesServed};
 ghost use Rattle.serve_output.specs.Sources.{IsNumbered};
-ghost use Rattle.serve_answers.specs.Readings.{Readings};
-ghost use Rattle.serve_answers.specs.Fine.{opening};
 ghost use Rattle.serve_answers.specs.Lines.{Served};
 
 use crate::server::Server;
@@ -36,9 +32,8 @@ fn serve_lines<D: Named, I: Source, O: Sink, L: Ledger>(
     ensures wrote { (first : Served) → ⟦<Server<D> as Answerer>⟧.stands server.old first →
         WritesServed D.name first result
         (I.told script.old) (I.told script.new) (O.told out.old) (O.told out.new) }
-    ensures caused { CausedByScript (Rose (I.faults script.old) (I.faults script.new))
-        (Rose (O.faults out.old) (O.faults out.new)) (I.told script.old) (I.told script.new)
-        result }
+    ensures caused { CausedByStreams I.faults I.told O.faults script.old script.new
+        out.old out.new result }
 {
     match answer_script(alloc, server, script, out, steps) {
         Ok(()) => Status::Done,
@@ -64,12 +59,10 @@ fn serve_by<D: Named, I: Source, O: Sink, L: Ledger>(
     requires memo { 1 ≤ memo }
     requires numbered { IsNumbered table.program }
     ensures fits { Fits result 0 }
-    ensures wrote { (readings : Readings) → WritesServed settings.now.domain
-        (opening readings (engine_of settings.now) table.program) result
+    ensures wrote { ServesProgram settings.now table.program result
         (I.told script.old) (I.told script.new) (O.told out.old) (O.told out.new) }
-    ensures caused { CausedByScript (Rose (I.faults script.old) (I.faults script.new))
-        (Rose (O.faults out.old) (O.faults out.new)) (I.told script.old) (I.told script.new)
-        result }
+    ensures caused { CausedByStreams I.faults I.told O.faults script.old script.new
+        out.old out.new result }
 {
     match Server::start(alloc, domain, settings, memo, table) {
         Ok(mut server) => {
@@ -95,12 +88,10 @@ pub(crate) fn serve_program<I: Source, O: Sink, L: Ledger>(
     requires memo { 1 ≤ memo }
     requires numbered { IsNumbered table.program }
     ensures fits { Fits result 0 }
-    ensures wrote { (readings : Readings) → WritesServed settings.now.domain
-        (opening readings (engine_of settings.now) table.program) result
+    ensures wrote { ServesProgram settings.now table.program result
         (I.told script.old) (I.told script.new) (O.told out.old) (O.told out.new) }
-    ensures caused { CausedByScript (Rose (I.faults script.old) (I.faults script.new))
-        (Rose (O.faults out.old) (O.faults out.new)) (I.told script.old) (I.told script.new)
-        result }
+    ensures caused { CausedByStreams I.faults I.told O.faults script.old script.new
+        out.old out.new result }
 {
     match settings.domain {
         DomainName::Interval => serve_by(

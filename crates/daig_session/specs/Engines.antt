@@ -91,6 +91,10 @@ module _ {D S : Type 0} (old new : Engine D S) where
   abbrev pub KeepsSetup : Type 0
   KeepsSetup = (new.domain ≡ old.domain) × (new.spare ≡ old.spare)
 
+  -- It has the same names, by the same numbers.
+  abbrev pub KeepsNames : Type 0
+  KeepsNames = new.store.names ≡ old.store.names
+
   -- how many cells it fills
   abbrev pub IsAdded : (count : ℕ) → Type 0
   IsAdded count = count ≡ cells_added old.store new.store

@@ -10,7 +10,7 @@ use Rattle.imp_edit.specs.Refusals.{edit_refusal, IsRefusal}
 use Rattle.imp_edit.specs.declared.error.EditError.{EditError}
 use Rattle.domain_laws.specs.Operations.{Operations}
 use Rattle.batch_meaning.specs.Batch.{LoopOptions}
-use Rattle.call_contexts.specs.Settings.{setting_of}
+use Rattle.call_contexts.specs.Settings.{Setting, setting_of}
 use Rattle.cell_names.specs.Paths.{CellName}
 use Rattle.cell_kept_set.specs.Touched.{IsKept}
 use Rattle.imp_flow.specs.Plans.{Plan}
@@ -31,7 +31,8 @@ use Rattle.daig_session.specs.declared.book.Book.{Book}
 use Rattle.daig_session.specs.declared.moving.Moving.{Moving}
 use Rattle.daig_session.specs.declared.edits.Planned.{Planned}
 use Rattle.daig_session.specs.declared.parts.Parts.{Parts}
-use Rattle.daig_session.specs.Books.{AreBelow, IsSame}
+use Rattle.daig_session.specs.Books.{AreBelow, IsSame, IsSettingOf}
+use Rattle.daig_session.specs.Engines.{IsRightFor}
 use Rattle.daig_session.specs.Sessions.{StandsFor}
 
 -- A plan of removal takes away what the change from one program to the other empties.
@@ -40,14 +41,22 @@ pub record Empties {S : Type 0} (old new : Plan) (store : Store S) (plan : List 
   pub changed : AreChanged old new stmts
   pub removes : Removes store.graph.cells (IsTouched old new store.names.names store.graph.cells stmts) plan
 
+-- The cells of an engine are right for a table's program.
+abbrev pub IsRightOver : {D S : Type 0} → (D → Operations S) → Engine D S → LoopOptions → Tabled → Type 0
+IsRightOver operations engine options table = IsRightFor operations engine (flow_of options table.program)
+
 -- The change leads on from a table's program.
 abbrev pub LeadsIn : Tabled → Change → Type 0
 LeadsIn table change = Leads table.places table.program change
 
--- A plan takes away what the change empties.
-abbrev pub EmptiesBy : {S : Type 0} → LoopOptions → Tabled → Change → Store S → (plan : List ℕ) → Type 0
-EmptiesBy engine table change store plan =
-    Empties (flow_of engine table.program) (flow_of engine (changed_program table.program change)) store plan
+-- A plan takes away what the change empties of an engine.
+abbrev pub EmptiesBy : {D S : Type 0} → Engine D S → Setting → Tabled → Change → (plan : List ℕ) → Type 0
+EmptiesBy engine setting table change plan =
+    Empties (flow_of setting.engine table.program) (flow_of setting.engine (changed_program table.program change)) engine.store plan
+
+-- the setting of the program that the change makes
+abbrev pub IsSettingAfter : LoopOptions → Tabled → Change → Setting → Type 0
+IsSettingAfter options table change = IsSettingOf options (changed_program table.program change)
 
 -- the setting of the program that is moved to, and the plan of what the move empties
 pub record IsMoving {S : Type 0} (store : Store S) (engine : LoopOptions) (old new : List Procedure) (m : Moving) : Type 0 where
@@ -55,8 +64,8 @@ pub record IsMoving {S : Type 0} (store : Store S) (engine : LoopOptions) (old n
   pub empties : Empties (flow_of engine old) (flow_of engine new) store m.plan
 
 -- a move to the program that a change makes
-abbrev pub IsMovingBy : {S : Type 0} → Store S → LoopOptions → Tabled → Change → Moving → Type 0
-IsMovingBy store engine table change m = IsMoving store engine table.program (changed_program table.program change) m
+abbrev pub IsMovingBy : {D S : Type 0} → Engine D S → Setting → Tabled → Change → Moving → Type 0
+IsMovingBy engine setting table change m = IsMoving engine.store setting.engine table.program (changed_program table.program change) m
 
 -- a move to the first of these programs
 abbrev pub IsMovingTo : {S : Type 0} → Store S → LoopOptions → List Procedure → List (List Procedure) → Moving → Type 0

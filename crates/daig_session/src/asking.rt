@@ -73,7 +73,8 @@ pub(crate) fn read_answer<D: Domain, L: Ledger>(
     ensures says { SaysForFilled D.operations engine.now walk.now result }
     ensures sound { CoversForFilled D.operations engine.now walk.now D.covers result }
     ensures least { steps.old ≤ steps.new }
-    ensures ticked { TicksForTargets D.operations engine.now walk.now D.counted steps.old steps.new }
+    ensures ticked { TicksForTargets D.operations engine.now walk.now D.counted
+        steps.old steps.new }
 {
     match engine.read(alloc, walk, steps)? {
         Some(value) => Ok(value),

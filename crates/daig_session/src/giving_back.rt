@@ -1,9 +1,9 @@
 //! Giving back at once what no kept cell needs, for `stays` of `give_back`.
-ghost use Rattle.std.specs.Prelude.{◌≡◌, OnErr, OnOk};
+ghost use Rattle.std.specs.Prelude.{OnErr, OnOk};
 ghost use Rattle.std.specs.FinMap.{len};
 ghost use Rattle.daig_query.specs.Swept.{IsWithin};
 ghost use Rattle.daig_session.specs.Sessions.{FromEach, KeepsNextTicket, HasNamesOfCells};
-ghost use Rattle.daig_session.specs.Engines.{KeepsSetup};
+ghost use Rattle.daig_session.specs.Engines.{KeepsNames, KeepsSetup};
 
 use crate::session::Session;
 use base_values::Memory;
@@ -24,8 +24,7 @@ impl<D: Domain> Session<D> {
         ensures setup { KeepsSetup self.old.engine self.new.engine }
         ensures within { IsWithin (len self.new.engine.store.graph.cells) self.new.engine.store }
         ensures names_fit { OnOk result (HasNamesOfCells self.new) }
-        ensures names_stay { OnErr result
-            (self.new.engine.store.names ≡ self.old.engine.store.names) }
+        ensures names_stay { OnErr result (KeepsNames self.old.engine self.new.engine) }
         ensures next_ticket { KeepsNextTicket self.old self.new }
         ensures stays { FromEach D.operations self.old self.new (λ _ m stands. stands m) }
     {

@@ -1,11 +1,9 @@
 //! Moves from one program to another: what a move empties is planned beside what stands, and taken away at once.
 ghost use Rattle.std.specs.Prelude.{IfOk};
 ghost use Rattle.cell_removal.specs.Removal.{IsOrder};
-ghost use Rattle.edit_keeps.specs.Apart.{flow_of};
-ghost use Rattle.edit_history.specs.After.{changed_program};
 ghost use Rattle.daig_query.specs.Swept.{IsBounded, IsInTables};
-ghost use Rattle.daig_session.specs.Moves.{LeadsIn, EmptiesBy, IsMovingBy, LeavesBy};
-ghost use Rattle.daig_session.specs.Engines.{IsRightFor, KeepsSetup};
+ghost use Rattle.daig_session.specs.Moves.{IsRightOver, IsSettingAfter, LeadsIn, EmptiesBy, IsMovingBy, LeavesBy};
+ghost use Rattle.daig_session.specs.Engines.{KeepsSetup};
 ghost use Rattle.daig_session.specs.Books.{IsSettingOf};
 
 use base_values::Memory;
@@ -34,14 +32,11 @@ fn emptied<D: Domain>(
     setting: &Setting,
     other: &Setting,
 ) -> Result<RemovalOrder, Memory>
-    requires right { IsRightFor D.operations engine.now
-        (flow_of setting.now.engine table.now.program) }
+    requires right { IsRightOver D.operations engine.now setting.now.engine table.now }
     requires leads { LeadsIn table.now change.now }
     requires set { IsSettingOf setting.now.engine table.now.program setting.now }
-    requires set_other { IsSettingOf setting.now.engine
-        (changed_program table.now.program change.now) other.now }
-    ensures empties { IfOk result
-        (EmptiesBy setting.now.engine table.now change.now engine.now.store) }
+    requires set_other { IsSettingAfter setting.now.engine table.now change.now other.now }
+    ensures empties { IfOk result (EmptiesBy engine.now setting.now table.now change.now) }
 {
     let changed = points_changed(alloc, table, change, setting, other)?;
     let old = Flow::new(table.view(), setting);
@@ -69,12 +64,10 @@ pub(crate) fn planned_move<D: Domain>(
     change: &Change,
     setting: &Setting,
 ) -> Result<Moving, Memory>
-    requires right { IsRightFor D.operations engine.now
-        (flow_of setting.now.engine table.now.program) }
+    requires right { IsRightOver D.operations engine.now setting.now.engine table.now }
     requires leads { LeadsIn table.now change.now }
     requires set { IsSettingOf setting.now.engine table.now.program setting.now }
-    ensures moving { IfOk result
-        (IsMovingBy engine.now.store setting.now.engine table.now change.now) }
+    ensures moving { IfOk result (IsMovingBy engine.now setting.now table.now change.now) }
 {
     let other = setting.after(alloc, table, change)?;
     let plan = emptied(alloc, engine, table, change, setting, &other)?;

@@ -43,7 +43,8 @@ fn fill_all<D: Domain, L: Ledger>(
     ensures fills { FillsFirst D.operations engine.old engine.new book.now going.old }
     ensures adds_few { FillsFew engine.old.store engine.new.store }
     ensures counted { IfOk result (IsAdded engine.old engine.new) }
-    ensures missing { IfOk result (λ n. n ≡ missing_for D.operations engine.old book.now going.old) }
+    ensures missing { IfOk result
+        (λ n. n ≡ missing_for D.operations engine.old book.now going.old) }
     ensures filled { OnOk result
         (HasAll D.operations engine.old engine.new book.now going.old going.new) }
     ensures least { steps.old ≤ steps.new }

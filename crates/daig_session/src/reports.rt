@@ -132,7 +132,8 @@ impl<D: Domain> Session<D> {
         ensures stays_bounded { StaysBounded self.old self.new }
         ensures setup { KeepsSetup self.old.engine self.new.engine }
         ensures keeps_part { KeepsPart D.operations self.old self.new (checked_here id) }
-        ensures keeps_all { OnOk result (KeepsAll D.operations self.old self.new (checked_here id)) }
+        ensures keeps_all { OnOk result
+            (KeepsAll D.operations self.old self.new (checked_here id)) }
         ensures found { OnOk result
             (Finds D.operations self.old self.new (checked_here id) found.old found.new) }
         ensures least { steps.old ≤ steps.new }

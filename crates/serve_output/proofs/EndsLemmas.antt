@@ -1,6 +1,6 @@
 -- What an end comes of, from what the end of a part comes of.
-use Rattle.std.proofs.Common.{◌≡◌, ◌<◌, ℕ, inl, inr, List, Option, Result, Ok, Err, IfErr, IsErrOf, refl, arith}
-use Rattle.std.specs.Prelude.{IsOk, Vec}
+use Rattle.std.proofs.Common.{◌<◌, ℕ, inl, inr, List, Option, Result, Ok, Err, refl, arith}
+use Rattle.std.specs.Prelude.{Vec}
 use Rattle.serve_output.specs.declared.status.Status.{Status}
 use Rattle.serve_output.specs.declared.status.Status.TheVariants.{Done, Words, Source, Script, Sink, Memory, Files, LongScript, LongFile}
 use Rattle.serve_output.specs.declared.error.JobError.{JobError}
@@ -10,22 +10,6 @@ use Rattle.serve_output.specs.Given.{EndsGiven, Gives}
 use Rattle.serve_output.specs.Output.{Output}
 
 module _ (words serves quiet file_fails script_fails sink_fails : Type 0) (script script' : Option (List ℕ)) where
-  -- all is written, unless a write fails
-  pub caused_by_end : (wanted status : Status) → Caused words serves quiet file_fails script_fails sink_fails script script' wanted →
-      EndsBy wanted sink_fails status → Caused words serves quiet file_fails script_fails sink_fails script script' status
-  caused_by_end wanted status caused (inl is) = rw is caused
-  caused_by_end wanted status caused (inr (inl (is, fails))) = rw is fails
-  caused_by_end wanted status caused (inr (inr is)) = rw is tt
-
-  -- what is given is written: of what ends so, no script was read
-  pub caused_by_given : {V : Type 0} (given : Result V JobError) (status : Status) → (IsOk given → serves → ⊥) → (IsErrOf given missing.Files → file_fails) →
-      EndsGiven quiet sink_fails given status → Caused words serves quiet file_fails script_fails sink_fails script script' status
-  caused_by_given (Ok bytes) status unread found ends = caused_by_end Done status (λ serves. absurd (unread refl serves)) ends
-  caused_by_given (Err (missing.Refused why)) status unread found ends = caused_by_end Source status tt ends
-  caused_by_given (Err missing.Files) status unread found ends = rw ends.0 (ends.1, found refl)
-  caused_by_given (Err missing.LongFile) status unread found ends = rw ends.0 ends.1
-  caused_by_given (Err missing.Memory) status unread found ends = rw ends tt
-
   -- the lines of a script are answered
   pub caused_by_script : (status : Status) → serves → CausedByScript script_fails sink_fails script script' status →
       Caused words serves quiet file_fails script_fails sink_fails script script' status
@@ -51,12 +35,3 @@ fits_given quiet sink_fails (Err (missing.Refused why)) status output gives ends
 fits_given quiet sink_fails (Err missing.Files) status output gives ends = rw ends.0 tt
 fits_given quiet sink_fails (Err missing.LongFile) status output gives ends = rw ends.0 gives
 fits_given quiet sink_fails (Err missing.Memory) status output gives ends = rw ends tt
-
--- What fails only when memory runs out ends so, unless a write fails.
-pub done_by_given : {V : Type 0} (quiet sink_fails : Type 0) (given : Result V JobError) (status : Status) → IfErr given (λ error. error ≡ missing.Memory) → EndsGiven quiet sink_fails given status →
-    EndsBy Done sink_fails status
-done_by_given quiet sink_fails (Ok bytes) status only ends = ends
-done_by_given quiet sink_fails (Err (missing.Refused why)) status only ends = cc
-done_by_given quiet sink_fails (Err missing.Files) status only ends = cc
-done_by_given quiet sink_fails (Err missing.LongFile) status only ends = cc
-done_by_given quiet sink_fails (Err missing.Memory) status only ends = inr (inr ends)

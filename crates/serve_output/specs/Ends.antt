@@ -1,11 +1,17 @@
 -- How the program ends: by a status, with what was read and written.
 use Rattle.std.specs.Prelude.{◌≡◌, ℕ, ◌<◌, ◌==◌, ◌^◌, ◌++◌, ◌⊎◌, List, [], ◌∷◌, Option, Some, if◌then◌else◌}
+use Rattle.io_edge.specs.Outside.{Rose}
+use Rattle.imp_syntax.specs.Plain.{Procedure}
+use Rattle.serve_command.specs.declared.job.AnalysisOptions.{AnalysisOptions}
 use Rattle.serve_command.specs.declared.job.DomainName.{DomainName}
 use Rattle.serve_script.specs.Replies.{AnsweredRead, ReadsBytes, ReadsToEnd, WrotePrefix}
+use Rattle.serve_answers.specs.Fine.{opening}
 use Rattle.serve_answers.specs.Lines.{Served, server}
+use Rattle.serve_answers.specs.Readings.{Readings}
 use Rattle.serve_output.specs.declared.status.Status.{Status}
 use Rattle.serve_output.specs.declared.status.Status.TheVariants.{Done, Words, Source, Script, Sink, Memory, Files, LongScript, LongFile}
 use Rattle.serve_output.specs.Domains.{meaning_of}
+use Rattle.serve_output.specs.Jobs.{engine_of}
 use Rattle.serve_output.specs.Output.{Output, done, served_bytes}
 
 -- the number of a status
@@ -89,6 +95,11 @@ abbrev pub WritesServed : DomainName → Served → Status → (script script' s
 WritesServed domain first status script script' sink sink' =
     (text taken : List ℕ) → script ≡ Some text → sink ≡ Some taken → Wrote status (done (served_bytes domain first text)) text taken script' sink'
 
+-- .. by a session that begins with the program
+abbrev pub ServesProgram : AnalysisOptions → List Procedure → Status → (script script' sink sink' : Option (List ℕ)) → Type 0
+ServesProgram settings program status script script' sink sink' =
+    (readings : Readings) → WritesServed settings.domain (opening readings (engine_of settings) program) status script script' sink sink'
+
 -- It ends so, unless a write fails or memory runs out.
 abbrev pub EndsBy : (wanted : Status) (sink_fails : Type 0) → (status : Status) → Type 0
 EndsBy wanted sink_fails status = (status ≡ wanted) ⊎ (((status ≡ Sink) × sink_fails) ⊎ (status ≡ Memory))
@@ -110,3 +121,8 @@ Caused words serves quiet file_fails script_fails sink_fails script script' Long
 -- What the end comes of where the lines of a script are answered, and no file is loaded.
 abbrev pub CausedByScript : (script_fails sink_fails : Type 0) → (script script' : Option (List ℕ)) → Status → Type 0
 CausedByScript script_fails sink_fails = Caused ⊥ (Unit {0}) ⊥ ⊥ script_fails sink_fails
+
+-- .. of these streams, as they were before and after
+abbrev pub CausedByStreams : {S K : Type 0} → (faults : S → ℕ) → (told : S → Option (List ℕ)) → (sink_faults : K → ℕ) → (script script' : S) → (sink sink' : K) → Status → Type 0
+CausedByStreams faults told sink_faults script script' sink sink' =
+    CausedByScript (Rose (faults script) (faults script')) (Rose (sink_faults sink) (sink_faults sink')) (told script) (told script')

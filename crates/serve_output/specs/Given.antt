@@ -1,5 +1,6 @@
 -- What is given of an output before it is written: its bytes, or why there are none.
-use Rattle.std.specs.Prelude.{◌≡◌, ℕ, List, Option, Some, Result, Ok, Err, Vec}
+use Rattle.std.specs.Prelude.{◌≡◌, ◌⊎◌, ℕ, List, Option, Some, Result, Ok, Err, IfOk, IsErrOf, Vec}
+use Rattle.io_edge.specs.Outside.{Lacks, Rose}
 use Rattle.imp_syntax.specs.Plain.{Procedure}
 use Rattle.serve_command.specs.declared.job.Task.{Task}
 use Rattle.serve_answers.specs.Readings.{Readings}
@@ -28,6 +29,14 @@ EndsGiven quiet sink_fails (Err (Refused why)) status = EndsBy end.Source sink_f
 EndsGiven quiet sink_fails (Err Files) status = (status ≡ end.Files) × quiet
 EndsGiven quiet sink_fails (Err LongFile) status = (status ≡ end.LongFile) × quiet
 EndsGiven quiet sink_fails (Err Memory) status = status ≡ end.Memory
+
+-- the bytes that are given, where memory suffices
+abbrev pub GivesBytes : {Z E : Type 0} → List ℕ → Result (Vec ℕ Z) E → Type 0
+GivesBytes bytes given = IfOk given (λ v. v.items ≡ bytes)
+
+-- A file is not to be had only where a call of the files failed, or they lack it.
+abbrev pub FailsOnFile : {S V : Type 0} → (faults : S → ℕ) → (told : S → Option (List ℕ → Option (List ℕ))) → (before after : S) → (name : List ℕ) → Result V JobError → Type 0
+FailsOnFile faults told before after name given = IsErrOf given Files → Rose (faults before) (faults after) ⊎ Lacks (told before) name
 
 module _ (files : Option (List ℕ → Option (List ℕ))) (name : List ℕ) where
   -- Where the files are told, this one has the bytes; or, read with this limit, it ends so.

@@ -4,12 +4,13 @@ use Rattle.imp_syntax.specs.Plain.{Procedure}
 use Rattle.imp_check.specs.Slots.{routines_of}
 use Rattle.batch_meaning.specs.Batch.{LoopOptions}
 use Rattle.batch_meaning.specs.Report.{report}
-use Rattle.io_edge.specs.Outside.{Lacks}
+use Rattle.io_edge.specs.Outside.{Lacks, Rose}
 use Rattle.serve_script.specs.Lines.{all_lines, whole_lines}
 use Rattle.serve_script.specs.Replies.{replies}
 use Rattle.request_json.specs.declared.reply.Reply.TheVariants as r
 use Rattle.request_json.specs.declared.reply.Refusal.{Refusal}
 use Rattle.request_json.specs.Replies.{reply_text}
+use Rattle.serve_command.specs.declared.job.AnalysisOptions.{AnalysisOptions}
 use Rattle.serve_command.specs.declared.job.DomainName.{DomainName}
 use Rattle.serve_command.specs.declared.job.Job.{Job}
 use Rattle.serve_command.specs.declared.job.Job.TheVariants as job
@@ -60,6 +61,10 @@ report_bytes domain engine program = reply_text (r.Report (report (meaning_of do
 unfoldable pub batch_bytes : DomainName → LoopOptions → List Procedure → List ℕ
 batch_bytes domain engine program = listing program ++ report_bytes domain engine program
 
+-- .. by these settings
+abbrev pub batch_of : AnalysisOptions → List Procedure → List ℕ
+batch_of settings program = batch_bytes settings.domain (engine_of settings) program
+
 -- what the replies to lines come to, each added to the tally
 abbrev pub tally_output : {S : Type 0} → Operations S → List (List ℕ) → Served → ReplyTally → ReplyTally
 tally_output dom [] s t = t
@@ -102,7 +107,7 @@ program_output readings file give = of_file most_source file (λ source. of_sour
 -- nothing. batch: the listing and the report. cert: the lines of the certificate. verify: whether those of a file hold.
 abbrev pub task_output : Readings → Task → (files : List ℕ → Option (List ℕ)) → (script : List ℕ) → List Procedure → Output
 task_output readings (Serve settings memo) files script program = done (served_bytes settings.domain (opening readings (engine_of settings) program) script)
-task_output readings (Batch settings) files script program = done (batch_bytes settings.domain (engine_of settings) program)
+task_output readings (Batch settings) files script program = done (batch_of settings program)
 task_output readings (Cert domain widening budget) files script program = done (cert_bytes domain (record { budget = budget; widening = widening }) program)
 task_output readings (Verify domain cert) files script program = of_file most_certificate (files cert) (λ text. done (verify_bytes domain program text))
 
@@ -149,3 +154,7 @@ abbrev pub LacksFile : Option (List ℕ → Option (List ℕ)) → Option Job �
 LacksFile files None = ⊥
 LacksFile files (Some (job.File file task)) = LacksFor files file task
 LacksFile files (Some (job.Gen seed size domain)) = ⊥
+
+-- A call of the files failed, or one that the job needs is not there.
+abbrev pub FailsOnFiles : {S : Type 0} → (faults : S → ℕ) → (told : S → Option (List ℕ → Option (List ℕ))) → (before after : S) → Option Job → Type 0
+FailsOnFiles faults told before after asked = Rose (faults before) (faults after) ⊎ LacksFile (told before) asked

@@ -1,12 +1,11 @@
 //! The listing and the report of a program, by batch interpretation; the task `batch`.
-ghost use Rattle.std.specs.Prelude.{◌≡◌, ◌++◌, ◌⊎◌, IfOk, IsErrOf};
-ghost use Rattle.io_edge.specs.Outside.{Lacks, Rose};
+ghost use Rattle.std.specs.Prelude.{◌≡◌, ◌++◌};
 ghost use Rattle.imp_check.specs.Slots.{routines_of};
 ghost use Rattle.call_contexts.specs.Settings.{setting_of};
 ghost use Rattle.serve_command.specs.declared.job.Task.TheVariants.{Batch};
-ghost use Rattle.serve_output.specs.Given.{GivesTask};
+ghost use Rattle.serve_output.specs.Given.{FailsOnFile, GivesBytes, GivesTask};
 ghost use Rattle.serve_output.specs.Jobs.{engine_of};
-ghost use Rattle.serve_output.specs.Output.{batch_bytes, report_bytes};
+ghost use Rattle.serve_output.specs.Output.{batch_of, report_bytes};
 
 use crate::domains::Named;
 use crate::error::JobError;
@@ -36,8 +35,7 @@ fn line_by<D: Named, L: Ledger>(
     steps: &mut Steps<L>,
 ) -> Result<Vec<u8>, Memory>
     requires setting { setting.now ≡ setting_of setting.now.engine (routines_of program.now) }
-    ensures bytes { IfOk result (λ v.
-        v.items ≡ report_bytes D.name setting.now.engine program.now) }
+    ensures bytes { GivesBytes (report_bytes D.name setting.now.engine program.now) result }
 {
     let findings = batch_report(alloc, domain, program, setting, steps)?;
     reply_line(alloc, &Reply::Report(findings))
@@ -51,8 +49,7 @@ fn report_line<D: Named, L: Ledger>(
     program: &Checked,
     steps: &mut Steps<L>,
 ) -> Result<Vec<u8>, Memory>
-    ensures bytes { IfOk result (λ v.
-        v.items ≡ report_bytes D.name (engine_of settings.now) program.now) }
+    ensures bytes { GivesBytes (report_bytes D.name (engine_of settings.now) program.now) result }
 {
     let setting = Setting::new(alloc, &program.view(), settings.budget, settings.widening)?;
     line_by(alloc, domain, &setting, program, steps)
@@ -60,7 +57,7 @@ fn report_line<D: Named, L: Ledger>(
 
 /// One text after another.
 fn behind(alloc: Global, first: &[u8], second: &[u8]) -> Result<Vec<u8>, Memory>
-    ensures bytes { IfOk result (λ v. v.items ≡ first.now ++ second.now) }
+    ensures bytes { GivesBytes (first.now ++ second.now) result }
 {
     let mut bytes = Vec::from_slice(alloc, first)?;
     bytes.extend_from_slice(second)?;
@@ -77,8 +74,7 @@ fn listed_by<D: Named, L: Ledger>(
     steps: &mut Steps<L>,
 ) -> Result<Vec<u8>, Memory>
     requires named { settings.now.domain ≡ D.name }
-    ensures bytes { IfOk result (λ v.
-        v.items ≡ batch_bytes settings.now.domain (engine_of settings.now) program.now) }
+    ensures bytes { GivesBytes (batch_of settings.now program.now) result }
 {
     let line = report_line(alloc, domain, settings, program, steps)?;
     let listing = listing(alloc, program.program())?;
@@ -92,8 +88,7 @@ fn listed<L: Ledger>(
     program: &Checked,
     steps: &mut Steps<L>,
 ) -> Result<Vec<u8>, Memory>
-    ensures bytes { IfOk result (λ v.
-        v.items ≡ batch_bytes settings.now.domain (engine_of settings.now) program.now) }
+    ensures bytes { GivesBytes (batch_of settings.now program.now) result }
 {
     match settings.domain {
         DomainName::Interval => listed_by(alloc, &Interval, settings, program, steps),
@@ -119,8 +114,7 @@ pub fn batch<F: Files, L: Ledger>(
     steps: &mut Steps<L>,
 ) -> Result<Vec<u8>, JobError>
     ensures gives { GivesTask (F.told files.old) name.now (Batch settings.now) result }
-    ensures missing { IsErrOf result JobError.Files →
-        (Rose (F.faults files.old) (F.faults files.new)) ⊎ (Lacks (F.told files.old) name.now) }
+    ensures missing { FailsOnFile F.faults F.told files.old files.new name.now result }
 {
     let program = load_checked(alloc, name, files)?;
     let bytes = listed(alloc, settings, &program, steps)?;

@@ -1,11 +1,11 @@
 //! Certificates: from a program to its lines, or to whether those of a file hold; the tasks `cert` and `verify`.
 ghost use Rattle.std.specs.Prelude.{◌≡◌, ◌⊎◌, IfOk, IsErrOf};
-ghost use Rattle.io_edge.specs.Outside.{Lacks, Rose};
+ghost use Rattle.io_edge.specs.Outside.{Rose};
 ghost use Rattle.serve_command.specs.declared.job.SingleDomain.{SingleDomain as Single};
 ghost use Rattle.serve_command.specs.declared.job.Task.TheVariants.{Cert, Verify};
 ghost use Rattle.cert_lines.specs.Theorem.{IsYesSound};
 ghost use Rattle.serve_output.specs.Domains.{IsYesSoundBy};
-ghost use Rattle.serve_output.specs.Given.{GivesTask};
+ghost use Rattle.serve_output.specs.Given.{FailsOnFile, GivesBytes, GivesTask};
 ghost use Rattle.serve_output.specs.Kept.{WrittenAreAccepted};
 ghost use Rattle.serve_output.specs.Output.{cert_bytes, verify_bytes, LacksFor};
 
@@ -90,7 +90,7 @@ fn verify_line<L: Ledger>(
     cert: &[u8],
     steps: &mut Steps<L>,
 ) -> Result<Vec<u8>, Memory>
-    ensures bytes { IfOk result (λ v. v.items ≡ verify_bytes domain program.now cert.now) }
+    ensures bytes { GivesBytes (verify_bytes domain program.now cert.now) result }
 {
     match domain {
         SingleDomain::Interval => verify(alloc, &Interval, program, cert, steps),
@@ -110,8 +110,7 @@ pub fn certificate<F: Files, L: Ledger>(
     steps: &mut Steps<L>,
 ) -> Result<Vec<u8>, JobError>
     ensures gives { GivesTask (F.told files.old) name.now (Cert domain widening budget) result }
-    ensures missing { IsErrOf result JobError.Files →
-        (Rose (F.faults files.old) (F.faults files.new)) ⊎ (Lacks (F.told files.old) name.now) }
+    ensures missing { FailsOnFile F.faults F.told files.old files.new name.now result }
 {
     let program = load_checked(alloc, name, files)?;
     let bytes = cert_lines(alloc, domain, widening, budget, &program, steps)?;

@@ -1,7 +1,6 @@
 //! From the names of files to what they have: bytes, or a program without faults.
-ghost use Rattle.std.specs.Prelude.{◌≡◌, ◌≤◌, ◌⊎◌, length, IfOk, IfErr, IsErrOf};
-ghost use Rattle.io_edge.specs.Outside.{Lacks, Rose};
-ghost use Rattle.serve_output.specs.Given.{EndsFile, EndsProgram, HasBytes, IsProgramIn};
+ghost use Rattle.std.specs.Prelude.{◌≡◌, ◌≤◌, length, IfOk, IfErr};
+ghost use Rattle.serve_output.specs.Given.{EndsFile, EndsProgram, FailsOnFile, HasBytes, IsProgramIn};
 ghost use Rattle.serve_output.specs.Sources.{IsNumbered};
 
 use crate::error::JobError;
@@ -24,8 +23,7 @@ pub(crate) fn load<F: Files>(
     ensures bytes { IfOk result (λ v. HasBytes (F.told files.old) name.now v.items) }
     ensures fits { IfOk result (λ v. length v.items ≤ most) }
     ensures ends { IfErr result (EndsFile (F.told files.old) name.now most) }
-    ensures missing { IsErrOf result JobError.Files →
-        (Rose (F.faults files.old) (F.faults files.new)) ⊎ (Lacks (F.told files.old) name.now) }
+    ensures missing { FailsOnFile F.faults F.told files.old files.new name.now result }
     ensures stays { F.told files.new ≡ F.told files.old }
     ensures never_falls { F.faults files.old ≤ F.faults files.new }
 {
@@ -46,8 +44,7 @@ pub(crate) fn load_checked<F: Files>(
 ) -> Result<Checked, JobError>
     ensures program { IfOk result (IsProgramIn (F.told files.old) name.now) }
     ensures ends { IfErr result (EndsProgram (F.told files.old) name.now) }
-    ensures missing { IsErrOf result JobError.Files →
-        (Rose (F.faults files.old) (F.faults files.new)) ⊎ (Lacks (F.told files.old) name.now) }
+    ensures missing { FailsOnFile F.faults F.told files.old files.new name.now result }
     ensures stays { F.told files.new ≡ F.told files.old }
     ensures never_falls { F.faults files.old ≤ F.faults files.new }
 {
@@ -66,8 +63,7 @@ pub fn load_table<F: Files>(alloc: Global, name: &str, files: &mut F) -> Result<
     ensures program { IfOk result (λ t. IsProgramIn (F.told files.old) name.now t.program) }
     ensures numbered { IfOk result (λ t. IsNumbered t.program) }
     ensures ends { IfErr result (EndsProgram (F.told files.old) name.now) }
-    ensures missing { IsErrOf result JobError.Files →
-        (Rose (F.faults files.old) (F.faults files.new)) ⊎ (Lacks (F.told files.old) name.now) }
+    ensures missing { FailsOnFile F.faults F.told files.old files.new name.now result }
 {
     texts_are_read();
     let source = load(alloc, name, MOST_SOURCE, files)?;

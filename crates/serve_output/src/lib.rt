@@ -7,10 +7,12 @@
 //!
 //! [`load_table`] gives the program that a file is, [`read_table`] that of a source. [`batch`], [`certificate`] and
 //! [`verified`] give what the tasks of these names write, by batch interpretation, `cert_write` and `cert_check`; or why
-//! nothing is given ([`JobError`]). [`write_given`] writes either, and tells the [`Status`]. [`Named`] is a domain that the words name, and all of these are sound
-//! ([`named_domains_are_sound`], [`each_yes_is_sound`]). From a stated budget on none answers an over
-//! ([`named_domains_converge`], `specs/Settles.antt`), and what `cert` wrote `verify` accepts
-//! ([`written_certificates_are_accepted`], `specs/Kept.antt`).
+//! nothing is given ([`JobError`]). [`write_given`] writes either, and tells the [`Status`].
+//!
+//! [`Named`] is a domain that the words name, and all of these are sound ([`named_domains_are_sound`],
+//! [`each_yes_is_sound`]). From a stated budget on none answers an over ([`named_domains_converge`],
+//! `specs/Settles.antt`), and what `cert` wrote `verify` accepts ([`written_certificates_are_accepted`],
+//! `specs/Kept.antt`).
 #![tactic(auto)]
 
 mod batches;

@@ -14,6 +14,7 @@ use crate::written::line_of;
 use base_values::Memory;
 use daig_session::Session;
 use domain_laws::{Domain, Steps};
+use json::Scratch;
 use request_json::{ReadError, Reply, Request, read_request};
 use serve_replies::line_refusal;
 use std::alloc::Global;
@@ -62,7 +63,7 @@ fn unread_line(alloc: Global, error: ReadError) -> Result<Vec<u8>, Memory>
 }
 
 /// The answer to a line: what the machine that the session stands for replies, and the session then stands for the machine
-/// after it. The number of the next ticket rises by one at most.
+/// after it. The number of the next ticket rises by one at most. The scratch is room for reading the line.
 ///
 /// # Errors
 ///
@@ -73,6 +74,7 @@ pub fn answer_line<D: Domain, L: Ledger>(
     alloc: Global,
     session: &mut Session<D>,
     line: &[u8],
+    scratch: &mut Scratch,
     steps: &mut Steps<L>,
 ) -> Result<Vec<u8>, Memory>
     requires room { session.old.book.tickets.next < 2 ^ 63 }
@@ -83,7 +85,7 @@ pub fn answer_line<D: Domain, L: Ledger>(
     ensures unchanged { StaysUnlessFilled D.operations session.old session.new
         (request_of line.now) result }
 {
-    match read_request(alloc, line) {
+    match read_request(alloc, line, scratch) {
         Ok(request) => request_line(alloc, session, request, steps),
         Err(error) => unread_line(alloc, error),
     }

@@ -60,7 +60,8 @@ pub(crate) fn state_line<D: Domain, L: Ledger>(
     ensures rises { OpensAtMostOne session.old session.new }
     ensures turn { TakesTurn D.operations session.old session.new
         (λ dom. state_turn dom query.now) result }
-    ensures between { FillsOnQuery D.operations session.old session.new query.now state_turn result }
+    ensures between { FillsOnQuery D.operations session.old session.new query.now
+        state_turn result }
 {
     let string = numbers_of(alloc, &query.string)?;
     match session.query(alloc, &query.at, string.as_slice(), steps) {
