@@ -24,6 +24,11 @@ leave_there at [] i b h e = absurd (omega arith)
 leave_there at (c ∷ bs) zero b h e = ap (λ n. Some (leave_at at n)) (sym e)
 leave_there at (c ∷ bs) (suc i) b h e = leave_there at bs i b (omega arith) e
 
+pub number_there : (at : Table) (bs : List ℕ) (i b : ℕ) → i < length bs → b ≡ get_or bs i b → slice_get (breaks_of (map (leave_at at) bs)) i ≡ Some b
+number_there at [] i b h e = absurd (omega arith)
+number_there at (c ∷ bs) zero b h e = ap Some (sym e)
+number_there at (c ∷ bs) (suc i) b h e = number_there at bs i b (omega arith) e
+
 -- A break at its place.
 pub front_at : (ls : List Leave) (i : ℕ) (l : Leave) → slice_get ls i ≡ Some l → slice_get (fronts_of ls) i ≡ Some l.front
 front_at ls i l e = slice_get-map (λ (x : Leave). x.front) ls i ∙ ap (option_map (λ (x : Leave). x.front)) e
@@ -53,8 +58,8 @@ joined_last n ls (suc k) x z e =
     ap (Leap n) (sym (break_at ls k x (ap (slice_get ls) (sym one) ∙ e)))
 
 -- The search for a break.
-abbrev counted : ℕ → ℕ → List Leave → Option ℕ
-counted i n ls = option_map (λ j. i + j) (place_of n (breaks_of ls))
+abbrev counted : ℕ → ℕ → List ℕ → Option ℕ
+counted i n bs = option_map (λ j. i + j) (place_of n bs)
 
 plus_next : (i j : ℕ) → i + suc j ≡ (i + 1) + j
 plus_next i j = omega arith
@@ -63,15 +68,19 @@ further : (i : ℕ) (o : Option ℕ) → option_map (λ j. i + j) (next_place o)
 further i None = refl
 further i (Some j) = ap Some (plus_next i j)
 
-pub place_found : (ls : List Leave) (i n : ℕ) (x : Leave) → slice_get ls i ≡ Some x → x.stmt ≡ n → counted i n (drop i ls) ≡ Some i
-place_found ls i n x e k =
-    ap (counted i n) (drop_from ls i x e)
-    ∙ by_test n x.stmt (λ c. option_map (λ j. i + j) (if c then Some 0 else next_place (place_of n (breaks_of (drop (i + 1) ls)))) ≡ Some i) (λ q. ap Some (add-zero i)) (λ q. absurd (q (sym k)))
+pub place_found : (bs : List ℕ) (i n b : ℕ) → slice_get bs i ≡ Some b → b ≡ n → counted i n (drop i bs) ≡ Some i
+place_found bs i n b e k =
+    ap (counted i n) (drop_from bs i b e)
+    ∙ by_test n b (λ c. option_map (λ j. i + j) (if c then Some 0 else next_place (place_of n (drop (i + 1) bs))) ≡ Some i) (λ q. ap Some (add-zero i)) (λ q. absurd (q (sym k)))
 
-pub place_passed : (ls : List Leave) (i n : ℕ) (x : Leave) → slice_get ls i ≡ Some x → x.stmt ≢ n → counted i n (drop i ls) ≡ counted (i + 1) n (drop (i + 1) ls)
-place_passed ls i n x e k =
-    ap (counted i n) (drop_from ls i x e)
-    ∙ by_test n x.stmt (λ c. option_map (λ j. i + j) (if c then Some 0 else next_place (place_of n (breaks_of (drop (i + 1) ls)))) ≡ counted (i + 1) n (drop (i + 1) ls)) (λ q. absurd (k (sym q))) (λ q. further i (place_of n (breaks_of (drop (i + 1) ls))))
+pub place_passed : (bs : List ℕ) (i n b : ℕ) → slice_get bs i ≡ Some b → b ≢ n → counted i n (drop i bs) ≡ counted (i + 1) n (drop (i + 1) bs)
+place_passed bs i n b e k =
+    ap (counted i n) (drop_from bs i b e)
+    ∙ by_test n b (λ c. option_map (λ j. i + j) (if c then Some 0 else next_place (place_of n (drop (i + 1) bs))) ≡ counted (i + 1) n (drop (i + 1) bs)) (λ q. absurd (k (sym q))) (λ q. further i (place_of n (drop (i + 1) bs)))
 
-pub place_none : (ls : List Leave) (i n : ℕ) → length ls ≤ i → counted i n (drop i ls) ≡ None
-place_none ls i n h = ap (counted i n) (drop_all i ls h)
+breaks_long : (ls : List Leave) → length (breaks_of ls) ≡ length ls
+breaks_long [] = refl
+breaks_long (l ∷ ls) = ap suc (breaks_long ls)
+
+pub place_none : (ls : List Leave) (i n : ℕ) → length ls ≤ i → counted i n (drop i (breaks_of ls)) ≡ None
+place_none ls i n h = let far : length (breaks_of ls) ≤ i = rw (breaks_long ls) h in ap (counted i n) (drop_all i (breaks_of ls) far)

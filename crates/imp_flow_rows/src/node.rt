@@ -3,7 +3,7 @@ ghost use Rattle.std.specs.Prelude.{ℕ, ◌≡◌, ◌<◌, Option, length, sli
 ghost use Rattle.cell_names.specs.declared.frame.Point.TheVariants.{Body, Then, Else};
 ghost use Rattle.imp_flow_rows.specs.Entered.{Table, known_in, start_of, behind_or, front_point, front_in, leaves_by, end_in, branching, shape_from, leaves_now, shape_now, node_now};
 ghost use Rattle.imp_flow_rows.specs.Shapes.{callee_at, is_while, is_bare};
-ghost use Rattle.imp_flow_rows.specs.NodeRows.{looping, choosing, looping_by};
+ghost use Rattle.imp_flow_rows.specs.NodeRows.{breaks_of, looping, choosing, looping_by};
 
 use cell_names::Point;
 use imp_check::{Around, Entry, SlotForm, Which};
@@ -113,6 +113,16 @@ impl<'a> Leaves<'a> {
         let stmt = self.breaks[place];
         let front = front_in(self.prog, stmt);
         Leave { stmt, front }
+    }
+
+    /// The number of the break at a place.
+    #[tactic(auto, using(crate::proofs::LeaveLemmas::leaves_long, crate::proofs::LeaveLemmas::number_there))]
+    #[inline(always)]
+    pub(crate) fn number_at(&self, place: usize) -> StmtId
+        requires there { place < length (leaves_now self.now) }
+        ensures is { slice_get (breaks_of (leaves_now self.now)) place ≡ Some result }
+    {
+        self.breaks[place]
     }
 }
 

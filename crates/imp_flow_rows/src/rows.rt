@@ -270,7 +270,7 @@ fn place_of(leaves: &Leaves<'_>, stmt: StmtId) -> Option<usize>
     ensures within { IfSome result (λ i. i < length (leaves_now leaves.now)) }
 {
     for i in 0..leaves.len() {
-        if leaves.at(i).stmt == stmt {
+        if leaves.number_at(i) == stmt {
             return Some(i);
         }
     }

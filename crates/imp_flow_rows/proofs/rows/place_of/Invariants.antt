@@ -6,4 +6,4 @@ use Rattle.imp_flow_rows.proofs.rows.place_of.Given as goal
 
 -- the break is not among those so far
 abbrev pub invariant-loop-i : goal.invariant-loop-i
-invariant-loop-i l = place_of l.stmt (breaks_of (leaves_now l.leaves)) ≡ option_map (λ j. l.i + j) (place_of l.stmt (breaks_of (drop l.i (leaves_now l.leaves))))
+invariant-loop-i l = place_of l.stmt (breaks_of (leaves_now l.leaves)) ≡ option_map (λ j. l.i + j) (place_of l.stmt (drop l.i (breaks_of (leaves_now l.leaves))))
