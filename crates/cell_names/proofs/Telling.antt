@@ -1,5 +1,6 @@
 -- Steps and names that compare equal are equal.
-use Rattle.std.proofs.Common.{◌≡◌, ℕ, Bool, true, ap, ap₂, ◌∙◌, sym, arith, refl}
+use Rattle.std.specs.Cmp.Lexicographic.{pointwise_decides}
+use Rattle.std.proofs.Common.{◌≡◌, ℕ, List, Bool, true, ap, ap₂, ◌∙◌, sym, arith, refl}
 use Rattle.std.proofs.lemmas.Bool.Decides.{nat_tests}
 use Rattle.std.proofs.lemmas.Bool.{and_parts}
 use Rattle.base_values.specs.Claims.{IsDecided}
@@ -37,20 +38,11 @@ point_tells (Exit a) (Exit b) h = ap Exit (grind (arith, nat_tests))
 point_tells (Leap a c) (Leap b d) h = ap₂ Leap (grind (arith, nat_tests)) (grind (arith, nat_tests))
 point_tells _ _ h = cc
 
-pub step_tells : TellsApart step_impl.ghosts.eq
-step_tells x y h =
-    let p = and_parts _ _ h in
-    let make : ℕ → NameFrame → PathStep = λ b f. record { before = b; frame = f } in
-    ap₂ make (let e = p.0 in grind (arith, nat_tests)) (frame_tells x.frame y.frame p.1)
-
 pub name_tells : TellsApart name_impl.ghosts.eq
 name_tells x y h =
     let p = and_parts _ _ h in
     let make : ℕ → Point → Name = λ b f. record { path = b; point = f } in
     ap₂ make (let e = p.0 in grind (arith, nat_tests)) (point_tells x.point y.point p.1)
-
-pub step_self : (x : PathStep) → step_impl.ghosts.eq x x ≡ true
-step_self x = step_laws.laws-law.refl x
 
 pub name_self : (x : Name) → name_impl.ghosts.eq x x ≡ true
 name_self x = name_laws.laws-law.refl x
@@ -60,6 +52,15 @@ decided_by eq tells self x y = (tells x y, λ e. ap (λ z. eq x z) (sym e) ∙ s
 
 pub frame_decides : IsDecided frame_impl.ghosts.eq
 frame_decides = decided_by frame_impl.ghosts.eq frame_tells (λ x. frame_laws.laws-law.refl x)
+
+pub step_tells : TellsApart step_impl.ghosts.eq
+step_tells x y h =
+    let p = and_parts _ _ h in
+    let make : ℕ → List NameFrame → PathStep = λ b fs. record { before = b; frames = fs } in
+    ap₂ make (let e = p.0 in grind (arith, nat_tests)) ((pointwise_decides frame_decides x.frames y.frames).0 p.1)
+
+pub step_self : (x : PathStep) → step_impl.ghosts.eq x x ≡ true
+step_self x = step_laws.laws-law.refl x
 
 pub point_decides : IsDecided point_impl.ghosts.eq
 point_decides = decided_by point_impl.ghosts.eq point_tells (λ x. point_laws.laws-law.refl x)

@@ -3,7 +3,7 @@ use Rattle.std.specs.Prelude.{◌≡◌, ℕ, ◌≤◌, List, [], ◌∷◌, �
 use Rattle.cell_names.specs.declared.frame.NameFrame.{NameFrame}
 use Rattle.cell_names.specs.declared.path.Name.{Name}
 use Rattle.cell_names.specs.declared.path.PathStep.{PathStep}
-use Rattle.cell_names.specs.Paths.{CellName, paths_of, name_in}
+use Rattle.cell_names.specs.Paths.{CellName, path_at, paths_of, name_in}
 
 -- A path or a name has its place as its number.
 pub record Known : Type 0 where
@@ -25,9 +25,12 @@ Adds old new x n = ((slice_get old n ≡ Some x) × (new ≡ old)) ⊎ (((m : �
 abbrev pub known_of : List PathStep → List Name → Known
 known_of steps names = record { paths = paths_of steps; names = map (name_in (paths_of steps)) names }
 
--- the step at place k leads from one of the k + 1 paths before it
-abbrev pub StepsWithin : List PathStep → Type 0
-StepsWithin steps = (k : ℕ) (s : PathStep) → slice_get steps k ≡ Some s → s.before ≤ k
+-- a step at place k leads on by a frame from the path before it, which is one of the k + 1 there
+abbrev pub Leads : List (List NameFrame) → ℕ → PathStep → Type 0
+Leads paths k s = (s.before ≤ k) × (f : NameFrame) × (s.frames ≡ f ∷ path_at paths s.before)
+
+abbrev pub StepsLead : List PathStep → Type 0
+StepsLead steps = (k : ℕ) (s : PathStep) → slice_get steps k ≡ Some s → Leads (paths_of steps) k s
 
 -- the paths of names are there
 abbrev pub NamesWithin : ℕ → List Name → Type 0
@@ -35,7 +38,7 @@ NamesWithin most names = (k : ℕ) (x : Name) → slice_get names k ≡ Some x �
 
 -- what holds of the steps and names that are kept
 pub record IsKept (steps : List PathStep) (names : List Name) : Type 0 where
-  pub steps_within : StepsWithin steps
+  pub steps_lead : StepsLead steps
   pub names_within : NamesWithin (length steps) names
   pub steps_once : IsOnce steps
   pub names_once : IsOnce names

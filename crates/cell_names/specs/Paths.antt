@@ -1,5 +1,5 @@
 -- Paths, their last frame first, and the numbered steps that make them.
-use Rattle.std.specs.Prelude.{ℕ, List, [], ◌∷◌, ◌++◌, Option, Some, None, slice_get}
+use Rattle.std.specs.Prelude.{ℕ, List, [], ◌∷◌, Option, Some, None, map, slice_get}
 use Rattle.cell_names.specs.declared.frame.NameFrame.{NameFrame}
 use Rattle.cell_names.specs.declared.frame.NameFrame.TheVariants.{InCall, InLoop}
 use Rattle.cell_names.specs.declared.frame.Point.{Point}
@@ -19,14 +19,9 @@ or_root None = []
 abbrev pub path_at : List (List NameFrame) → ℕ → List NameFrame
 path_at paths n = or_root (slice_get paths n)
 
--- these paths, and then those of the steps, each from a path before it
-abbrev pub paths_from : List (List NameFrame) → List PathStep → List (List NameFrame)
-paths_from paths [] = paths
-paths_from paths (s ∷ steps) = paths_from (paths ++ (s.frame ∷ path_at paths s.before) ∷ []) steps
-
 -- the paths of the steps, after the empty one
 abbrev pub paths_of : List PathStep → List (List NameFrame)
-paths_of steps = paths_from ([] ∷ []) steps
+paths_of steps = [] ∷ map (λ s. s.frames) steps
 
 -- a name whose path has a number
 abbrev pub name_in : List (List NameFrame) → Name → CellName

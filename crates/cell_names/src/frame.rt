@@ -1,5 +1,7 @@
 //! Frames and points.
 use imp_syntax::StmtId;
+use std::alloc::Global;
+use std::default::MadeWith;
 
 /// A part of a path.
 #[derive(Clone, Copy, Debug, PartialEq, Eq, Hash)]
@@ -8,6 +10,14 @@ pub enum NameFrame {
     InCall(StmtId),
     /// Into the body of a loop, from its iterate of this index, counted from 0.
     InLoop(StmtId, u32),
+}
+
+/// What stands at the places of a short list that are free.
+impl MadeWith<Global> for NameFrame {
+    #[inline]
+    fn made_with(_alloc: Global) -> NameFrame {
+        NameFrame::InCall(StmtId::new(0))
+    }
 }
 
 /// A point of a block, where a cell has a value.

@@ -8,6 +8,7 @@ ghost use Rattle.cell_names.specs.Owners.{owner};
 use crate::frame::{NameFrame, Point};
 use crate::near::Near;
 use crate::path::{Name, PathId, PathStep};
+use base_short::Short;
 use base_values::{Items, Memory};
 use imp_syntax::StmtId;
 use state_table::StateTable;
@@ -21,6 +22,7 @@ pub struct Names {
     names: StateTable<Name>,
     // by the number of a name, the numbers that its inputs had last
     near: Vec<Near>,
+    alloc: Global,
 }
 
 impl Model for Names {
@@ -43,6 +45,7 @@ impl Names {
             steps: StateTable::new(alloc),
             names: StateTable::new(alloc),
             near: Vec::new(alloc),
+            alloc,
         }
     }
 
@@ -69,8 +72,23 @@ impl Names {
         ensures names { self.new.names ≡ self.old.names }
         ensures err { OnErr result (self.new ≡ self.old) }
     {
-        let number = self.steps.intern(PathStep { before, frame })?;
+        let frames = Short::with_first(self.alloc, frame, self.frames_of(before))?;
+        let number = self.steps.intern(PathStep { before, frames })?;
         Ok(PathId::after(number))
+    }
+
+    // the frames of a path, the last one first
+    #[inline]
+    fn frames_of(&self, path: PathId) -> &[NameFrame]
+        requires there { path < length self.now.paths }
+        ensures are { result.now ≡ path_at self.now.paths path }
+    {
+        let steps = &self.steps;
+        if path.number() == 0 {
+            return &[];
+        }
+        let step = steps.get(path.number() - 1);
+        step.frames.as_slice()
     }
 
     /// The number of a name, or `None` where it has none. It takes no memory.
@@ -170,7 +188,8 @@ impl Names {
             return None;
         }
         let step = steps.get(path.number() - 1);
-        Some((step.before, step.frame))
+        let frames = step.frames.as_slice();
+        Some((step.before, frames[0]))
     }
 
     /// The call sites of a path, the last one first. It takes as many steps as the path has frames.

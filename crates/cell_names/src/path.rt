@@ -1,5 +1,6 @@
 //! Paths by their numbers, and names.
 use crate::frame::{NameFrame, Point};
+use base_short::Short;
 use std::marker::Model;
 
 /// A path, by its number. The empty path, at the start of `main`, has the number 0.
@@ -53,9 +54,9 @@ pub struct Name {
     pub point: Point,
 }
 
-/// A path that is not empty: the path before its last frame, and that frame.
-#[derive(Clone, Copy, Debug, PartialEq, Eq, Hash)]
+/// A path that is not empty: its frames, the last one first, and the path before that one.
+#[derive(Debug, PartialEq, Eq, Hash, Drop)]
 pub(crate) struct PathStep {
     pub(crate) before: PathId,
-    pub(crate) frame: NameFrame,
+    pub(crate) frames: Short<NameFrame>,
 }

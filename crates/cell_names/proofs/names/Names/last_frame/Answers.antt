@@ -1,6 +1,6 @@
-use Rattle.std.proofs.Common.{◌≡◌, ◌∙◌, ◌-◌, ap, sym, suc, arith}
+use Rattle.std.proofs.Common.{◌≡◌, ◌∙◌, ap, sym, arith}
 use Rattle.cell_names.specs.Paths.{path_at}
-use Rattle.cell_names.proofs.KeptLemmas.{known-root, known-last, known-length}
+use Rattle.cell_names.proofs.KeptLemmas.{known-root, known-length}
 use Rattle.cell_names.proofs.names.Names.last_frame.Goals as goal
 
 pub returns-then-number-eq0-clause-empty : goal.returns-then-number-eq0-clause-empty
@@ -10,8 +10,3 @@ returns-then-number-eq0-clause-empty c =
 
 pub get-step-requires : goal.get-step-requires
 get-step-requires c = omega (arith, known-length _ _ c.self.invariant _ c.self.view_is, c.requires.there)
-
-pub returns-clause-last : goal.returns-clause-last
-returns-clause-last c =
-    let e : c.args.path ≡ suc (c.number-2.result - 1) = omega arith in
-    ap (λ n. path_at c.args.self.now.paths n) e ∙ known-last _ _ c.self.invariant _ c.self.view_is c.get-step.result.now (c.number-2.result - 1) c.get-step.ensures.state
