@@ -4,6 +4,7 @@ ghost use Rattle.imp_check.specs.Slots.{routines_of};
 ghost use Rattle.imp_chains.specs.Chains.{ends_in, ending_in, selected};
 ghost use Rattle.call_chains.specs.Targets.{targets_of};
 
+use base_short::Short;
 use base_values::{Items, Memory};
 use call_contexts::{chains_to, place_of};
 use imp_syntax::{Chain, Location, ProcId, StmtId};
@@ -12,14 +13,14 @@ use std::alloc::Global;
 
 /// Whether a chain ends in these calls, both with the last call first.
 #[tactic(auto, using(crate::proofs::Filtering::ends_step, crate::proofs::Filtering::ends_short, crate::proofs::Filtering::ends_other, crate::proofs::Filtering::ends_all))]
-fn ends_in(calls: &[u32], chain: &[StmtId]) -> bool
+fn ends_in(calls: &[u32], chain: &[u32]) -> bool
     ensures is { result ≡ ends_in calls.now chain.now }
 {
     for (i, call) in calls.iter().enumerate() {
         match chain.get(i) {
             None => return false,
             Some(site) => {
-                if *call != site.number() {
+                if *call != *site {
                     return false;
                 }
             }
@@ -29,10 +30,14 @@ fn ends_in(calls: &[u32], chain: &[StmtId]) -> bool
 }
 
 /// A chain with its outermost call first.
-fn outermost_first(alloc: Global, chain: &[StmtId]) -> Result<Chain, Memory>
+fn outermost_first(alloc: Global, chain: &[u32]) -> Result<Chain, Memory>
     ensures is { IfOk result (λ z. z ≡ reverse chain.now) }
 {
-    let sites: Vec<StmtId> = chain.iter().rev().copied().collect(alloc)?;
+    let sites: Vec<StmtId> = chain
+        .iter()
+        .rev()
+        .map(|site| StmtId::new(*site))
+        .collect(alloc)?;
     Ok(Chain::new(Items::from_vec(sites)))
 }
 
@@ -46,7 +51,7 @@ fn last_first(alloc: Global, string: &[u32]) -> Result<Vec<u32>, Memory>
 
 /// Of these chains those that end in the calls.
 #[tactic(auto, using(crate::proofs::Filtering::ending_taken, crate::proofs::Filtering::ending_left))]
-fn ending_in(alloc: Global, calls: &[u32], chains: &[Items<StmtId>]) -> Result<Items<Chain>, Memory>
+fn ending_in(alloc: Global, calls: &[u32], chains: &[Short<u32>]) -> Result<Items<Chain>, Memory>
     ensures is { IfOk result (λ found. found ≡ map reverse (ending_in calls.now chains.now)) }
 {
     let mut found = Items::new(alloc);

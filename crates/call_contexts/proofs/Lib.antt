@@ -8,6 +8,7 @@ pub mod TallyLemmas
 pub mod Counted
 pub mod Placed
 pub mod Tabled
+pub mod Marking
 pub mod LiteralLemmas
 pub mod Balance
 pub mod Parted

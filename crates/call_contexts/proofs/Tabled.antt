@@ -1,6 +1,6 @@
 -- The chains to a procedure from those of the later ones.
 use Rattle.std.proofs.Common.{ℕ, zero, suc, ◌≡◌, ◌⊎◌, inl, inr, ◌==◌, ◌+◌, ◌-◌, ◌<◌, ◌≤◌, cond, Bool, true, false, List, [], ◌∷◌, ◌++◌, length, drop, get_or, map, slice_get, Option, Some, None, refl, sym, ap, ◌∙◌, subst, arith, append_assoc}
-use Rattle.std.specs.Prelude.{if◌then◌else◌}
+use Rattle.std.specs.Prelude.{if◌then◌else◌, nat_lt}
 use Rattle.std.proofs.lemmas.Bool.{cases_lt}
 use Rattle.imp_syntax.specs.Plain.{Statements, Ends, Starts, Procedure}
 use Rattle.imp_syntax.specs.Plain as tree
@@ -18,9 +18,10 @@ use Rattle.imp_check.specs.declared.entry.Which.TheVariants as which
 use Rattle.imp_check.proofs.RebuildLemmas.{Known, all_numbers, found}
 use Rattle.imp_slots.specs.Fits.{Distinct}
 use Rattle.call_contexts.specs.Tables.{chains_up, or_no_chains, chains_in, chains_by, through_sites}
+use Rattle.call_contexts.specs.Marks.{is_marked, chains_marked, left_out, AreCallersMarked}
 use Rattle.call_contexts.proofs.Placed.{swapped}
 use Rattle.base_values.proofs.Lists.{drop_item, get_last, get_other, one_more}
-use Rattle.base_values.proofs.Cases.{by_test}
+use Rattle.base_values.proofs.Cases.{by_test, less_test}
 use Rattle.std.proofs.Math.Seq.{drop-length}
 use Rattle.std.proofs.lemmas.List.{length-drop}
 
@@ -34,6 +35,15 @@ through_later f before (r ∷ rs) k (suc j) p l t h =
     ap (λ ns. extended (f k) ns ++ through f (suc k) rs p) none
     ∙ through_later f (before ++ (r ∷ [])) rs (suc k) j p (ap suc l ∙ sym (one_more before r)) t.1 (omega arith)
     ∙ ap (λ m. through f m (drop j rs) p) (sym next)
+
+-- two lists that make none together
+pub nil_first : (xs ys : List (List ℕ)) → xs ++ ys ≡ [] → xs ≡ []
+nil_first [] ys h = refl
+nil_first (x ∷ xs) ys h = absurd cc
+
+pub nil_second : (xs ys : List (List ℕ)) → xs ++ ys ≡ [] → ys ≡ []
+nil_second [] ys h = h
+nil_second (x ∷ xs) ys h = absurd cc
 
 -- where the chains of those from a place on are these, so are the chains through them
 same_from : (f g : ℕ → List (List ℕ)) (k : ℕ) (rs : List Routine) (p : ℕ) → ((q : ℕ) → k ≤ q → q < k + length rs → f q ≡ g q) → through f k rs p ≡ through g k rs p
@@ -139,31 +149,53 @@ sites_step f at ns i n zs before behind h e c b =
     ∙ append_assoc before (map (λ z. n ∷ z) (chains_by f (at n))) rest
     ∙ ap (λ ms. before ++ through_sites f at ms) (sym (drop_item ns i n h e))
 
--- The chains to a procedure go through its call statements, by the chains to the later ones.
-pub from_sites : (ps : List Procedure) (main p : ℕ) (table : List (List (List ℕ))) → ChainsAreThroughCallers → IsChecked (routines_of ps) → AreNumbered ps → main + 1 ≡ length (routines_of ps) → p < main → table ≡ chains_up (chains (routines_of ps)) main (main - p) →
+-- the chains through the call statements of a procedure are those through its calls in the text
+pub through_sites_are : (f : ℕ → List (List ℕ)) (ps : List Procedure) (p : ℕ) → AreNumbered ps → through_sites f (entry_of (entries_of ps)) (sites_in (entries_of ps) p) ≡ through f 0 (routines_of ps) p
+through_sites_are f ps p numbered =
+    let k : Known (entry_of (entries_of ps)) (entries_of ps) = found (entries_of ps) (subst Distinct (sym (all_numbers ps)) numbered.once) in
+    sites_are f p (entry_of (entries_of ps)) (entries_of ps) k ∙ through_from f p [] ps
+
+-- where none without a mark calls a procedure, the chains through its calls are those by marked procedures
+marked_calls : (zs : List (List ℕ)) (after here : Bool) (ns : List ℕ) → after ≡ true → extended (if after then (if here then [] else [] ∷ []) else []) ns ≡ [] → extended (if here then zs else []) ns ≡ extended zs ns
+marked_calls zs false here ns e h = absurd cc
+marked_calls zs true true ns e h = refl
+marked_calls zs true false [] e h = refl
+marked_calls zs true false (n ∷ ns) e h = absurd cc
+
+marked_from : (f : ℕ → List (List ℕ)) (marks : List Bool) (p k : ℕ) (rs : List Routine) → p < k → through (left_out p marks) k rs p ≡ [] → through (chains_marked marks f) k rs p ≡ through f k rs p
+marked_from f marks p k [] l h = refl
+marked_from f marks p k (r ∷ rs) l h =
+    let ns = calls_to p r.code in
+    let a = nil_first (extended (left_out p marks k) ns) (through (left_out p marks) (suc k) rs p) h in
+    let b = nil_second (extended (left_out p marks k) ns) (through (left_out p marks) (suc k) rs p) h in
+    ap (λ (zs : List (List ℕ)). zs ++ through (chains_marked marks f) (suc k) rs p) (marked_calls (f k) (nat_lt p k) (is_marked marks k) ns (less_test p k l) a)
+    ∙ ap (λ (zs : List (List ℕ)). extended (f k) ns ++ zs) (marked_from f marks p (suc k) rs (omega arith) b)
+
+-- The chains to a procedure go through its call statements, by the chains to its callers.
+pub from_sites : (ps : List Procedure) (marks : List Bool) (main p : ℕ) (table : List (List (List ℕ))) → ChainsAreThroughCallers → IsChecked (routines_of ps) → AreNumbered ps → main + 1 ≡ length (routines_of ps) → p < main → AreCallersMarked (routines_of ps) marks p → table ≡ chains_up (chains_marked marks (chains (routines_of ps))) main (main - p) →
     through_sites (chains_in table main) (entry_of (entries_of ps)) (sites_in (entries_of ps) p) ≡ chains (routines_of ps) p
-from_sites ps main p table law checked numbered e h t =
+from_sites ps marks main p table law checked numbered e h callers t =
     let rs = routines_of ps in
     let later = drop (p + 1) rs in
     let f = chains_in table main in
-    let g = chains rs in
-    let s : 0 + (p + 1) ≡ p + 1 = omega arith in
+    let g = chains_marked marks (chains rs) in
+    let out = left_out p marks in
     let l : length later ≡ main - p = length-drop (p + 1) rs ∙ counted in
-    let k : Known (entry_of (entries_of ps)) (entries_of ps) = found (entries_of ps) (subst Distinct (sym (all_numbers ps)) numbered.once) in
-    sites_are f p (entry_of (entries_of ps)) (entries_of ps) k
-    ∙ through_from f p [] ps
+    through_sites_are f ps p numbered
     ∙ through_later f [] rs 0 (p + 1) p refl checked.fit (omega arith)
     ∙ same_from f g (0 + (p + 1)) later p (λ q a b. known q (omega arith) (omega arith))
-    ∙ sym (through_later g [] rs 0 (p + 1) p refl checked.fit (omega arith))
+    ∙ marked_from (chains rs) marks p (0 + (p + 1)) later (omega arith) (sym (through_later out [] rs 0 (p + 1) p refl checked.fit (omega arith)) ∙ callers)
+    ∙ sym (through_later (chains rs) [] rs 0 (p + 1) p refl checked.fit (omega arith))
     ∙ sym (law rs checked p (omega arith))
   where
     counted : length (routines_of ps) - (p + 1) ≡ main - p
     counted = omega arith
 
-    known : (q : ℕ) → p < q → q ≤ main → chains_in table main q ≡ chains (routines_of ps) q
+    known : (q : ℕ) → p < q → q ≤ main → chains_in table main q ≡ chains_marked marks (chains (routines_of ps)) q
     known q a b =
         let z : main - (main - q) ≡ q = omega arith in
-        ap (λ ts. or_no_chains (slice_get ts (main - q))) t ∙ ap or_no_chains (up_get (chains (routines_of ps)) main (main - p) (main - q) (omega arith)) ∙ ap (chains (routines_of ps)) z
+        let g : ℕ → List (List ℕ) = chains_marked marks (chains (routines_of ps)) in
+        ap (λ ts. or_no_chains (slice_get ts (main - q))) t ∙ ap or_no_chains (up_get g main (main - p) (main - q) (omega arith)) ∙ ap g z
 
 -- main has the one empty chain
 pub main_only : (program : List Routine) (p : ℕ) → p + 1 ≡ length program → chains program p ≡ [] ∷ []
@@ -172,6 +204,9 @@ main_only program p h = go (length program) (sym h)
     go : (most : ℕ) → most ≡ p + 1 → chains_within most program p ≡ [] ∷ []
     go zero e = absurd (omega arith)
     go (suc most) e = by_test (suc p) (length program) (λ c. (if c then [] ∷ [] else through (chains_within most program) 0 program p) ≡ [] ∷ []) (λ k. refl) (λ k. absurd (k (omega arith)))
+
+pub main_marked : (program : List Routine) (marks : List Bool) (p : ℕ) → p + 1 ≡ length program → is_marked marks p ≡ true → chains_marked marks (chains program) p ≡ [] ∷ []
+main_marked program marks p h m = ap (λ (b : Bool). if b then chains program p else []) m ∙ main_only program p h
 
 pub none_past : (program : List Routine) (p : ℕ) → IsChecked program → length program ≤ p → chains program p ≡ []
 none_past program p checked h = go (length program)

@@ -1,6 +1,7 @@
 pub mod Places
 pub mod Joined
 pub mod Tables
+pub mod Marks
 pub mod Settings
 pub mod Literals
 pub mod Touches

@@ -10,9 +10,11 @@
 //!
 //! A program has at most 4,096 chains, each of at most 8 calls. Nothing walks the program: a place is
 //! read off what is known of the statement, and the chains to a procedure are found along call
-//! sites, in time linear in the calls of the procedures from its own on and in the chains to them.
+//! sites, from those to its callers alone: in time linear in the calls of the procedures through which they lead, and in the
+//! chains to these.
 #![tactic(auto)]
 
+mod callers;
 mod counts;
 mod differences;
 mod following;

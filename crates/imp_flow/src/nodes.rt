@@ -6,7 +6,8 @@ ghost use Rattle.imp_flow.specs.Nodes.{nodes_of, node_of};
 ghost use Rattle.imp_flow.specs.Reached.{into_loops};
 
 use crate::steps::TargetStep;
-use base_values::{Items, Memory};
+use base_short::Short;
+use base_values::Memory;
 use imp_flow_rows::Node;
 use imp_syntax::StmtId;
 use imp_table::View;
@@ -27,7 +28,7 @@ fn enter_loops(
     prog: &View<'_>,
     most: u32,
     head: Option<StmtId>,
-    steps: &mut Items<TargetStep>,
+    steps: &mut Short<TargetStep>,
 ) -> Result<(), Memory>
     ensures added { OnOk result (steps.new ≡ steps.old ++ into_loops
         (loops_up (known_in prog.now) most head)) }
@@ -47,7 +48,7 @@ fn enter_loops(
 /// Adds the steps into the loops around a statement, outermost first. It takes time linear in the blocks around it.
 pub(crate) fn enter_loops_around(
     node: &Node<'_>,
-    steps: &mut Items<TargetStep>,
+    steps: &mut Short<TargetStep>,
 ) -> Result<(), Memory>
     ensures added { OnOk result (steps.new ≡ steps.old ++ into_loops (loops_around node.now)) }
 {

@@ -12,6 +12,7 @@ ghost use Rattle.imp_flow.specs.Reached.{target_of, those_there, into_loops, loo
 use crate::flow::Flow;
 use crate::nodes::enter_loops_around;
 use crate::steps::{Target, TargetStep};
+use base_short::Short;
 use base_values::{Items, Memory, Text};
 use call_contexts::main_place;
 use cell_names::Point;
@@ -22,7 +23,7 @@ use std::alloc::Global;
 /// The steps to a procedure, and its place.
 #[derive(Drop)]
 struct Reached {
-    steps: Items<TargetStep>,
+    steps: Short<TargetStep>,
     place: ProcId,
 }
 
@@ -35,7 +36,7 @@ struct Ending<'a> {
 
 /// Adds the steps into the loops around an ending.
 #[tactic(auto, using(crate::proofs::EnteredLemmas::into_nothing))]
-fn enter_loops(around: &Option<Node<'_>>, steps: &mut Items<TargetStep>) -> Result<(), Memory>
+fn enter_loops(around: &Option<Node<'_>>, steps: &mut Short<TargetStep>) -> Result<(), Memory>
     ensures added { OnOk result (steps.new ≡ steps.old ++ into_loops (loops_of around.now)) }
 {
     match around {
@@ -60,7 +61,7 @@ fn enter_main(alloc: Global, flow: &Flow<'_>) -> Reached
     ensures checked { IsChecked flow.now.program }
 {
     Reached {
-        steps: Items::new(alloc),
+        steps: Short::new(alloc),
         place: ProcId::new(main_place(flow.program())),
     }
 }

@@ -20,5 +20,5 @@ returns c =
       is =
           c.in_ok-found.ensures.is
           ∙ ap (through_sites (chains_in table main) (entry_of (entries_of ps))) s
-          ∙ from_sites ps main place table c.chains_go_through_callers.ensures.through c.main_place.ensures.checked c.main_place.ensures.numbered c.requires.last c.requires.before c.requires.known;
+          ∙ from_sites ps c.args.marks.now main place table c.chains_go_through_callers.ensures.through c.main_place.ensures.checked c.main_place.ensures.numbered c.requires.last c.requires.before c.requires.callers c.requires.known;
     }
