@@ -22,7 +22,7 @@ module _ {S : Type 0} (store : Store S) where
   none_once : {A : Type 0} (xs : List A) → xs ≡ [] → IsOnce xs
   none_once xs e m n x f k = absurd (let c : None ≡ Some x = sym (ap (λ ys. slice_get ys m) e) ∙ f in cc)
 
-  pub new_right : (dom : Operations S) (plan : Plan) → IsChecked plan.program → store.graph.cells ≡ empty → store.names.paths ≡ [] ∷ [] → store.names.names ≡ [] → store.states ≡ [] → store.memo.entries ≡ [] → store.recent ≡ [] → IsRight dom plan store
+  pub new_right : (dom : Operations S) (plan : Plan) → IsChecked plan.program → store.graph.cells ≡ empty → store.names.paths ≡ [] ∷ [] → store.names.names ≡ [] → store.states ≡ [] → store.memo.entries ≡ [] → store.recent.entries ≡ [] → IsRight dom plan store
   new_right dom plan checked cells paths names states memo recent = record {
     checked = checked;
     root = ap (λ ps. slice_get ps 0) paths;

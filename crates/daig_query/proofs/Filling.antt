@@ -187,10 +187,10 @@ module _ {S : Type 0} (dom : Operations S) (plan : Plan) where
         )
         )
 
-    recent_results : AreResults dom new.operations new.states new.recent
-    recent_results = subst (AreResults dom new.operations new.states) (sym recent) (
-        subst (λ s. AreResults dom new.operations s mid.recent) (sym states) (
-        subst (λ p. AreResults dom p mid.states mid.recent) (sym operations) right.recent
+    recent_results : AreResults dom new.operations new.states new.recent.entries
+    recent_results = subst (λ m. AreResults dom new.operations new.states m.entries) (sym recent) (
+        subst (λ s. AreResults dom new.operations s mid.recent.entries) (sym states) (
+        subst (λ p. AreResults dom p mid.states mid.recent.entries) (sym operations) right.recent
         )
         )
 

@@ -141,9 +141,9 @@ module _ {S : Type 0} (dom : Operations S) (plan : Plan) where
         subst (λ operations. AreResults dom operations old.states old.memo.entries) (sym more.operations) right.results
         )
         );
-    recent = subst (AreResults dom new.operations new.states) (sym more.recent) (
-        subst (λ states. AreResults dom new.operations states old.recent) (sym more.states) (
-        subst (λ operations. AreResults dom operations old.states old.recent) (sym more.operations) right.recent
+    recent = subst (λ m. AreResults dom new.operations new.states m.entries) (sym more.recent) (
+        subst (λ states. AreResults dom new.operations states old.recent.entries) (sym more.states) (
+        subst (λ operations. AreResults dom operations old.states old.recent.entries) (sym more.operations) right.recent
         )
         );
   }

@@ -70,9 +70,9 @@ module _ {S : Type 0} (dom : Operations S) where
           subst (λ p. AreResults dom p before.states before.memo.entries) (sym less.operations) right.results
           )
           );
-      recent = subst (AreResults dom after.operations after.states) (sym less.recent) (
-          subst (λ s. AreResults dom after.operations s before.recent) (sym less.states) (
-          subst (λ p. AreResults dom p before.states before.recent) (sym less.operations) right.recent
+      recent = subst (λ m. AreResults dom after.operations after.states m.entries) (sym less.recent) (
+          subst (λ s. AreResults dom after.operations s before.recent.entries) (sym less.states) (
+          subst (λ p. AreResults dom p before.states before.recent.entries) (sym less.operations) right.recent
           )
           );
     }

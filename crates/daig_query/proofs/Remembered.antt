@@ -73,7 +73,7 @@ module _ {S : Type 0} (dom : Operations S) where
   state_grows old new keeps (Some n) h = let p = get_some old n h in keeps n p.0 p.1 ∙ sym p.1
 
   module _ (plan : Plan) where
-    pub right_more : (old new : Store S) → IsRight dom plan old → new.graph.cells ≡ old.graph.cells → new.names ≡ old.names → KeepsNumbers old.states new.states → IsOnce new.states → AreResults dom new.operations new.states new.memo.entries → AreResults dom new.operations new.states new.recent → AddsFew 1 old new → Computes dom plan old new
+    pub right_more : (old new : Store S) → IsRight dom plan old → new.graph.cells ≡ old.graph.cells → new.names ≡ old.names → KeepsNumbers old.states new.states → IsOnce new.states → AreResults dom new.operations new.states new.memo.entries → AreResults dom new.operations new.states new.recent.entries → AddsFew 1 old new → Computes dom plan old new
     right_more old new right graph names keeps single results recent few = record {
       cells = graph;
       names = names;

@@ -130,9 +130,9 @@ module _ {S : Type 0} (dom : Operations S) (plan : Plan) (old new : Store S) (r 
         subst (λ operations. AreResults dom operations old.states old.memo.entries) (sym r.operations) right.results
         )
         );
-    recent = subst (AreResults dom new.operations new.states) (sym r.recent) (
-        subst (λ states. AreResults dom new.operations states old.recent) (sym r.states) (
-        subst (λ operations. AreResults dom operations old.states old.recent) (sym r.operations) right.recent
+    recent = subst (λ m. AreResults dom new.operations new.states m.entries) (sym r.recent) (
+        subst (λ states. AreResults dom new.operations states old.recent.entries) (sym r.states) (
+        subst (λ operations. AreResults dom operations old.states old.recent.entries) (sym r.operations) right.recent
         )
         );
   }

@@ -117,7 +117,7 @@ module _ {S : Type 0} (dom : Operations S) (plan : Plan) (old new : Store S) (sw
       )
 
   -- what is right stays right where states have one number and results are right
-  pub swept-right : IsOnce new.states → AreResults dom new.operations new.states new.memo.entries → AreResults dom new.operations new.states new.recent → IsRight dom plan new
+  pub swept-right : IsOnce new.states → AreResults dom new.operations new.states new.memo.entries → AreResults dom new.operations new.states new.recent.entries → IsRight dom plan new
   swept-right single results recent = record {
     checked = right.checked;
     root = ap (λ k. slice_get k.paths 0) swept.names ∙ right.root;
@@ -173,7 +173,7 @@ module _ {S : Type 0} (old new : Store S) (entries : List (S × ℕ)) (count : �
         ap (λ l. slice_get l (rank entries h.state)) left ∙ marked-at entries h.state m ∙ ap (λ l. slice_get l h.state) states_are;
   }
 
-  pub sweeps-right : (eq : S → S → Bool) → ((s : S) → eq s s ≡ true) → AreOnce eq new.states → new.memo.entries ≡ [] → new.recent ≡ [] → (dom : Operations S) → StaysRight dom old new
+  pub sweeps-right : (eq : S → S → Bool) → ((s : S) → eq s s ≡ true) → AreOnce eq new.states → new.memo.entries ≡ [] → new.recent.entries ≡ [] → (dom : Operations S) → StaysRight dom old new
   sweeps-right eq same once empty none dom plan right =
       swept-right dom plan old new sweeps right
       (λ m n s e f. once m n s s e f (same s))

@@ -41,4 +41,4 @@ module _ {S : Type 0} (dom : Operations S) (plan : Plan) where
     pub kept : AreCells dom plan.engine plan.program same_name (kept store)
     pub cells : (n : ℕ) (f : Filled Held) → get store.graph.cells n ≡ Some f → (x : CellName) × (slice_get store.names.names n ≡ Some x) × IsCellOf store x f
     pub results : AreResults dom store.operations store.states store.memo.entries
-    pub recent : AreResults dom store.operations store.states store.recent
+    pub recent : AreResults dom store.operations store.states store.recent.entries

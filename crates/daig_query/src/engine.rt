@@ -37,21 +37,22 @@ pub struct Engine<D: Domain> {
 }
 
 impl<D: Domain + Drop> Engine<D> {
-    /// An engine that keeps nothing, and remembers at most so many results of operations beside 4,096 found last. It is
+    /// An engine that keeps nothing, and remembers at most so many results of operations, beside as many found last. It is
     /// right for every checked program.
     pub fn new(alloc: Global, domain: D, memo: usize) -> Result<Engine<D>, Memory>
         requires some { 0 < memo }
         ensures spare { IfOk result (λ e. e.spare ≤ 4 * memo + 4096) }
         ensures bounded { IfOk result (λ e. IsBounded e.spare e.store) }
+        ensures recent { IfOk result (λ e. e.store.recent.places ≤ memo) }
         ensures domain { IfOk result (λ e. e.domain ≡ domain) }
         ensures empty { IfOk result (λ e. (x : CellName) → kept e.store x ≡ false) }
         ensures right { IfOk result (λ e. (plan : Plan) → IsChecked plan.program →
             IsRight (D.operations e.domain) plan e.store) }
     {
         let spare = memo.saturating_mul(4).saturating_add(SLACK);
+        let recent = RecentResults::new(alloc, memo)?;
         let memo = Memo::new(alloc, memo)?;
         let operations = OperationTable::new(alloc)?;
-        let recent = RecentResults::new(alloc)?;
         let store = Store {
             graph: Graph::new(alloc),
             names: Names::new(alloc),

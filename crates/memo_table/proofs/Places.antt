@@ -1,5 +1,5 @@
 -- What stands at the places of recent results, and what filling one makes of them.
-use Rattle.std.proofs.Common.{◌≡◌, ℕ, zero, suc, ◌<◌, List, [], ◌∷◌, length, get_or, slice_get, Option, Some, None, Contains, ◌⊎◌, inl, inr, refl, sym, ap, ◌∙◌, subst, arith}
+use Rattle.std.proofs.Common.{◌≡◌, ℕ, zero, suc, ◌<◌, ◌≤◌, List, [], ◌∷◌, length, get_or, slice_get, Option, Some, None, Contains, ◌⊎◌, inl, inr, refl, sym, ap, ◌∙◌, subst, arith}
 use Rattle.std.proofs.Math.ListN.{set, replicate}
 use Rattle.std.proofs.lemmas.List.Elements.{Contains-append_right, Contains-append_cases}
 use Rattle.memo_table.specs.declared.memo.Key.{Key}
@@ -53,6 +53,15 @@ entries-set (p ∷ ps) (suc i) q k n h = elim (cases (key_of p) p.state (entries
   ]
 ]
 
+one-more : (key : Option Key) (state : ℕ) (rest : List (Key × ℕ)) → length (entry_before key state rest) ≤ suc (length rest)
+one-more None state rest = omega arith
+one-more (Some key) state rest = omega arith
+
+-- there are no more entries than places
+pub entries-few : (ps : List Place) → length (entries_of ps) ≤ length ps
+entries-few [] = omega arith
+entries-few (p ∷ ps) = let one = one-more (key_of p) p.state (entries_of ps) in let more = entries-few ps in omega arith
+
 -- empty places hold nothing
 pub entries-empty : (p : Place) (count : ℕ) → key_of p ≡ None → entries_of (replicate count p) ≡ []
 entries-empty p zero is = refl
@@ -91,17 +100,17 @@ same-numbers p q key e f =
 pub same-key : (p q : Place) → HasSameNumbers p q → key_of p ≡ key_of q
 same-key p q same = cc
 
-same-index : (p q : Place) → HasSameNumbers p q → index_of p ≡ index_of q
+same-index : (last : ℕ) (p q : Place) → HasSameNumbers p q → index_of last p ≡ index_of last q
 unfolding index_of
-same-index p q same = cc
+same-index last p q same = cc
 
 -- what is held for a key stands at the key's place
-pub stands-at : (ps : List Place) (entries : List (Key × ℕ)) (key : Key) (n : ℕ) (q place : Place) (index : ℕ) → entries_of ps ≡ entries → ArePlaced ps → key_of q ≡ Some key → index ≡ index_of q → place ≡ get_or ps index place → Contains entries (key, n) → HasSameNumbers place q × (n ≡ place.state)
-stands-at ps entries key n q place index view placed is at read h =
+pub stands-at : (last : ℕ) (ps : List Place) (entries : List (Key × ℕ)) (key : Key) (n : ℕ) (q place : Place) (index : ℕ) → entries_of ps ≡ entries → ArePlaced last ps → key_of q ≡ Some key → index ≡ index_of last q → place ≡ get_or ps index place → Contains entries (key, n) → HasSameNumbers place q × (n ≡ place.state)
+stands-at last ps entries key n q place index view placed is at read h =
     let w = entry-from ps key n (subst (λ (es : List (Key × ℕ)). Contains es (key, n)) (sym view) h) in
     let p = w.1 in
     let same : HasSameNumbers p q = same-numbers p q key w.3 is in
-    let here : index ≡ w.0 = at ∙ sym (placed.placed w.0 p key w.2 w.3 ∙ same-index p q same) in
+    let here : index ≡ w.0 = at ∙ sym (placed.placed w.0 p key w.2 w.3 ∙ same-index last p q same) in
     let one : place ≡ p = read ∙ get_or_from_slice_get ps index p place (ap (slice_get ps) here ∙ w.2) in
     (subst (λ x. HasSameNumbers x q) (sym one) same, w.4 ∙ ap (λ (x : Place). x.state) (sym one))
 
@@ -116,12 +125,12 @@ at-set (x ∷ ps) (suc i) q (suc j) p e = elim (at-set ps i q j p e) [
 ]
 
 -- a key is filled in at its own place
-pub placed-set : (ps : List Place) (i : ℕ) (q : Place) → i ≡ index_of q → ArePlaced ps → ArePlaced (set ps i q)
-placed-set ps i q at placed = record {
+pub placed-set : (last : ℕ) (ps : List Place) (i : ℕ) (q : Place) → i ≡ index_of last q → ArePlaced last ps → ArePlaced last (set ps i q)
+placed-set last ps i q at placed = record {
   count = length-set ps i q ∙ placed.count;
   placed = λ j p key e is. elim (at-set ps i q j p e) [
     | inl old ↦ placed.placed j p key old is
-    | inr new ↦ new.0 ∙ at ∙ ap index_of (sym new.1)
+    | inr new ↦ new.0 ∙ at ∙ ap (index_of last) (sym new.1)
   ];
 }
 
@@ -130,8 +139,8 @@ at-replicate p zero i q e = absurd cc
 at-replicate p (suc count) zero q e = same_Some q p (sym e)
 at-replicate p (suc count) (suc i) q e = at-replicate p count i q e
 
-pub placed-empty : (p : Place) (count : ℕ) → count ≡ 4096 → key_of p ≡ None → ArePlaced (replicate count p)
-placed-empty p count size is = record {
+pub placed-empty : (p : Place) (count last : ℕ) → count ≡ suc last → key_of p ≡ None → ArePlaced last (replicate count p)
+placed-empty p count last size is = record {
   count = length-replicate count p ∙ size;
   placed = λ i q key e has. absurd (let none : None ≡ Some key = sym is ∙ ap key_of (sym (at-replicate p count i q e)) ∙ has in cc);
 }

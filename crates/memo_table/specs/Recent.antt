@@ -1,7 +1,12 @@
 -- What the places of recent results hold.
-use Rattle.std.specs.Prelude.{◌≡◌, ℕ, zero, suc, ◌<◌, ◌+◌, ◌*◌, ◌/◌, ◌%◌, ◌^◌, length, List, [], ◌∷◌, Option, Some, None, slice_get}
+use Rattle.std.specs.Prelude.{◌≡◌, ℕ, zero, suc, ◌<◌, ◌+◌, ◌*◌, ◌/◌, ◌%◌, ◌^◌, bit_and, length, List, [], ◌∷◌, Option, Some, None, slice_get}
 use Rattle.memo_table.specs.declared.memo.Key.{Key}
 use Rattle.memo_table.specs.declared.recent.Place.{Place}
+
+-- results that are held, and how many places there are for them
+pub record Recent : Type 0 where
+  pub entries : List (Key × ℕ)
+  pub places : ℕ
 
 -- the number that stands as one more than it is, where 0 is none
 abbrev pub number_of : ℕ → Option ℕ
@@ -35,16 +40,16 @@ IsSmall (Some n) = suc n < 2 ^ 64
 abbrev pub HasSmallNumbers : Key → Type 0
 HasSmallNumbers key = IsSmall (Some key.operation) × IsSmall key.left × IsSmall key.right
 
--- which of the places that of a key is
-unfoldable pub index_of : Place → ℕ
-index_of p = ((p.operation * 2654435769 % 2 ^ 64 + p.left * 2246822507 % 2 ^ 64) % 2 ^ 64 + p.right * 3266489909 % 2 ^ 64) % 2 ^ 64 / 8192 % 4096
+-- which of the places that of a key is, where the last one has this number
+unfoldable pub index_of : ℕ → Place → ℕ
+index_of last p = bit_and (((p.operation * 2654435769 % 2 ^ 64 + p.left * 2246822507 % 2 ^ 64) % 2 ^ 64 + p.right * 3266489909 % 2 ^ 64) % 2 ^ 64 / 8192) last
 
 pub record HasSameNumbers (p q : Place) : Type 0 where
   pub operation : p.operation ≡ q.operation
   pub left : p.left ≡ q.left
   pub right : p.right ≡ q.right
 
--- there are so many places, and each key stands at its own
-pub record ArePlaced (places : List Place) : Type 0 where
-  pub count : length places ≡ 4096
-  pub placed : (i : ℕ) (p : Place) (key : Key) → slice_get places i ≡ Some p → key_of p ≡ Some key → i ≡ index_of p
+-- the last place has this number, and each key stands at its own place
+pub record ArePlaced (last : ℕ) (places : List Place) : Type 0 where
+  pub count : length places ≡ suc last
+  pub placed : (i : ℕ) (p : Place) (key : Key) → slice_get places i ≡ Some p → key_of p ≡ Some key → i ≡ index_of last p

@@ -1,5 +1,5 @@
 //! Results that were found last.
-ghost use Rattle.std.specs.Prelude.{◌≡◌, ◌<◌, ◌⊎◌, ℕ, Some, [], IfOk, IfSome, IsSome, Contains};
+ghost use Rattle.std.specs.Prelude.{◌≡◌, ◌<◌, ◌≤◌, ◌⊎◌, ℕ, Some, [], length, IfOk, IfSome, IsSome, Contains};
 ghost use Rattle.std.specs.Bool.{Decides};
 ghost use Rattle.memo_table.specs.Recent.{HasSameNumbers, HasSmallNumbers, IsSmall, index_of, key_of, number_of};
 
@@ -8,8 +8,8 @@ use base_values::Memory;
 use std::alloc::Global;
 use std::marker::Model;
 
-/// How many places there are.
-const PLACES: usize = 4096;
+/// How many places there are at most.
+const MOST_PLACES: usize = 4096;
 
 /// A place for a key and for the number of a state. Each number of the key stands as one more than it is, and 0 is none:
 /// a place whose operation is 0 is empty.
@@ -29,25 +29,27 @@ const EMPTY: Place = Place {
     state: 0,
 };
 
-/// The numbers of states that operations gave, of the keys that were asked for last. Each key has one place, and
-/// displaces the one that stands there. It stands before a [`Memo`](crate::Memo), costs less to look up, and forgets
-/// more.
+/// The numbers of states that operations gave, of the keys that were asked for last: no more of them than there are
+/// places. Each key has one place, and displaces the one that stands there. It stands before a [`Memo`](crate::Memo),
+/// costs less to look up, and forgets more.
 #[derive(Drop)]
 pub struct RecentResults {
     places: Vec<Place>,
+    // the number of the last place
+    last: usize,
 }
 
 impl Model for RecentResults {
-    ghost use Rattle.std.specs.Prelude.{ℕ, List};
-    ghost use Rattle.memo_table.specs.declared.memo.Key.{Key};
+    ghost use Rattle.std.specs.Prelude.{length};
+    ghost use Rattle.memo_table.specs.Recent.{Recent};
 
-    ghost Value = { List (Key × ℕ) };
+    ghost Value = { Recent };
 
     ghost use Rattle.memo_table.specs.Recent.{entries_of, ArePlaced};
 
-    ghost view = { λ r. entries_of r.places.items };
+    ghost view = { λ r. record { entries = entries_of r.places.items; places = length r.places.items } };
 
-    ghost invariant = { λ r. ArePlaced r.places.items };
+    ghost invariant = { λ r. ArePlaced r.last r.places.items };
 }
 
 /// One more than a number, or 0 for none. `None` where that does not fit.
@@ -77,18 +79,31 @@ fn filled(key: &Key, state: usize) -> Option<Place>
     })
 }
 
-/// Which of the places that of a key is.
+/// The greatest power of two that is at most so many, or 4,096 where that is less.
+fn place_count(most: usize) -> usize
+    requires some { 0 < most }
+    ensures some { 0 < result }
+    ensures most { result ≤ most }
+{
+    let mut count = 1;
+    'doubling: while count < MOST_PLACES && count <= most / 2 {
+        count *= 2;
+    }
+    count
+}
+
+/// Which of the places that of a key is, where the last one has this number.
 #[inline]
-fn index_of(place: &Place) -> usize
-    ensures is { result ≡ index_of place.now }
-    ensures within { result < 4096 }
+fn index_of(place: &Place, last: usize) -> usize
+    ensures is { result ≡ index_of last place.now }
+    ensures within { result ≤ last }
 {
     let mixed = place
         .operation
         .wrapping_mul(0x9E37_79B9)
         .wrapping_add(place.left.wrapping_mul(0x85EB_CA6B))
         .wrapping_add(place.right.wrapping_mul(0xC2B2_AE35));
-    (mixed >> 13) % PLACES
+    (mixed >> 13) & last
 }
 
 /// Whether two places hold the same key.
@@ -100,17 +115,22 @@ fn has_same_key(place: &Place, other: &Place) -> bool
 }
 
 impl RecentResults {
-    /// No results. It takes the memory for all places.
-    pub fn new(alloc: Global) -> Result<RecentResults, Memory>
-        ensures empty { IfOk result (λ r. r ≡ []) }
+    /// No results, and places for at most so many, and for at most 4,096. It takes the memory for all places.
+    pub fn new(alloc: Global, most: usize) -> Result<RecentResults, Memory>
+        requires some { 0 < most }
+        ensures empty { IfOk result (λ r. r.entries ≡ []) }
+        ensures most { IfOk result (λ r. r.places ≤ most) }
     {
-        let places = vec![in alloc; EMPTY; PLACES]?;
-        Ok(RecentResults { places })
+        let count = place_count(most);
+        let places = vec![in alloc; EMPTY; count]?;
+        let last = count - 1;
+        Ok(RecentResults { places, last })
     }
 
     /// Forgets all results.
     pub fn clear(&mut self)
-        ensures empty { self.new ≡ [] }
+        ensures empty { self.new.entries ≡ [] }
+        ensures places { self.new.places ≡ self.old.places }
     {
         self.places.fill(EMPTY);
     }
@@ -118,12 +138,12 @@ impl RecentResults {
     /// The number of the state that is kept for a key, or `None` where none is.
     #[inline]
     pub fn get(&self, key: &Key) -> Option<usize>
-        ensures kept { IfSome result (λ n. Contains self.now (key.now, n)) }
-        ensures found { (n : ℕ) → HasSmallNumbers key.now → Contains self.now (key.now, n) →
-            result ≡ Some n }
+        ensures kept { IfSome result (λ n. Contains self.now.entries (key.now, n)) }
+        ensures found { (n : ℕ) → HasSmallNumbers key.now →
+            Contains self.now.entries (key.now, n) → result ≡ Some n }
     {
         let sought = filled(key, 0)?;
-        let place = &self.places[index_of(&sought)];
+        let place = &self.places[index_of(&sought, self.last)];
         if has_same_key(place, &sought) {
             Some(place.state)
         } else {
@@ -135,12 +155,15 @@ impl RecentResults {
     /// one of whose numbers is the largest there is.
     #[inline]
     pub fn keep(&mut self, key: &Key, state: usize)
-        ensures kept { HasSmallNumbers key.now → Contains self.new (key.now, state) }
-        ensures others { (k : Key) (n : ℕ) → Contains self.new (k, n) →
-            Contains self.old (k, n) ⊎ ((k ≡ key.now) × (n ≡ state)) }
+        ensures kept { HasSmallNumbers key.now → Contains self.new.entries (key.now, state) }
+        ensures others { (k : Key) (n : ℕ) → Contains self.new.entries (k, n) →
+            Contains self.old.entries (k, n) ⊎ ((k ≡ key.now) × (n ≡ state)) }
+        ensures places { self.new.places ≡ self.old.places }
+        ensures most { length self.new.entries ≤ self.new.places }
     {
         if let Some(place) = filled(key, state) {
-            self.places[index_of(&place)] = place;
+            let index = index_of(&place, self.last);
+            self.places[index] = place;
         }
     }
 }

@@ -44,7 +44,7 @@ fn ticket_stays_open(rt: HostRuntime) -> Result<(), Fail> {
     Ok(())
 }
 
-/// Counts to ten, with room for one result of an operation.
+/// Counts to ten, with room for one result of an operation, and for one found last.
 const FORGETFUL: Setup<'static> = Setup { memo: 1, ..PLAIN };
 
 #[test]
