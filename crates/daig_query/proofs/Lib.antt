@@ -34,3 +34,4 @@ pub mod Sweeping
 pub mod Sweeps
 pub mod Renaming
 pub mod Renames
+pub mod Fewer

@@ -1,10 +1,11 @@
 -- Stores whose cells have other numbers: the names of cells are left, and no others.
-use Rattle.std.specs.Prelude.{◌≡◌, ℕ, ◌<◌, ◌≤◌, List, [], length, Some, is_some, IsSome, false, slice_get}
+use Rattle.std.specs.Prelude.{◌≡◌, ℕ, ◌<◌, ◌≤◌, List, [], length, Option, Some, None, is_some, IsSome, false, slice_get}
 use Rattle.std.specs.FinMap.{get, len}
 use Rattle.cell_names.specs.Known.{Adds, IsOnce, Known}
 use Rattle.cell_names.specs.Paths.{CellName}
 use Rattle.daig_graph.specs.Numbers.{renumbered}
 use Rattle.daig_graph.specs.Renumbered.{Renumbers}
+use Rattle.daig_query.specs.declared.names_sweep.NewNames.{NewNames}
 use Rattle.daig_query.specs.declared.store.Store.{Store}
 use Rattle.daig_query.specs.Kept.{kept, Cells}
 
@@ -26,7 +27,21 @@ module _ (cells : Cells) (names : List CellName) where
     pub none : is_some (get cells number) ≡ false → new.names ≡ old.names
     pub root : slice_get new.paths 0 ≡ Some []
 
+-- the names that stand where these were worked out to stand, if any were
+abbrev pub names_after : Known → Option NewNames → Known
+names_after names None = names
+names_after names (Some made) = made.names
+
 module _ {S : Type 0} where
+  -- The names of the cells are worked out, with their new numbers.
+  pub record IsRenamingOf (store : Store S) (made : NewNames) : Type 0 where
+    pub anew : AreNamedAnew store.graph.cells store.names.names (length store.names.names) made.numbers.items made.names.names
+    pub root : slice_get made.names.paths 0 ≡ Some []
+
+  -- There are no more names than cells.
+  abbrev pub HasNamesOfCells : Store S → NewNames → Type 0
+  HasNamesOfCells store made = length made.names.names ≤ len store.graph.cells
+
   -- Each cell has the name, the value and the inputs that it had, under other numbers; the same names have cells, and
   -- states, operations and what is remembered stay.
   pub record Renames (old new : Store S) : Type 0 where

@@ -32,8 +32,6 @@ pub struct Engine<D: Domain> {
     pub(crate) store: Store<D::State>,
     // how many states are kept beside four for each cell, before a sweep
     pub(crate) spare: usize,
-    // for new tables of names
-    pub(crate) alloc: Global,
 }
 
 impl<D: Domain + Drop> Engine<D> {
@@ -65,7 +63,6 @@ impl<D: Domain + Drop> Engine<D> {
             domain,
             store,
             spare,
-            alloc,
         })
     }
 }

@@ -1,10 +1,10 @@
 //! Giving back the names and paths of cells that are gone.
-ghost use Rattle.std.specs.Prelude.{◌≡◌, ◌<◌, ◌≤◌, [], length, Some, slice_get, IfOk, OnErr, OnOk};
+ghost use Rattle.std.specs.Prelude.{◌≡◌, ◌<◌, ◌≤◌, [], length, Some, slice_get, IfNone, IfOk, IfSome, OnOk};
 ghost use Rattle.std.specs.FinMap.{len};
 ghost use Rattle.domain_laws.specs.Operations.{Operations};
 ghost use Rattle.cell_names.specs.Known.{KeepsNumbers};
 ghost use Rattle.cell_names.specs.Paths.{path_at};
-ghost use Rattle.daig_query.specs.Renamed.{AddsNameOf, AreNamedAnew, Renames};
+ghost use Rattle.daig_query.specs.Renamed.{names_after, AddsNameOf, AreNamedAnew, HasNamesOfCells, IsRenamingOf, Renames};
 ghost use Rattle.daig_query.specs.Swept.{most_held, IsInTables, StaysRight};
 
 use crate::engine::Engine;
@@ -19,63 +19,73 @@ use domain_laws::Domain;
 use std::alloc::Global;
 use std::hash::Hash;
 
+/// The names of cells alone, and by each number the new number of its name.
+#[derive(Drop)]
+pub struct NewNames {
+    names: Names,
+    numbers: Vec<usize>,
+}
+
 impl<D: Domain> Engine<D> {
-    /// Gives back the names that have no cell, and the paths that no cell's name needs, where more names are kept than
-    /// four for each cell and each result that may be remembered, and 4,096. The cells get other numbers, so no walk that
-    /// was begun before stays good. Each cell keeps what it holds, and what is remembered stays.
+    /// The names that have a cell, without those that have none and the paths that no cell's name needs, where more names are
+    /// kept than four for each cell and each result that may be remembered, and 4,096; `None` where they are no more.
+    /// Nothing is changed.
     ///
     /// It takes as many steps as there are names, and as the paths of the cells have frames; since it happens where three
     /// quarters of the names have no cell, that is constant time for each name that was made, and each frame of its path.
     ///
     /// # Errors
     ///
-    /// [`Memory`] when memory runs out. All stays as it was then.
-    pub fn sweep_names(&mut self) -> Result<(), Memory>
+    /// [`Memory`] alone.
+    pub fn new_names(&self, alloc: Global) -> Result<Option<NewNames>, Memory>
+        ensures renaming { IfOk result (λ made. IfSome made (IsRenamingOf self.now.store)) }
+        ensures few { IfOk result (λ made. IfSome made (HasNamesOfCells self.now.store)) }
+        ensures none { IfOk result (λ made. IfNone made (length self.now.store.names.names ≤
+            most_held self.now.spare self.now.store)) }
+    {
+        let most = most_kept(&self.store.graph, self.spare);
+        if self.store.names.len() <= most {
+            return Ok(None);
+        }
+        let made = named_anew(alloc, &self.store.graph, &self.store.names)?;
+        Ok(Some(made))
+    }
+
+    /// Puts names that were worked out, if there are any, in the place of those that are kept. Cells may have been taken
+    /// away since. The cells get other numbers, so no walk that was begun before stays good. Each cell keeps what it holds,
+    /// and what is remembered stays. It takes as many steps as there are names, and no memory.
+    pub fn rename(&mut self, made: Option<NewNames>)
         requires held { IsInTables self.old.store }
+        requires renaming { IfSome made (IsRenamingOf self.old.store) }
         ensures domain { self.new.domain ≡ self.old.domain }
         ensures spare { self.new.spare ≡ self.old.spare }
         ensures renames { Renames self.old.store self.new.store }
         ensures right { StaysRight (D.operations self.old.domain) self.old.store self.new.store }
-        ensures few { OnOk result (length self.new.store.names.names ≤
-            most_held self.old.spare self.new.store) }
-        ensures err { OnErr result (self.new.store ≡ self.old.store) }
+        ensures names { self.new.store.names ≡ names_after self.old.store.names made }
     {
-        let most = most_kept(&self.store.graph, self.spare);
-        if self.store.names.len() > most {
-            return rename_cells(self.alloc, &mut self.store);
+        if let Some(made) = made {
+            rename_cells(&mut self.store, made);
         }
-        Ok(())
     }
 }
 
-/// The names of cells alone, and by each number the new number of its name.
-#[derive(Drop)]
-struct Renaming {
-    names: Names,
-    numbers: Vec<usize>,
-}
-
 /// Gives back all names that have no cell, and gives the cells other numbers.
-pub(crate) fn rename_cells<S: Eq + Hash + Drop>(
-    alloc: Global,
-    store: &mut Store<S>,
-) -> Result<(), Memory>
+fn rename_cells<S: Eq + Hash + Drop>(store: &mut Store<S>, made: NewNames)
     requires held { IsInTables store.old }
+    requires renaming { IsRenamingOf store.old made }
     ensures renames { Renames store.old store.new }
     ensures right { (dom : Operations S) → StaysRight dom store.old store.new }
-    ensures few { OnOk result (length store.new.names.names ≤ len store.new.graph.cells) }
-    ensures err { OnErr result (store.new ≡ store.old) }
+    ensures names { store.new.names ≡ made.names }
 {
+    let NewNames { names, numbers } = made;
     store.names.numbers_are_one();
-    let Renaming { names, numbers } = named_anew(alloc, &store.graph, &store.names)?;
     names.numbers_are_one();
     store.graph.renumber(numbers.as_slice());
     store.names = names;
-    Ok(())
 }
 
 /// The names of the cells, in the order of their numbers. A number without a cell gets that of the next cell.
-fn named_anew(alloc: Global, graph: &Graph<Held>, names: &Names) -> Result<Renaming, Memory>
+fn named_anew(alloc: Global, graph: &Graph<Held>, names: &Names) -> Result<NewNames, Memory>
     ensures anew { IfOk result (λ r. AreNamedAnew graph.now.cells names.now.names
         (length names.now.names) r.numbers.items r.names.names) }
     ensures root { IfOk result (λ r. slice_get r.names.paths 0 ≡ Some []) }
@@ -89,7 +99,7 @@ fn named_anew(alloc: Global, graph: &Graph<Held>, names: &Names) -> Result<Renam
         numbers.push(new)?;
         add_name_of(alloc, graph, names, number, &mut later)?;
     }
-    Ok(Renaming {
+    Ok(NewNames {
         names: later,
         numbers,
     })

@@ -18,4 +18,3 @@ pub mod Reported
 pub mod Standing
 pub mod Reporting
 pub mod Swept
-pub mod GivenBack

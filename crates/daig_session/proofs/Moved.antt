@@ -1,5 +1,5 @@
 -- Moves to other programs.
-use Rattle.std.proofs.Common.{◌≡◌, ℕ, ◌<◌, ◌≤◌, Bool, true, false, Err, List, [], ◌∷◌, map, take, filter, length, inl, inr, refl, sym, ap, subst, ◌∙◌, arith}
+use Rattle.std.proofs.Common.{◌≡◌, ℕ, ◌<◌, ◌≤◌, Bool, true, false, Err, IfSome, List, [], ◌∷◌, map, take, filter, length, inl, inr, refl, sym, ap, subst, ◌∙◌, arith}
 use Rattle.std.specs.List.{All}
 use Rattle.imp_syntax.specs.Plain.{Procedure}
 use Rattle.imp_syntax.specs.declared.edit.Edit.{Edit}
@@ -28,6 +28,7 @@ use Rattle.edit_keeps.proofs.LeaveKept.{leave_kept}
 use Rattle.cell_removal.specs.Removal.{without, IsOrder}
 use Rattle.daig_query.specs.declared.store.Store.{Store}
 use Rattle.daig_query.specs.Claims.{Lessens}
+use Rattle.daig_query.specs.Renamed.{IsRenamingOf}
 use Rattle.daig_query.specs.Kept.{kept}
 use Rattle.daig_query.specs.Right.{found, IsRight}
 use Rattle.daig_query.proofs.Holding.{right_holds, rest_is_right}
@@ -215,6 +216,10 @@ moving_some store e old (p ∷ ps) m h = omega arith
 pub moving_order : {S : Type 0} (store : Store S) (e : LoopOptions) (old : List Procedure) (side : List (List Procedure)) (m : Moving) → IsMovingTo store e old side m → IsOrder store.graph.cells m.plan
 moving_order store e old [] m h = absurd h
 moving_order store e old (p ∷ ps) m h = h.empties.removes.order
+
+pub moving_names : {S : Type 0} (store : Store S) (e : LoopOptions) (old : List Procedure) (side : List (List Procedure)) (m : Moving) → IsMovingTo store e old side m → IfSome m.renaming (IsRenamingOf store)
+moving_names store e old [] m h = absurd h
+moving_names store e old (p ∷ ps) m h = h.names
 
 -- a move to the first of some programs
 pub first_move : {S : Type 0} (store : Store S) (e : LoopOptions) (old p : List Procedure) (ps side : List (List Procedure)) (m : Moving) → p ∷ ps ≡ side → IsMovingTo store e old side m → IsMoving store e old p m

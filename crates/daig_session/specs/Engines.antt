@@ -1,6 +1,6 @@
 -- What is said of an engine, by the operations of its domain: what its cells are right for, how far questions have come in it,
 -- what it fills for them, and what is counted for that.
-use Rattle.std.specs.Prelude.{◌≡◌, ◌≤◌, ◌+◌, ◌*◌, ℕ, suc, List, length, map, Some, Result, IfOk, IfErr}
+use Rattle.std.specs.Prelude.{◌≡◌, ◌≤◌, ◌+◌, ◌*◌, ℕ, suc, List, length, map, Option, Some, Result, IfOk, IfErr}
 use Rattle.imp_syntax.specs.declared.edit.Location.{Location}
 use Rattle.concrete_sem.specs.Values.{Variables, Heap}
 use Rattle.domain_laws.specs.Operations.{Operations}
@@ -10,9 +10,11 @@ use Rattle.imp_flow.specs.Plans.{Plan}
 use Rattle.imp_flow.specs.Reached.{target_of}
 use Rattle.daig_graph.specs.declared.value.Value.{Value}
 use Rattle.daig_query.specs.declared.engine.Engine.{Engine}
+use Rattle.daig_query.specs.declared.names_sweep.NewNames.{NewNames}
 use Rattle.daig_query.specs.declared.walk.Walk.{Walk}
 use Rattle.daig_query.specs.Answered.{AreFilled, Covers, Says}
 use Rattle.daig_query.specs.Filled.{cells_added, missing, Fills}
+use Rattle.daig_query.specs.Renamed.{names_after}
 use Rattle.daig_query.specs.Right.{IsRight}
 use Rattle.daig_session.specs.declared.book.Book.{Book}
 use Rattle.daig_session.specs.declared.book.Going.{Going}
@@ -87,6 +89,10 @@ module _ {D S : Type 0} (operations : D → Operations S) (engine : Engine D S) 
 
 -- What a call makes of an engine.
 module _ {D S : Type 0} (old new : Engine D S) where
+  -- The names are those that were worked out, if any were, and else those that stood.
+  abbrev pub TakesNames : Option NewNames → Type 0
+  TakesNames made = new.store.names ≡ names_after old.store.names made
+
   -- The domain stays, and so does how much may be kept beside what is needed.
   abbrev pub KeepsSetup : Type 0
   KeepsSetup = (new.domain ≡ old.domain) × (new.spare ≡ old.spare)

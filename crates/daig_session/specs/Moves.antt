@@ -1,5 +1,5 @@
 -- Moves from one program to another.
-use Rattle.std.specs.Prelude.{◌≡◌, ◌↔◌, ℕ, ◌≤◌, true, List, [], ◌∷◌, Option, None, MatchOption}
+use Rattle.std.specs.Prelude.{◌≡◌, ◌↔◌, ℕ, ◌≤◌, true, List, [], ◌∷◌, Option, None, IfSome, MatchOption}
 use Rattle.imp_syntax.specs.Plain.{Procedure}
 use Rattle.imp_syntax.specs.declared.edit.Edit.{Edit}
 use Rattle.imp_check.specs.Slots.{routines_of}
@@ -24,6 +24,7 @@ use Rattle.edit_history.specs.After.{changed_program, Leads, LeadsOn}
 use Rattle.daig_query.specs.declared.engine.Engine.{Engine}
 use Rattle.daig_query.specs.declared.store.Store.{Store}
 use Rattle.daig_query.specs.Kept.{kept}
+use Rattle.daig_query.specs.Renamed.{IsRenamingOf}
 use Rattle.daig_query.specs.Right.{IsRight}
 use Rattle.daig_machine.specs.Machine.{Machine}
 use Rattle.daig_machine.specs.Turns.{after_edit}
@@ -58,10 +59,11 @@ EmptiesBy engine setting table change plan =
 abbrev pub IsSettingAfter : LoopOptions → Tabled → Change → Setting → Type 0
 IsSettingAfter options table change = IsSettingOf options (changed_program table.program change)
 
--- the setting of the program that is moved to, and the plan of what the move empties
+-- the setting of the program that is moved to, the plan of what the move empties, and the names, if they are worked out anew
 pub record IsMoving {S : Type 0} (store : Store S) (engine : LoopOptions) (old new : List Procedure) (m : Moving) : Type 0 where
   pub set : m.setting ≡ setting_of engine (routines_of new)
   pub empties : Empties (flow_of engine old) (flow_of engine new) store m.plan
+  pub names : IfSome m.renaming (IsRenamingOf store)
 
 -- a move to the program that a change makes
 abbrev pub IsMovingBy : {D S : Type 0} → Engine D S → Setting → Tabled → Change → Moving → Type 0

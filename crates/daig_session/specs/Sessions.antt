@@ -1,6 +1,5 @@
 -- What is said of a session as a whole, by the operations of its domain.
-use Rattle.std.specs.Prelude.{◌≡◌, ◌≤◌, ◌+◌, ℕ, suc, length}
-use Rattle.std.specs.FinMap.{len}
+use Rattle.std.specs.Prelude.{◌≡◌, ◌+◌, ℕ, suc}
 use Rattle.domain_laws.specs.Operations.{Operations}
 use Rattle.daig_query.specs.Filled.{cells_added}
 use Rattle.daig_query.specs.Swept.{IsBounded}
@@ -34,10 +33,6 @@ KeepsNextTicket old new = new.book.tickets.next ≡ old.book.tickets.next
 -- The states and operations that are kept are within their bound, by the number of its cells.
 abbrev pub IsWithinBound : {D S : Type 0} → Parts D S → Type 0
 IsWithinBound session = IsBounded session.engine.spare session.engine.store
-
--- There are no more names than cells.
-abbrev pub HasNamesOfCells : {D S : Type 0} → Parts D S → Type 0
-HasNamesOfCells session = length session.engine.store.names.names ≤ len session.engine.store.graph.cells
 
 -- how many cells a call fills
 abbrev pub cells_filled : {D S : Type 0} → (old new : Parts D S) → ℕ

@@ -9,7 +9,7 @@ ghost use Rattle.daig_session.specs.Sessions.{IsReadyBy, StandsFor, OfEachMachin
 ghost use Rattle.daig_session.specs.Sessions.{IsWithinBound};
 ghost use Rattle.daig_session.specs.Moves.{IsPlannedFor, IsAccepted, IsRefusedFor, Commits};
 ghost use Rattle.daig_session.specs.Moves.{IsStill};
-ghost use Rattle.daig_session.specs.Engines.{KeepsSetup};
+ghost use Rattle.daig_session.specs.Engines.{KeepsSetup, TakesNames};
 
 use crate::moving::{Moving, leave, planned_move};
 use crate::parts::Parts;
@@ -58,11 +58,16 @@ impl<D: Domain> Parts<D> {
         ensures bounded { IsWithinBound self.new }
         ensures next_ticket { KeepsNextTicket self.old self.new }
         ensures committed { Commits D.operations self.old self.new planned }
+        ensures names { TakesNames self.old.engine self.new.engine planned.moving.renaming }
     {
         let Planned { edited, moving } = planned;
         let Edited { change, next } = edited;
-        let Moving { setting, plan } = moving;
-        leave(&mut self.engine, plan);
+        let Moving {
+            setting,
+            plan,
+            renaming,
+        } = moving;
+        leave(&mut self.engine, plan, renaming);
         self.book.remember(change, next, setting);
     }
 }
@@ -120,8 +125,8 @@ impl<D: Domain> Prepared<'_, D, Planned> {
         self.planned.edited.next
     }
 
-    /// Makes the edit: of the kept cells those are kept that it leaves, and all tickets begin anew. It cannot fail: it takes
-    /// memory for new tables of names alone, and keeps the old ones where there is none.
+    /// Makes the edit: of the kept cells those are kept that it leaves, and all tickets begin anew. It cannot fail, and takes
+    /// no memory: the names that are kept then are those that stood, or those that were planned.
     pub fn commit(self)
         requires planned { (e : AnyEdit) × IsPlannedFor self.session.now e self.planned }
         ensures setup { KeepsSetup self.entry.session.now.engine self.exit.0.now.engine }
@@ -129,6 +134,8 @@ impl<D: Domain> Prepared<'_, D, Planned> {
         ensures next_ticket { KeepsNextTicket self.entry.session.now self.exit.0.now }
         ensures committed { Commits D.operations self.entry.session.now self.exit.0.now
             self.entry.planned }
+        ensures names { TakesNames self.entry.session.now.engine self.exit.0.now.engine
+            self.entry.planned.moving.renaming }
     {
         let Prepared { session, planned } = self;
         session.parts.make(planned);

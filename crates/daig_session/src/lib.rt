@@ -14,16 +14,15 @@
 //!   [`Session::cancel`] closes it. A ticket keeps how far it has come until the program is another one.
 //! - [`Session::prepare`] works an edit out beside what stands. [`Prepared::commit`] makes it, and cannot fail.
 //!   [`Session::undo`] and [`Session::redo`] go back and forth.
-//! - [`Session::give_back`] gives back at once all that no kept cell needs.
 //!
 //! When memory runs out a query, a report or a step leaves some of the missing cells filled, the first of them, and all else
-//! as it was. `give_back` then keeps the names, has given back the rest, and open tickets look anew for what they miss. Any
-//! other call leaves the session as it was.
+//! as it was. Any other call leaves the session as it was.
 //!
 //! States and operations that no cell holds any more are given back: at the start of each question and step, and at the end
 //! of each move, where they are many. So after each call the tables hold at most five states and five operations for each
 //! kept cell, four for each result that may be remembered, and 4,097 (`IsBounded` of `daig_query`, with `spare` of
-//! [`Session::start`]). Names that have no cell are given back at the end of each move, where they are many.
+//! [`Session::start`]). Names that have no cell are given back by each move, where they are many: the new table of names is
+//! made with the plan.
 #![tactic(auto)]
 
 mod asking;
@@ -31,7 +30,6 @@ mod book;
 mod checks;
 mod edits;
 mod error;
-mod giving_back;
 mod moving;
 mod parts;
 mod queries;

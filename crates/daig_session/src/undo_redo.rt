@@ -38,8 +38,12 @@ impl<D: Domain> Parts<D> {
         ensures next_ticket { KeepsNextTicket self.old self.new }
         ensures goes { GoesAlong side D.operations self.old self.new result }
     {
-        let Moving { setting, plan } = self.nearest_move(alloc, side)?;
-        leave(&mut self.engine, plan);
+        let Moving {
+            setting,
+            plan,
+            renaming,
+        } = self.nearest_move(alloc, side)?;
+        leave(&mut self.engine, plan, renaming);
         self.book.turn(side, setting);
         Ok(self.book.next)
     }
@@ -47,7 +51,7 @@ impl<D: Domain> Parts<D> {
 
 impl<D: Domain> Session<D> {
     /// Goes back to the program before the last edit, and gives the next number of a statement, which stays. The kept cells
-    /// change as by an edit that leads there.
+    /// change as by an edit that leads there. All memory is taken before anything changes.
     ///
     /// # Errors
     ///

@@ -1,5 +1,5 @@
 //! Tests of sessions over a domain that fails: what stands after memory ran out, and which questions take no operation.
-//! Giving back what no cell needs changes no answer.
+//! New tables of names change no answer.
 #![tactic(auto)]
 
 #[cfg(test)]
@@ -7,9 +7,9 @@ mod edits;
 #[cfg(test)]
 mod failing;
 #[cfg(test)]
-mod giving_back;
-#[cfg(test)]
 mod memory;
+#[cfg(test)]
+mod names;
 #[cfg(test)]
 mod scripts;
 #[cfg(test)]

@@ -9,7 +9,6 @@ const PLAIN: Setup<'static> = Setup {
     budget: 100,
     thresholds: false,
     memo: 1024,
-    gives_back: false,
 };
 
 #[test]

@@ -29,15 +29,13 @@ pub(crate) enum Line<'a> {
     Replace(u32, &'a str),
 }
 
-/// A program, how its loops are interpreted, how many results of operations are remembered, and whether all that no cell
-/// needs is given back before each line.
+/// A program, how its loops are interpreted, and how many results of operations are remembered.
 #[derive(Clone, Copy)]
 pub(crate) struct Setup<'a> {
     pub(crate) text: &'a str,
     pub(crate) budget: u32,
     pub(crate) thresholds: bool,
     pub(crate) memo: usize,
-    pub(crate) gives_back: bool,
 }
 
 /// A session with a program.
@@ -85,32 +83,16 @@ fn play<D: Domain, L: Ledger>(
     }
 }
 
-/// What a line tells; before it all that no cell needs is given back, if wanted.
-fn play_next<D: Domain, L: Ledger>(
-    alloc: Global,
-    session: &mut Session<D>,
-    line: Line<'_>,
-    gives_back: bool,
-    steps: &mut Steps<L>,
-) -> Result<String, Fail> {
-    if !gives_back {
-        return play(alloc, session, line, steps);
-    }
-    session.give_back()?;
-    play(alloc, session, line, steps)
-}
-
 /// What the lines tell, one after another.
 fn lines<D: Domain, L: Ledger>(
     alloc: Global,
     session: &mut Session<D>,
     script: &[Line<'_>],
-    gives_back: bool,
     steps: &mut Steps<L>,
 ) -> Result<String, Fail> {
     let mut all = String::new(alloc);
     for next in script {
-        let told = play_next(alloc, session, *next, gives_back, steps)?;
+        let told = play(alloc, session, *next, steps)?;
         all.push_str(&told)?;
         all.push_str("; ")?;
     }
@@ -123,14 +105,13 @@ fn counted<D: Domain, L: Ledger>(
     blank: Blank,
     session: &mut Session<D>,
     script: &[Line<'_>],
-    gives_back: bool,
 ) -> Result<String, Fail>
     requires name { blank.name ≡ L.name }
     requires parts { blank.parts ≡ L.parts }
     requires some { 0 < blank.parts }
 {
     let mut steps = Steps::<L>::new(blank);
-    lines(alloc, session, script, gives_back, &mut steps)
+    lines(alloc, session, script, &mut steps)
 }
 
 /// What a script tells of a program, over a domain.
@@ -142,5 +123,5 @@ pub(crate) fn told<D: Domain + Drop>(
 ) -> Result<String, Fail> {
     let mut session = started(alloc, domain, setup)?;
     let blank = Blank::new(1);
-    counted::<D, Brand>(alloc, blank, &mut session, script, setup.gives_back)
+    counted::<D, Brand>(alloc, blank, &mut session, script)
 }

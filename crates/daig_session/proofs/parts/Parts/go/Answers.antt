@@ -5,14 +5,20 @@ use Rattle.daig_session.specs.Sides.{gone_to, programs_of, side_of}
 use Rattle.daig_session.specs.Turns.{Goes, IsStopped}
 use Rattle.daig_query.proofs.Sweeps.{right-in-tables}
 use Rattle.daig_session.specs.Books.{flow_in}
-use Rattle.daig_session.proofs.Moved.{first_move, moving_order, moving_some, stopped_goes}
+use Rattle.daig_session.proofs.Moved.{first_move, moving_names, moving_order, moving_some, stopped_goes}
 use Rattle.daig_session.proofs.Turned.{go_apart, go_holds, go_ready, side_here}
 use Rattle.daig_session.proofs.parts.Parts.go.Goals as goal
 
 pub leave-requires : goal.leave-requires
 leave-requires g c =
     let s = c.args.self.now in
-    record { order = moving_order s.engine.store s.book.setting.engine s.book.history.now (programs_of c.args.side s.book) c.in_ok-setting.field-0 c.in_ok-setting.ensures.moving; held = right-in-tables (g.D.Domain.operations s.engine.domain) (flow_in s.book) s.engine.store c.requires.ready.right }
+    let moving = c.in_ok-setting.ensures.moving in
+    let programs = programs_of c.args.side s.book in
+    record {
+      order = moving_order s.engine.store s.book.setting.engine s.book.history.now programs c.in_ok-setting.field-0 moving;
+      held = right-in-tables (g.D.Domain.operations s.engine.domain) (flow_in s.book) s.engine.store c.requires.ready.right;
+      renaming = moving_names s.engine.store s.book.setting.engine s.book.history.now programs c.in_ok-setting.field-0 moving;
+    }
 
 pub turn-requires : goal.turn-requires
 turn-requires g c =

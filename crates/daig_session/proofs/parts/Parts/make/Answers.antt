@@ -13,7 +13,11 @@ use Rattle.daig_session.proofs.parts.Parts.make.Goals as goal
 pub leave-requires : goal.leave-requires
 leave-requires g c =
     let s = c.args.self.now in
-    record { order = c.requires.planned.1.moving.empties.removes.order; held = right-in-tables (g.D.Domain.operations s.engine.domain) (flow_in s.book) s.engine.store c.requires.ready.right }
+    record {
+      order = c.requires.planned.1.moving.empties.removes.order;
+      held = right-in-tables (g.D.Domain.operations s.engine.domain) (flow_in s.book) s.engine.store c.requires.ready.right;
+      renaming = c.requires.planned.1.moving.names;
+    }
 
 pub remember-requires-clause-leads : goal.remember-requires-clause-leads
 remember-requires-clause-leads g c = c.requires.planned.1.leads
