@@ -1,6 +1,6 @@
 //! One line of a certificate.
 ghost use Rattle.std.specs.Prelude.{◌≡◌, IfOk, reverse, option_map, option_and_then};
-ghost use Rattle.request_json.specs.Trees.{line_data};
+ghost use Rattle.serde_json.specs.View.{view};
 ghost use Rattle.imp_check.specs.Slots.{routines_of};
 ghost use Rattle.cert_meaning.specs.Chained.{layout_around, layouts_around};
 ghost use Rattle.cert_lines.specs.Lines.{chain_at, is_loop_under, line_in, entry_in, entry_of};
@@ -17,8 +17,8 @@ use cert_meaning::Portable;
 use imp_slots::Layout;
 use imp_syntax::{Location, StmtId};
 use imp_table::{Checked, View};
-use json::{Scratch, Value};
 use request_json::{ids_at, json_of, number_at, text_at};
+use serde_json::Value;
 use std::alloc::Global;
 
 /// What a line says: a loop with the call sites of a chain, the last one first, and a state.
@@ -33,8 +33,8 @@ pub(crate) struct CertEntry<S> {
 const MOST_CALLS: usize = 8;
 
 /// The loop of a line.
-fn loop_at(line: &Value<'_>) -> Option<StmtId>
-    ensures is { result ≡ number_at greatest_id (codes "at") (line_data line.now) }
+fn loop_at(line: &Value) -> Option<StmtId>
+    ensures is { result ≡ number_at greatest_id (codes "at") (view line.now) }
 {
     match number_at(line, "at", 4_294_967_295) {
         Some(number) => Some(StmtId::new(number as u32)),
@@ -43,9 +43,9 @@ fn loop_at(line: &Value<'_>) -> Option<StmtId>
 }
 
 /// The call sites of a line, the last one first.
-fn sites_at(alloc: Global, line: &Value<'_>) -> Result<Option<Items<StmtId>>, Memory>
+fn sites_at(alloc: Global, line: &Value) -> Result<Option<Items<StmtId>>, Memory>
     ensures are { IfOk result (λ sites.
-        sites ≡ option_map reverse (chain_at (line_data line.now))) }
+        sites ≡ option_map reverse (chain_at (view line.now))) }
 {
     let Some(chain) = ids_at(alloc, line, "chain")? else {
         return Ok(None);
@@ -123,12 +123,12 @@ fn entry_in<D: Portable>(
     dom: &D,
     prog: &Checked,
     chains: &ChainSets,
-    line: &Value<'_>,
+    line: &Value,
 ) -> Result<Option<CertEntry<D::State>>, Memory>
     requires chains { AreChains (routines_of prog.now) chains.now.sets }
     ensures is { IfOk result (λ o. option_map entry_told o ≡
         option_and_then (entry_in (D.port dom.now) (routines_of prog.now))
-        (line_in (line_data line.now))) }
+        (line_in (view line.now))) }
 {
     let Some(at) = loop_at(line) else {
         return Ok(None);
@@ -142,7 +142,7 @@ fn entry_in<D: Portable>(
     entry_with(alloc, dom, prog, chains, at, sites, text.as_bytes())
 }
 
-/// The entry of a line, or None where the line is bad by itself. The scratch is room for reading the line.
+/// The entry of a line, or None where the line is bad by itself.
 #[tactic(auto, unfolding(cert_lines::specs::Lines::line_of))]
 pub(crate) fn entry_of<D: Portable>(
     alloc: Global,
@@ -150,13 +150,12 @@ pub(crate) fn entry_of<D: Portable>(
     prog: &Checked,
     chains: &ChainSets,
     line: &[u8],
-    scratch: &mut Scratch,
 ) -> Result<Option<CertEntry<D::State>>, Memory>
     requires chains { AreChains (routines_of prog.now) chains.now.sets }
     ensures is { IfOk result (λ o. option_map entry_told o ≡
         entry_of (D.port dom.now) (routines_of prog.now) line.now) }
 {
-    match json_of(alloc, line, scratch)? {
+    match json_of(alloc, line)? {
         Some(value) => entry_in(alloc, dom, prog, chains, &value),
         None => Ok(None),
     }

@@ -14,7 +14,6 @@ use crate::written::{Written, loop_key};
 use base_values::Memory;
 use cert_meaning::Portable;
 use imp_table::Checked;
-use json::Scratch;
 use std::alloc::Global;
 
 /// What reading the lines comes to.
@@ -34,14 +33,13 @@ fn add_line<D: Portable>(
     prog: &Checked,
     chains: &ChainSets,
     line: &[u8],
-    scratch: &mut Scratch,
     written: &mut Written<D::State>,
 ) -> Result<bool, Memory>
     requires chains { AreChains (routines_of prog.now) chains.now.sets }
     ensures added { IfOk result (IsAdded (D.port dom.now)
         (routines_of prog.now) line.now written.old written.new) }
 {
-    let Some(entry) = entry_of(alloc, dom, prog, chains, line, scratch)? else {
+    let Some(entry) = entry_of(alloc, dom, prog, chains, line)? else {
         return Ok(false);
     };
     let key = loop_key(alloc, entry.at, entry.sites.as_slice())?;
@@ -69,7 +67,6 @@ fn read_byte<D: Portable>(
     chains: &ChainSets,
     byte: u8,
     line: &mut Vec<u8>,
-    scratch: &mut Scratch,
     count: &mut usize,
     written: &mut Written<D::State>,
 ) -> Result<Next, Memory>
@@ -80,7 +77,7 @@ fn read_byte<D: Portable>(
         count.old line.old.items written.new count.new line.new.items) }
 {
     if byte == b'\n' {
-        if add_line(alloc, dom, prog, chains, line.as_slice(), scratch, written)? {
+        if add_line(alloc, dom, prog, chains, line.as_slice(), written)? {
             line.clear();
             *count += 1;
             Ok(Next::More)
@@ -100,7 +97,6 @@ fn read_rest<D: Portable>(
     prog: &Checked,
     chains: &ChainSets,
     line: &[u8],
-    scratch: &mut Scratch,
     count: usize,
     written: Written<D::State>,
 ) -> Result<Lines<D::State>, Memory>
@@ -113,7 +109,7 @@ fn read_rest<D: Portable>(
     match line {
         [] => Ok(Lines::Read(all)),
         _ => {
-            if add_line(alloc, dom, prog, chains, line, scratch, &mut all)? {
+            if add_line(alloc, dom, prog, chains, line, &mut all)? {
                 Ok(Lines::Read(all))
             } else {
                 Ok(Lines::Bad(count))
@@ -137,7 +133,6 @@ fn read_lines<D: Portable>(
 {
     let mut written = Written::new(alloc);
     let mut line: Vec<u8> = Vec::new(alloc);
-    let mut scratch = Scratch::new(alloc);
     let mut count = 1;
     for byte in cert {
         match read_byte(
@@ -147,7 +142,6 @@ fn read_lines<D: Portable>(
             chains,
             *byte,
             &mut line,
-            &mut scratch,
             &mut count,
             &mut written,
         )? {
@@ -155,16 +149,7 @@ fn read_lines<D: Portable>(
             Next::Bad => return Ok(Lines::Bad(count)),
         }
     }
-    read_rest(
-        alloc,
-        dom,
-        prog,
-        chains,
-        line.as_slice(),
-        &mut scratch,
-        count,
-        written,
-    )
+    read_rest(alloc, dom, prog, chains, line.as_slice(), count, written)
 }
 
 /// Reads the lines of a certificate of a program, in their order, up to the first bad one. The program has no fault, and the

@@ -10,7 +10,6 @@ use base_counter::Steps;
 use base_values::Memory;
 use daig_session::Session;
 use imp_table::Table;
-use json::Scratch;
 use serve_command::AnalysisOptions;
 use serve_output::Named;
 use serve_replies::long_line;
@@ -19,12 +18,10 @@ use serve_session::answer_line;
 use std::alloc::Global;
 use std::sync::ledger::Ledger;
 
-/// The server of one program: a session with it, and the room for reading lines, which grows to the longest line. Nothing
-/// of a line is left there to a reply. The room is boxed, since it is 16 KiB, which each frame would else hold.
+/// The server of one program: a session with it.
 #[derive(Drop)]
 pub(crate) struct Server<D: Named> {
     session: Session<D>,
-    scratch: Box<Scratch>,
 }
 
 /// The next number of a statement of a program that is numbered from 1 on.
@@ -63,8 +60,7 @@ impl<D: Named> Server<D> {
             settings.widening,
             memo as usize,
         )?;
-        let scratch = Box::new(alloc, Scratch::new(alloc))?;
-        Ok(Server { session, scratch })
+        Ok(Server { session })
     }
 }
 
@@ -97,7 +93,7 @@ impl<D: Named> Answerer for Server<D> {
         line: &[u8],
         steps: &mut Steps<L>,
     ) -> Result<Vec<u8>, Memory> {
-        answer_line(alloc, &mut self.session, line, &mut self.scratch, steps)
+        answer_line(alloc, &mut self.session, line, steps)
     }
 
     fn answer_long(&self, alloc: Global) -> Result<Vec<u8>, Memory> {

@@ -1,6 +1,6 @@
 pub mod NumberLemmas
 pub mod ItemLemmas
 pub mod LineLemmas
-pub mod TreeLemmas
 pub mod WritingLemmas
-pub mod DigitLemmas
+pub mod SendingLemmas
+pub mod ReplyLemmas

@@ -3,6 +3,4 @@ pub mod Places
 pub mod Names
 pub mod Requests
 pub mod Replies
-pub mod Pieces
-pub mod Heads
-pub mod Trees
+pub mod Sending

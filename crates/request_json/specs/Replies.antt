@@ -1,5 +1,6 @@
 -- The line of a reply.
-use Rattle.std.specs.Prelude.{ℕ, List, [], ◌∷◌, ◌++◌, Option, Some, None, codes}
+use Rattle.std.specs.Prelude.{ℕ, ◌==◌, List, [], ◌∷◌, ◌++◌, length, Option, Some, None, codes, if◌then◌else◌}
+use Rattle.std.specs.Str.Lossy.{utf8_valid_len}
 use Rattle.serde_json.specs.Data.{Data, Items, no_items, item, Members, no_members, put, object, array, string, number, unsigned}
 use Rattle.serde_json.specs.Written.{compact_text}
 use Rattle.request_json.specs.declared.reply.Reply.{Reply}
@@ -30,6 +31,10 @@ object_of fields = object (members_of fields)
 -- a whole number
 abbrev pub count : ℕ → Data
 count n = number (unsigned n)
+
+-- bytes as a text; bytes that are not UTF-8 are no text, and the empty one stands for them
+abbrev pub text_of : List ℕ → Data
+text_of bytes = string (if utf8_valid_len bytes == length bytes then bytes else [])
 
 -- the list of what each item gives
 abbrev pub items_of : {A : Type 0} → (A → Data) → List A → Items
@@ -109,11 +114,11 @@ refusal_number refusal.NothingToRedo = 18
 
 -- where a program's fault is
 abbrev pub fault_fields : ProgramFault → List (List ℕ × Data)
-fault_fields fault = (codes "at", count fault.at) ∷ (codes "name", string fault.name) ∷ (codes "proc", string fault.proc) ∷ []
+fault_fields fault = (codes "at", count fault.at) ∷ (codes "name", text_of fault.name) ∷ (codes "proc", text_of fault.proc) ∷ []
 
 -- where the cause of a refusal is: of a text, a well formed program and a limit
 abbrev pub place_fields : Refusal → List (List ℕ × Data)
-place_fields (refusal.Unread at name) = (codes "at", count at) ∷ (codes "name", string name) ∷ []
+place_fields (refusal.Unread at name) = (codes "at", count at) ∷ (codes "name", text_of name) ∷ []
 place_fields (refusal.IllFormed fault) = fault_fields fault
 place_fields (refusal.Limit fault) = fault_fields fault
 place_fields refusal.NoJson = []
@@ -130,12 +135,12 @@ place_fields refusal.NothingToRedo = []
 
 -- the keys of a reply, and their values
 unfoldable pub reply_fields : Reply → List (List ℕ × Data)
-reply_fields (r.State text) = (codes "state", string text) ∷ []
+reply_fields (r.State text) = (codes "state", text_of text) ∷ []
 reply_fields (r.Over head chain) = (codes "chain", list_of count chain) ∷ (codes "over", count head) ∷ []
 reply_fields (r.Report items) = (codes "report", list_of item_data items) ∷ []
 reply_fields (r.Cost cost kept) = (codes "cost", count cost) ∷ (codes "kept", count kept) ∷ []
-reply_fields (r.Program next text) = (codes "next", count next) ∷ (codes "program", string text) ∷ []
-reply_fields (r.Listing text) = (codes "listing", string text) ∷ []
+reply_fields (r.Program next text) = (codes "next", count next) ∷ (codes "program", text_of text) ∷ []
+reply_fields (r.Listing text) = (codes "listing", text_of text) ∷ []
 reply_fields (r.Run end reached) = end_fields end ++ reached_fields reached ++ (codes "run", string (end_name end)) ∷ []
 reply_fields (r.Next next) = (codes "next", count next) ∷ []
 reply_fields (r.Why ids) = (codes "why", list_of count ids) ∷ []

@@ -6,16 +6,14 @@
 //! request, a call string of more than two statements. `request_of` of `specs/Requests.antt` is the
 //! definition, over what `read` of `serde_json` makes of a line.
 //!
-//! A line is read as a tree of `json`, whose texts stand in the line or in a scratch that the caller keeps and lends to
-//! each line. `data_in` of `specs/Trees.antt` gives the data that the tree stands for.
-//!
 //! [`reply_line`] gives the line of a reply: compact JSON with its keys in order, and LF. `reply_text`
 //! of `specs/Replies.antt` is the definition: the text that `serde_json`'s data have, an object of the
-//! reply's keys and values. Refusals are replies too; they are numbered from 1. What is found of checks,
-//! how runs end, and why a query has no answer come in the words of `imp_words`.
+//! reply's keys and values. A [`Reply`] implements serde's `Serialize`. Refusals are replies too; they are numbered from 1.
+//! What is found of checks, how runs end, and why a query has no answer come in the words of `imp_words`.
 //!
 //! What is read of members and written of values serves other lines too: [`json_of`], [`text_at`], [`number_at`],
-//! [`ids_at`]; [`put_number`], [`put_quoted`], [`put_ids`].
+//! [`ids_at`]; [`put_number`], [`put_quoted`], [`put_ids`] write what no value of serde's is, as bytes that nothing says are
+//! UTF-8.
 //!
 //! Reading and writing take time linear in the line.
 #![tactic(auto)]
@@ -27,11 +25,11 @@ mod ids;
 mod line;
 mod names;
 mod numbers;
-mod numerals;
 mod places;
 mod reading;
 mod reply;
 mod request;
+mod sending;
 mod writing;
 
 pub use error::ReadError;

@@ -2,7 +2,7 @@
 ghost use Rattle.std.specs.Prelude.{◌≡◌, None, Some, IfOk, IfErr, codes};
 ghost use Rattle.request_json.specs.Requests.{verb_request, request_of, called_request, bounded_query, or_bad, query_at, run_at, replace_at, insert_at, delete_at, guard_at, declare_at, add_at, drop_at, step_at, cancel_at};
 ghost use Rattle.request_json.specs.Members.{text_at};
-ghost use Rattle.request_json.specs.Trees.{line_data};
+ghost use Rattle.serde_json.specs.View.{view};
 
 use crate::error::ReadError;
 use crate::fields::{
@@ -13,7 +13,7 @@ use crate::line::json_of;
 use crate::names::{Verb, verb_of};
 use crate::request::{Query, Request};
 use base_values::Memory;
-use json::{Scratch, Value};
+use serde_json::Value;
 use std::alloc::Global;
 
 /// The query, where its call string is not too long.
@@ -50,18 +50,18 @@ fn found(request: Result<Option<Request>, Memory>) -> Result<Request, ReadError>
 }
 
 /// The query, where its call string is not too long.
-fn query_of(alloc: Global, request: &Value<'_>) -> Result<Query, ReadError>
+fn query_of(alloc: Global, request: &Value) -> Result<Query, ReadError>
     ensures query { IfOk result (λ query.
-        bounded_query (query_at (line_data request.now)) ≡ Ok query) }
+        bounded_query (query_at (view request.now)) ≡ Ok query) }
     ensures refused { IfErr result (λ error. (error ≡ ReadError.Memory → ⊥) →
-        bounded_query (query_at (line_data request.now)) ≡ Err error) }
+        bounded_query (query_at (view request.now)) ≡ Err error) }
 {
     allowed(query_at(alloc, request)?)
 }
 
 /// A run.
-fn run_at(alloc: Global, request: &Value<'_>) -> Result<Option<Request>, Memory>
-    ensures request { IfOk result (λ found. found ≡ run_at (line_data request.now)) }
+fn run_at(alloc: Global, request: &Value) -> Result<Option<Request>, Memory>
+    ensures request { IfOk result (λ found. found ≡ run_at (view request.now)) }
 {
     let Some(inputs) = inputs_at(alloc, request)? else {
         return Ok(None);
@@ -76,8 +76,8 @@ fn run_at(alloc: Global, request: &Value<'_>) -> Result<Option<Request>, Memory>
 }
 
 /// Another simple statement.
-fn replace_at(alloc: Global, request: &Value<'_>) -> Result<Option<Request>, Memory>
-    ensures request { IfOk result (λ found. found ≡ replace_at (line_data request.now)) }
+fn replace_at(alloc: Global, request: &Value) -> Result<Option<Request>, Memory>
+    ensures request { IfOk result (λ found. found ≡ replace_at (view request.now)) }
 {
     let Some(id) = id_at(request) else {
         return Ok(None);
@@ -89,8 +89,8 @@ fn replace_at(alloc: Global, request: &Value<'_>) -> Result<Option<Request>, Mem
 }
 
 /// New statements.
-fn insert_at(alloc: Global, request: &Value<'_>) -> Result<Option<Request>, Memory>
-    ensures request { IfOk result (λ found. found ≡ insert_at (line_data request.now)) }
+fn insert_at(alloc: Global, request: &Value) -> Result<Option<Request>, Memory>
+    ensures request { IfOk result (λ found. found ≡ insert_at (view request.now)) }
 {
     let Some(place) = place_at(alloc, request)? else {
         return Ok(None);
@@ -102,8 +102,8 @@ fn insert_at(alloc: Global, request: &Value<'_>) -> Result<Option<Request>, Memo
 }
 
 /// A statement that goes.
-fn delete_at(request: &Value<'_>) -> Option<Request>
-    ensures request { result ≡ delete_at (line_data request.now) }
+fn delete_at(request: &Value) -> Option<Request>
+    ensures request { result ≡ delete_at (view request.now) }
 {
     match id_at(request) {
         Some(id) => Some(Request::Delete { id }),
@@ -112,8 +112,8 @@ fn delete_at(request: &Value<'_>) -> Option<Request>
 }
 
 /// Another condition.
-fn guard_at(alloc: Global, request: &Value<'_>) -> Result<Option<Request>, Memory>
-    ensures request { IfOk result (λ found. found ≡ guard_at (line_data request.now)) }
+fn guard_at(alloc: Global, request: &Value) -> Result<Option<Request>, Memory>
+    ensures request { IfOk result (λ found. found ≡ guard_at (view request.now)) }
 {
     let Some(id) = id_at(request) else {
         return Ok(None);
@@ -125,8 +125,8 @@ fn guard_at(alloc: Global, request: &Value<'_>) -> Result<Option<Request>, Memor
 }
 
 /// A new variable.
-fn declare_at(alloc: Global, request: &Value<'_>) -> Result<Option<Request>, Memory>
-    ensures request { IfOk result (λ found. found ≡ declare_at (line_data request.now)) }
+fn declare_at(alloc: Global, request: &Value) -> Result<Option<Request>, Memory>
+    ensures request { IfOk result (λ found. found ≡ declare_at (view request.now)) }
 {
     let Some(proc) = copied_text(alloc, request, "proc")? else {
         return Ok(None);
@@ -141,8 +141,8 @@ fn declare_at(alloc: Global, request: &Value<'_>) -> Result<Option<Request>, Mem
 }
 
 /// A new procedure.
-fn add_at(alloc: Global, request: &Value<'_>) -> Result<Option<Request>, Memory>
-    ensures request { IfOk result (λ found. found ≡ add_at (line_data request.now)) }
+fn add_at(alloc: Global, request: &Value) -> Result<Option<Request>, Memory>
+    ensures request { IfOk result (λ found. found ≡ add_at (view request.now)) }
 {
     let Some(before) = copied_text(alloc, request, "before")? else {
         return Ok(None);
@@ -154,8 +154,8 @@ fn add_at(alloc: Global, request: &Value<'_>) -> Result<Option<Request>, Memory>
 }
 
 /// A procedure that goes.
-fn drop_at(alloc: Global, request: &Value<'_>) -> Result<Option<Request>, Memory>
-    ensures request { IfOk result (λ found. found ≡ drop_at (line_data request.now)) }
+fn drop_at(alloc: Global, request: &Value) -> Result<Option<Request>, Memory>
+    ensures request { IfOk result (λ found. found ≡ drop_at (view request.now)) }
 {
     match copied_text(alloc, request, "proc")? {
         Some(proc) => Ok(Some(Request::Drop { proc })),
@@ -164,8 +164,8 @@ fn drop_at(alloc: Global, request: &Value<'_>) -> Result<Option<Request>, Memory
 }
 
 /// Work on a ticket.
-fn step_at(request: &Value<'_>) -> Option<Request>
-    ensures request { result ≡ step_at (line_data request.now) }
+fn step_at(request: &Value) -> Option<Request>
+    ensures request { result ≡ step_at (view request.now) }
 {
     let Some(ticket) = ticket_at(request) else {
         return None;
@@ -177,8 +177,8 @@ fn step_at(request: &Value<'_>) -> Option<Request>
 }
 
 /// A ticket that is given up.
-fn cancel_at(request: &Value<'_>) -> Option<Request>
-    ensures request { result ≡ cancel_at (line_data request.now) }
+fn cancel_at(request: &Value) -> Option<Request>
+    ensures request { result ≡ cancel_at (view request.now) }
 {
     match ticket_at(request) {
         Some(ticket) => Some(Request::Cancel { ticket }),
@@ -188,10 +188,10 @@ fn cancel_at(request: &Value<'_>) -> Option<Request>
 
 /// The request that a verb asks of the members.
 #[tactic(auto, unfolding(crate::specs::Requests::verb_request))]
-fn verb_request(alloc: Global, verb: Verb, request: &Value<'_>) -> Result<Request, ReadError>
-    ensures request { IfOk result (λ found. verb_request verb (line_data request.now) ≡ Ok found) }
+fn verb_request(alloc: Global, verb: Verb, request: &Value) -> Result<Request, ReadError>
+    ensures request { IfOk result (λ found. verb_request verb (view request.now) ≡ Ok found) }
     ensures refused { IfErr result (λ error. (error ≡ ReadError.Memory → ⊥) →
-        verb_request verb (line_data request.now) ≡ Err error) }
+        verb_request verb (view request.now) ≡ Err error) }
 {
     match verb {
         Verb::State => Ok(Request::State(query_of(alloc, request)?)),
@@ -217,11 +217,11 @@ fn verb_request(alloc: Global, verb: Verb, request: &Value<'_>) -> Result<Reques
 }
 
 /// The request of a value.
-fn request_in(alloc: Global, request: &Value<'_>) -> Result<Request, ReadError>
-    ensures request { IfOk result (λ found. called_request (line_data request.now)
-        (text_at (codes "do") (line_data request.now)) ≡ Ok found) }
+fn request_in(alloc: Global, request: &Value) -> Result<Request, ReadError>
+    ensures request { IfOk result (λ found. called_request (view request.now)
+        (text_at (codes "do") (view request.now)) ≡ Ok found) }
     ensures refused { IfErr result (λ error. (error ≡ ReadError.Memory → ⊥) →
-        called_request (line_data request.now) (text_at (codes "do") (line_data request.now)) ≡
+        called_request (view request.now) (text_at (codes "do") (view request.now)) ≡
         Err error) }
 {
     let Some(name) = text_at(request, "do") else {
@@ -233,15 +233,14 @@ fn request_in(alloc: Global, request: &Value<'_>) -> Result<Request, ReadError>
     }
 }
 
-/// The request of a line, or the first of its faults, or out of memory. The scratch is room for reading: it grows to the
-/// longest line that it was lent to, and nothing of it is left to the request.
+/// The request of a line, or the first of its faults, or out of memory.
 #[tactic(auto, unfolding(crate::specs::Requests::request_of))]
-pub fn read_request(alloc: Global, line: &[u8], scratch: &mut Scratch) -> Result<Request, ReadError>
+pub fn read_request(alloc: Global, line: &[u8]) -> Result<Request, ReadError>
     ensures request { IfOk result (λ request. request_of line.now ≡ Ok request) }
     ensures refused { IfErr result (λ error. (error ≡ ReadError.Memory → ⊥) →
         request_of line.now ≡ Err error) }
 {
-    match json_of(alloc, line, scratch)? {
+    match json_of(alloc, line)? {
         Some(request) => request_in(alloc, &request),
         None => Err(ReadError::NoJson),
     }

@@ -1,16 +1,14 @@
-//! From a reply to its line, piece by piece: the clause `line` of [`reply_line`].
-ghost use Rattle.std.specs.Prelude.{◌≡◌, ◌++◌, IfOk, OnOk, codes, decimal, true, false};
-ghost use Rattle.json.specs.Print.{quoted};
-ghost use Rattle.serde_json.specs.Written.{compact_text, items_text};
-ghost use Rattle.request_json.specs.Replies.{reply_text, object_of, reply_fields, list_of, items_of, count, item_data, check_fields, check_name, verdict_name, fault_name, end_name, end_fields, reached_fields, query_number, refusal_number, place_fields, fault_fields};
-ghost use Rattle.request_json.specs.Pieces.{fields_text};
+//! From a reply to its line, by serde: the clause `line` of [`reply_line`].
+ghost use Rattle.std.specs.Prelude.{◌≡◌, length, IfOk, OnOk};
+ghost use Rattle.serde_json.specs.Events.{SendsValue};
+ghost use Rattle.request_json.specs.Replies.{reply_text, object_of, reply_fields, list_of, item_data, check_name, verdict_name, fault_name, end_name, end_fields, reached_fields, query_number, refusal_number, place_fields, fault_fields};
+ghost use Rattle.request_json.specs.Sending.{SendsField, SendsFields};
 
-use crate::escapes::{put_number, put_quoted};
-use crate::ids::put_ids;
 use crate::reply::{ProgramFault, Refusal, Reply};
+use crate::sending::{send_count, send_ids, send_text, send_word};
 use base_values::Memory;
-use imp_syntax::{Chain, StmtId};
 use imp_words::{Check, FaultKind, Finding, QueryRefusal as QueryRefusal, RunEnd, Verdict};
+use serde::{Described, Serialize, Serializer};
 use std::alloc::Global;
 
 /// The word of a check.
@@ -97,296 +95,213 @@ fn refusal_number(refusal: &Refusal) -> u64
     }
 }
 
-/// Adds words, and a number.
-fn put_number_behind(line: &mut Vec<u8>, words: &[u8], number: u64) -> Result<(), Memory>
-    ensures text { OnOk result (line.new.items ≡ (line.old.items ++ words.now) ++ decimal number) }
+/// Sends what is found of a statement.
+#[tactic(auto, using(crate::proofs::ReplyLemmas::item_sent))]
+fn send_item<S: Serializer>(out: &mut S, item: &Finding) -> Result<(), S::Error>
+    ensures item { OnOk result (SendsValue (item_data item.now)
+        (S.written out.old) (S.written out.new)) }
 {
-    line.extend_from_slice(words)?;
-    put_number(line, number)
+    out.begin_map(Some(3))?;
+    send_word(out, "check", check_word(item.check))?;
+    send_count(out, "id", u64::from(item.id.number()))?;
+    send_word(out, "verdict", verdict_word(item.verdict))?;
+    out.end_map()
 }
 
-/// Adds words, and a text in quotes.
-fn put_text_behind(line: &mut Vec<u8>, words: &[u8], text: &[u8]) -> Result<(), Memory>
-    ensures text { OnOk result (line.new.items ≡ (line.old.items ++ words.now) ++ quoted text.now) }
+/// Sends a list of what is found of statements.
+fn send_items<S: Serializer>(out: &mut S, items: &[Finding]) -> Result<(), S::Error>
+    ensures list { OnOk result (SendsValue (list_of item_data items.now)
+        (S.written out.old) (S.written out.new)) }
 {
-    line.extend_from_slice(words)?;
-    put_quoted(line, text)
-}
-
-/// Adds the check of a statement, with a comma after each field.
-#[tactic(auto, using(crate::proofs::WritingLemmas::check_text))]
-fn put_check(line: &mut Vec<u8>, item: &Finding) -> Result<(), Memory>
-    ensures fields { OnOk result (line.new.items ≡ line.old.items
-        ++ fields_text (check_fields item.now)) }
-{
-    put_text_behind(line, b"\"check\":", check_word(item.check).as_bytes())?;
-    put_number_behind(line, b",\"id\":", u64::from(item.id.number()))?;
-    line.push(b',')?;
-    Ok(())
-}
-
-/// Adds the check of a statement, and what is found of it.
-#[tactic(auto, using(crate::proofs::WritingLemmas::item_text))]
-fn put_item(line: &mut Vec<u8>, item: &Finding) -> Result<(), Memory>
-    ensures item { OnOk result (line.new.items ≡ line.old.items
-        ++ compact_text (item_data item.now)) }
-{
-    line.push(b'{')?;
-    put_check(line, item)?;
-    put_text_behind(line, b"\"verdict\":", verdict_word(item.verdict).as_bytes())?;
-    line.push(b'}')?;
-    Ok(())
-}
-
-/// Adds what is found of one more statement, after a comma.
-fn put_next_item(line: &mut Vec<u8>, item: &Finding) -> Result<(), Memory>
-    ensures item { OnOk result (line.new.items ≡ (line.old.items ++ codes ",")
-        ++ compact_text (item_data item.now)) }
-{
-    line.push(b',')?;
-    put_item(line, item)
-}
-
-/// Adds what is found of statements, each after a comma, and the bracket that closes their list.
-fn put_more_items(line: &mut Vec<u8>, items: &[Finding]) -> Result<(), Memory>
-    ensures list { OnOk result (line.new.items ≡ line.old.items ++ items_text true
-        (items_of item_data items.now)) }
-{
+    out.begin_seq(Some(items.len()))?;
     for item in items {
-        put_next_item(line, item)?;
+        send_item(out, item)?;
     }
-    line.push(b']')?;
-    Ok(())
+    out.end_seq()
 }
 
-/// Adds a list of what is found of statements.
-#[tactic(auto, using(crate::proofs::WritingLemmas::list_text))]
-fn put_items(line: &mut Vec<u8>, items: &[Finding]) -> Result<(), Memory>
-    ensures list { OnOk result (line.new.items ≡ line.old.items
-        ++ compact_text (list_of item_data items.now)) }
+/// Sends a report.
+#[tactic(auto, using(crate::proofs::SendingLemmas::one_field), unfolding(crate::specs::Replies::reply_fields))]
+fn send_report<S: Serializer>(out: &mut S, items: &[Finding]) -> Result<(), S::Error>
+    ensures fields { OnOk result (SendsFields (reply_fields (Reply.Report items.now))
+        (S.written out.old) (S.written out.new)) }
 {
-    match items {
-        [] => line.extend_from_slice(b"[]")?,
-        [first, rest @ ..] => {
-            line.push(b'[')?;
-            put_item(line, first)?;
-            put_more_items(line, rest)?;
-        }
-    }
-    Ok(())
+    out.key("report")?;
+    send_items(out, items)
 }
 
-/// Adds an object with one number, after its key and colon.
-fn put_one(line: &mut Vec<u8>, front: &[u8], number: u64) -> Result<(), Memory>
-    ensures text { OnOk result (line.new.items ≡ ((line.old.items ++ front.now) ++ decimal number)
-        ++ codes "}") }
-{
-    put_number_behind(line, front, number)?;
-    line.push(b'}')?;
-    Ok(())
-}
-
-/// Adds which fault ended a run, and where, with a comma after each.
-#[tactic(auto, using(crate::proofs::WritingLemmas::end_fault_text))]
-fn put_end_by_fault(line: &mut Vec<u8>, id: StmtId, fault: FaultKind) -> Result<(), Memory>
-    ensures fields { OnOk result (line.new.items ≡ line.old.items
-        ++ fields_text (end_fields (RunEnd.Fault id fault))) }
-{
-    put_text_behind(line, b"\"fault\":", fault_word(fault).as_bytes())?;
-    put_number_behind(line, b",\"id\":", u64::from(id.number()))?;
-    line.push(b',')?;
-    Ok(())
-}
-
-/// Adds where a run found no more inputs, with a comma after.
-#[tactic(auto, using(crate::proofs::WritingLemmas::end_inputs_text))]
-fn put_end_of_inputs(line: &mut Vec<u8>, id: StmtId) -> Result<(), Memory>
-    ensures fields { OnOk result (line.new.items ≡ line.old.items
-        ++ fields_text (end_fields (RunEnd.InputsUsedUp id))) }
-{
-    put_number_behind(line, b"\"id\":", u64::from(id.number()))?;
-    line.push(b',')?;
-    Ok(())
-}
-
-/// Adds where a run ended, and by which fault, with a comma after each.
-fn put_end(line: &mut Vec<u8>, end: &RunEnd) -> Result<(), Memory>
-    ensures fields { OnOk result (line.new.items ≡ line.old.items
-        ++ fields_text (end_fields end.now)) }
+/// Sends where a run ended, and by which fault.
+#[tactic(auto, using(crate::proofs::SendingLemmas::one_field, crate::proofs::SendingLemmas::two_fields))]
+fn send_end<S: Serializer>(out: &mut S, end: &RunEnd) -> Result<(), S::Error>
+    ensures fields { OnOk result (SendsFields (end_fields end.now)
+        (S.written out.old) (S.written out.new)) }
 {
     match end {
         RunEnd::Ended | RunEnd::FuelUsedUp => Ok(()),
-        RunEnd::Fault(id, fault) => put_end_by_fault(line, *id, *fault),
-        RunEnd::InputsUsedUp(id) => put_end_of_inputs(line, *id),
+        RunEnd::Fault(id, fault) => {
+            send_word(out, "fault", fault_word(*fault))?;
+            send_count(out, "id", u64::from(id.number()))
+        }
+        RunEnd::InputsUsedUp(id) => send_count(out, "id", u64::from(id.number())),
     }
 }
 
-/// Adds how often a run stood at the location, with a comma after, where that was counted.
-#[tactic(auto, using(crate::proofs::WritingLemmas::reached_text))]
-fn put_reached(line: &mut Vec<u8>, reached: Option<u64>) -> Result<(), Memory>
-    ensures fields { OnOk result (line.new.items ≡ line.old.items
-        ++ fields_text (reached_fields reached)) }
+/// Sends how often a run stood at the location, where that was counted.
+#[tactic(auto, using(crate::proofs::SendingLemmas::one_field))]
+fn send_reached<S: Serializer>(out: &mut S, reached: Option<u64>) -> Result<(), S::Error>
+    ensures fields { OnOk result (SendsFields (reached_fields reached)
+        (S.written out.old) (S.written out.new)) }
 {
-    if let Some(count) = reached {
-        put_number_behind(line, b"\"reached\":", count)?;
-        line.push(b',')?;
+    match reached {
+        Some(count) => send_count(out, "reached", count),
+        None => Ok(()),
     }
-    Ok(())
 }
 
-/// Adds the reply of a run.
-#[tactic(auto, using(crate::proofs::WritingLemmas::run_text))]
-fn put_run(line: &mut Vec<u8>, end: &RunEnd, reached: Option<u64>) -> Result<(), Memory>
-    ensures reply { OnOk result (line.new.items ≡ line.old.items
-        ++ compact_text (object_of (reply_fields (Reply.Run end.now reached)))) }
+/// Sends the reply of a run.
+#[tactic(auto, using(crate::proofs::SendingLemmas::more_fields, crate::proofs::SendingLemmas::one_field), unfolding(crate::specs::Replies::reply_fields))]
+fn send_run<S: Serializer>(out: &mut S, end: &RunEnd, reached: Option<u64>) -> Result<(), S::Error>
+    ensures fields { OnOk result (SendsFields (reply_fields (Reply.Run end.now reached))
+        (S.written out.old) (S.written out.new)) }
 {
-    line.push(b'{')?;
-    put_end(line, end)?;
-    put_reached(line, reached)?;
-    put_text_behind(line, b"\"run\":", end_word(end).as_bytes())?;
-    line.push(b'}')?;
-    Ok(())
+    send_end(out, end)?;
+    send_reached(out, reached)?;
+    send_word(out, "run", end_word(end))
 }
 
-/// Adds where a program's fault is, with a comma after each field.
-#[tactic(auto, using(crate::proofs::WritingLemmas::fault_text))]
-fn put_fault(line: &mut Vec<u8>, fault: &ProgramFault) -> Result<(), Memory>
-    ensures fields { OnOk result (line.new.items ≡ line.old.items
-        ++ fields_text (fault_fields fault.now)) }
+/// Sends where a program's fault is.
+fn send_fault<S: Serializer>(out: &mut S, fault: &ProgramFault) -> Result<(), S::Error>
+    ensures fields { OnOk result (SendsFields (fault_fields fault.now)
+        (S.written out.old) (S.written out.new)) }
 {
-    put_number_behind(line, b"\"at\":", u64::from(fault.at.number()))?;
-    put_text_behind(line, b",\"name\":", fault.name.as_slice())?;
-    put_text_behind(line, b",\"proc\":", fault.proc.as_slice())?;
-    line.push(b',')?;
-    Ok(())
+    send_count(out, "at", u64::from(fault.at.number()))?;
+    send_text(out, "name", fault.name.as_slice())?;
+    send_text(out, "proc", fault.proc.as_slice())
 }
 
-/// Adds where the cause of a refusal is, with a comma after each field.
-#[tactic(auto, using(crate::proofs::WritingLemmas::unread_text))]
-fn put_place(line: &mut Vec<u8>, refusal: &Refusal) -> Result<(), Memory>
-    ensures fields { OnOk result (line.new.items ≡ line.old.items
-        ++ fields_text (place_fields refusal.now)) }
+/// Sends where the cause of a refusal is.
+#[tactic(auto, using(crate::proofs::SendingLemmas::two_fields))]
+fn send_place<S: Serializer>(out: &mut S, refusal: &Refusal) -> Result<(), S::Error>
+    ensures fields { OnOk result (SendsFields (place_fields refusal.now)
+        (S.written out.old) (S.written out.new)) }
 {
     match refusal {
         Refusal::Unread { at, name } => {
-            put_number_behind(line, b"\"at\":", *at)?;
-            put_text_behind(line, b",\"name\":", name.as_slice())?;
-            line.push(b',')?;
-            Ok(())
+            send_count(out, "at", *at)?;
+            send_text(out, "name", name.as_slice())
         }
-        Refusal::IllFormed(fault) | Refusal::Limit(fault) => put_fault(line, fault),
+        Refusal::IllFormed(fault) | Refusal::Limit(fault) => send_fault(out, fault),
         _ => Ok(()),
     }
 }
 
-/// Adds a refusal.
-#[tactic(auto, using(crate::proofs::WritingLemmas::refusal_text))]
-fn put_refusal(line: &mut Vec<u8>, refusal: &Refusal) -> Result<(), Memory>
-    ensures reply { OnOk result (line.new.items ≡ line.old.items
-        ++ compact_text (object_of (reply_fields (Reply.Refused refusal.now)))) }
+/// Sends a refusal.
+#[tactic(auto, using(crate::proofs::SendingLemmas::more_fields, crate::proofs::SendingLemmas::one_field), unfolding(crate::specs::Replies::reply_fields))]
+fn send_refusal<S: Serializer>(out: &mut S, refusal: &Refusal) -> Result<(), S::Error>
+    ensures fields { OnOk result (SendsFields (reply_fields (Reply.Refused refusal.now))
+        (S.written out.old) (S.written out.new)) }
 {
-    line.push(b'{')?;
-    put_place(line, refusal)?;
-    put_one(line, b"\"refused\":", refusal_number(refusal))
+    send_place(out, refusal)?;
+    send_count(out, "refused", refusal_number(refusal))
 }
 
-/// Adds an object with one text, after its key and colon.
-fn put_only(line: &mut Vec<u8>, front: &[u8], text: &[u8]) -> Result<(), Memory>
-    ensures text { OnOk result (line.new.items ≡ ((line.old.items ++ front.now) ++ quoted text.now)
-        ++ codes "}") }
-{
-    put_text_behind(line, front, text)?;
-    line.push(b'}')?;
-    Ok(())
-}
-
-/// Adds a loop that did not end within the budget.
-#[tactic(auto, using(crate::proofs::WritingLemmas::over_text))]
-fn put_over(line: &mut Vec<u8>, head: StmtId, chain: &Chain) -> Result<(), Memory>
-    ensures reply { OnOk result (line.new.items ≡ line.old.items
-        ++ compact_text (object_of (reply_fields (Reply.Over head chain.now)))) }
-{
-    line.extend_from_slice(b"{\"chain\":")?;
-    put_ids(line, chain.sites())?;
-    put_one(line, b",\"over\":", u64::from(head.number()))
-}
-
-/// Adds a report.
-#[tactic(auto, using(crate::proofs::WritingLemmas::report_text))]
-fn put_report(line: &mut Vec<u8>, items: &[Finding]) -> Result<(), Memory>
-    ensures reply { OnOk result (line.new.items ≡ line.old.items
-        ++ compact_text (object_of (reply_fields (Reply.Report items.now)))) }
-{
-    line.extend_from_slice(b"{\"report\":")?;
-    put_items(line, items)?;
-    line.push(b'}')?;
-    Ok(())
-}
-
-/// Adds how many cells the last query filled, and how many there are.
-#[tactic(auto, using(crate::proofs::WritingLemmas::cost_text))]
-fn put_cost(line: &mut Vec<u8>, cost: u64, kept: u64) -> Result<(), Memory>
-    ensures reply { OnOk result (line.new.items ≡ line.old.items
-        ++ compact_text (object_of (reply_fields (Reply.Cost cost kept)))) }
-{
-    put_number_behind(line, b"{\"cost\":", cost)?;
-    put_one(line, b",\"kept\":", kept)
-}
-
-/// Adds a program.
-#[tactic(auto, using(crate::proofs::WritingLemmas::program_text))]
-fn put_program(line: &mut Vec<u8>, next: u32, text: &[u8]) -> Result<(), Memory>
-    ensures reply { OnOk result (line.new.items ≡ line.old.items
-        ++ compact_text (object_of (reply_fields (Reply.Program next text.now)))) }
-{
-    put_number_behind(line, b"{\"next\":", u64::from(next))?;
-    put_only(line, b",\"program\":", text)
-}
-
-/// Adds the statements that a state depends on.
-#[tactic(auto, using(crate::proofs::WritingLemmas::why_text))]
-fn put_why(line: &mut Vec<u8>, ids: &[StmtId]) -> Result<(), Memory>
-    ensures reply { OnOk result (line.new.items ≡ line.old.items
-        ++ compact_text (object_of (reply_fields (Reply.Why ids.now)))) }
-{
-    line.extend_from_slice(b"{\"why\":")?;
-    put_ids(line, ids)?;
-    line.push(b'}')?;
-    Ok(())
-}
-
-/// Adds a reply.
-#[tactic(auto, using(crate::proofs::WritingLemmas::state_text, crate::proofs::WritingLemmas::listing_text, crate::proofs::WritingLemmas::next_text, crate::proofs::WritingLemmas::ticket_text, crate::proofs::WritingLemmas::pending_text, crate::proofs::WritingLemmas::cancelled_text))]
-fn put_reply(line: &mut Vec<u8>, reply: &Reply) -> Result<(), Memory>
-    ensures reply { OnOk result (line.new.items ≡ line.old.items
-        ++ compact_text (object_of (reply_fields reply.now))) }
+/// Sends the fields of a reply.
+#[tactic(auto, using(crate::proofs::SendingLemmas::one_field, crate::proofs::SendingLemmas::two_fields), unfolding(crate::specs::Replies::reply_fields))]
+fn send_fields<S: Serializer>(out: &mut S, reply: &Reply) -> Result<(), S::Error>
+    ensures fields { OnOk result (SendsFields (reply_fields reply.now)
+        (S.written out.old) (S.written out.new)) }
 {
     match reply {
-        Reply::State(text) => put_only(line, b"{\"state\":", text.as_slice()),
-        Reply::Over { head, chain } => put_over(line, *head, chain),
-        Reply::Report(items) => put_report(line, items.as_slice()),
-        Reply::Cost { cost, kept } => put_cost(line, *cost, *kept),
-        Reply::Program { next, text } => put_program(line, *next, text.as_slice()),
-        Reply::Listing(text) => put_only(line, b"{\"listing\":", text.as_slice()),
-        Reply::Run { end, reached } => put_run(line, end, *reached),
-        Reply::Next(next) => put_one(line, b"{\"next\":", u64::from(*next)),
-        Reply::Why(ids) => put_why(line, ids.as_slice()),
-        Reply::Ticket(ticket) => put_one(line, b"{\"ticket\":", *ticket),
-        Reply::Pending(filled) => put_one(line, b"{\"pending\":", *filled),
-        Reply::Cancelled(ticket) => put_one(line, b"{\"cancelled\":", *ticket),
-        Reply::Refused(refusal) => put_refusal(line, refusal),
+        Reply::State(text) => send_text(out, "state", text.as_slice()),
+        Reply::Over { head, chain } => {
+            send_ids(out, "chain", chain.sites())?;
+            send_count(out, "over", u64::from(head.number()))
+        }
+        Reply::Report(items) => send_report(out, items.as_slice()),
+        Reply::Cost { cost, kept } => {
+            send_count(out, "cost", *cost)?;
+            send_count(out, "kept", *kept)
+        }
+        Reply::Program { next, text } => {
+            send_count(out, "next", u64::from(*next))?;
+            send_text(out, "program", text.as_slice())
+        }
+        Reply::Listing(text) => send_text(out, "listing", text.as_slice()),
+        Reply::Run { end, reached } => send_run(out, end, *reached),
+        Reply::Next(next) => send_count(out, "next", u64::from(*next)),
+        Reply::Why(ids) => send_ids(out, "why", ids.as_slice()),
+        Reply::Ticket(ticket) => send_count(out, "ticket", *ticket),
+        Reply::Pending(filled) => send_count(out, "pending", *filled),
+        Reply::Cancelled(ticket) => send_count(out, "cancelled", *ticket),
+        Reply::Refused(refusal) => send_refusal(out, refusal),
     }
 }
 
-/// The line of a reply: compact JSON with its keys in order, and LF.
-///
-/// It fails only when memory runs out, and takes time linear in the line.
+/// How many fields tell where a run ended.
+fn end_count(end: &RunEnd) -> usize
+    ensures count { result ≡ length (end_fields end.now) }
+{
+    match end {
+        RunEnd::Ended | RunEnd::FuelUsedUp => 0,
+        RunEnd::Fault(_, _) => 2,
+        RunEnd::InputsUsedUp(_) => 1,
+    }
+}
+
+/// How many fields tell how often a run stood at the location.
+fn reached_count(reached: Option<u64>) -> usize
+    ensures count { result ≡ length (reached_fields reached) }
+{
+    match reached {
+        Some(_) => 1,
+        None => 0,
+    }
+}
+
+/// How many fields tell where the cause of a refusal is.
+fn place_count(refusal: &Refusal) -> usize
+    ensures count { result ≡ length (place_fields refusal.now) }
+{
+    match refusal {
+        Refusal::Unread { .. } => 2,
+        Refusal::IllFormed(_) | Refusal::Limit(_) => 3,
+        _ => 0,
+    }
+}
+
+/// How many fields a reply has.
+#[tactic(auto, unfolding(crate::specs::Replies::reply_fields))]
+fn field_count(reply: &Reply) -> usize
+    ensures count { result ≡ length (reply_fields reply.now) }
+{
+    match reply {
+        Reply::Over { .. } | Reply::Cost { .. } | Reply::Program { .. } => 2,
+        Reply::Run { end, reached } => end_count(end) + reached_count(*reached) + 1,
+        Reply::Refused(refusal) => place_count(refusal) + 1,
+        _ => 1,
+    }
+}
+
+impl Described for Reply {
+    ghost writes = { λ reply. SendsValue (object_of (reply_fields reply)) };
+}
+
+impl Serialize for Reply {
+    fn serialize<S: Serializer>(&self, out: &mut S) -> Result<(), S::Error> {
+        out.begin_map(Some(field_count(self)))?;
+        send_fields(out, self)?;
+        out.end_map()
+    }
+}
+
+/// The line of a reply: compact JSON with its keys in order, and LF. It takes time linear in the line.
 #[tactic(auto, unfolding(crate::specs::Replies::reply_text))]
 pub fn reply_line(alloc: Global, reply: &Reply) -> Result<Vec<u8>, Memory>
     ensures line { IfOk result (λ line. line.items ≡ reply_text reply.now) }
 {
-    let mut line = Vec::new(alloc);
-    put_reply(&mut line, reply)?;
+    let Ok(mut line) = serde_json::to_vec(alloc, reply) else {
+        return Err(Memory);
+    };
     line.push(b'\n')?;
     Ok(line)
 }

@@ -14,7 +14,6 @@ use crate::written::line_of;
 use base_values::Memory;
 use daig_session::Session;
 use domain_laws::{Domain, Steps};
-use json::Scratch;
 use request_json::{ReadError, Reply, Request, read_request};
 use serve_replies::line_refusal;
 use std::alloc::Global;
@@ -63,7 +62,7 @@ fn unread_line(alloc: Global, error: ReadError) -> Result<Vec<u8>, Memory>
 }
 
 /// The answer to a line: what the machine that the session stands for replies, and the session then stands for the machine
-/// after it. The number of the next ticket rises by one at most. The scratch is room for reading the line.
+/// after it. The number of the next ticket rises by one at most.
 ///
 /// # Errors
 ///
@@ -74,7 +73,6 @@ pub fn answer_line<D: Domain, L: Ledger>(
     alloc: Global,
     session: &mut Session<D>,
     line: &[u8],
-    scratch: &mut Scratch,
     steps: &mut Steps<L>,
 ) -> Result<Vec<u8>, Memory>
     requires room { session.old.book.tickets.next < 2 ^ 63 }
@@ -85,7 +83,7 @@ pub fn answer_line<D: Domain, L: Ledger>(
     ensures unchanged { StaysUnlessFilled D.operations session.old session.new
         (request_of line.now) result }
 {
-    match read_request(alloc, line, scratch) {
+    match read_request(alloc, line) {
         Ok(request) => request_line(alloc, session, request, steps),
         Err(error) => unread_line(alloc, error),
     }
