@@ -17,7 +17,7 @@ use Rattle.dbm_incremental.specs.Steps.{lowered_all}
 use Rattle.dbm_incremental.specs.Triangles.{IsTriangular}
 use Rattle.dbm_narrow.proofs.StepLemmas.{closes}
 use Rattle.dbm_narrow.specs.Addings.{AllLowered, IsLoweredOutcome}
-use Rattle.dbm_narrow.specs.Closings.{FinishesTo, IsOutcome}
+use Rattle.dbm_narrow.specs.Closings.{FinishesTo, IsOutcome, OutcomeLeavesIf}
 use Rattle.dbm_narrow.specs.declared.closing.ClosingResult.{ClosingResult}
 use Rattle.dbm_narrow.specs.declared.closing.ClosingResult.TheVariants.{Closed, Empty, TooWide}
 use Rattle.dbm_narrow.specs.Entries.{held}
@@ -26,6 +26,12 @@ use Rattle.dbm_narrow.specs.Lowerings.{HasOwnWeights}
 use Rattle.dbm_narrow.specs.Rounds.{IsNarrow}
 
 module _ (unit : ℕ) (room : 0 < unit) where
+  -- the last steps leave no bound outside the limits
+  pub finish-total : (checked : Bool) (kinds : List Bool) (xs ys : List ℤ) (r : ClosingResult) → TellsFinish unit kinds xs ys r → OutcomeLeavesIf checked r
+  finish-total checked kinds xs ys Closed f = tt
+  finish-total checked kinds xs ys Empty f = tt
+  finish-total checked kinds xs ys TooWide f = absurd f
+
   made : (kinds : List Bool) (xs ys : List ℤ) → FinishesTo unit kinds xs ys → IsNarrow unit kinds ys
   made kinds xs ys f = record { matrix = f.finish.entries.matrix; entries = f.entries }
 

@@ -8,6 +8,7 @@ use Rattle.std.proofs.lemmas.List.{get_or_past}
 use mir.Syntax.{w64}
 use Rattle.dbm_close.proofs.HalvesLemmas.{halved-high, halved-low}
 use Rattle.dbm_core.proofs.ThresholdLemmas.{by_order}
+use Rattle.dbm_core.specs.Limits.{IsWithin}
 use Rattle.dbm_core.specs.Operations.{next_threshold, threshold_value}
 use Rattle.dbm_core.specs.Weights.{least}
 use Rattle.dbm_narrow.specs.Widenings.{AreWords, IsWord}
@@ -104,3 +105,8 @@ threshold-none ms d x s w e f = ap (valued d) (f ∙ from-word ms (start_at d x)
 -- where the least threshold is found, its value is the next one
 pub threshold-found : (ms : List ℤ) (d : Bool) (x s m y : ℤ) → AreWords ms → s ≡ int_max (start_at d x) (neg_ℤ (pos (2 ^ 63))) → Some m ≡ next_threshold ms false s → y ≡ threshold_value d m → Some y ≡ next_threshold ms d x
 threshold-found ms d x s m y w e f g = ap Some g ∙ ap (valued d) (f ∙ from-word ms (start_at d x) s w e) ∙ next-valued ms d x
+
+-- a threshold of 64 bits, or its double
+pub value-within : (d : Bool) (m : ℤ) → FitsSigned w64 m → IsWithin (2 ^ 64) (Some (threshold_value d m))
+value-within true m f = (omega (arith, ints), omega (arith, ints))
+value-within false m f = (omega (arith, ints), omega (arith, ints))

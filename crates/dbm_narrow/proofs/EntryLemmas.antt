@@ -206,7 +206,7 @@ module _ (unit : ℕ) (room : 0 < unit) where
       ∙ ap (least (wide unit x)) (wide-sum unit unit u f (omega arith) p q)
 
   -- the lesser of what is not settled and a sum settles as if it were
-  settle-again : (a s : ℤ) → settle unit (int_min a s) ≡ settle unit (int_min (settle unit a) s)
+  pub settle-again : (a s : ℤ) → settle unit (int_min a s) ≡ settle unit (int_min (settle unit a) s)
   settle-again a s = by_lt_z a (pos (16 * unit))
       (λ h. ap (λ z. settle unit (int_min z s)) (sym (settle-bound a h)))
       (λ h. by_lt_z s (pos (16 * unit)) (λ k. below h k) (λ k. settle-free (int_min a s) (above a s h k) ∙ sym (settle-free (int_min (settle unit a) s) (above (settle unit a) s (subst (λ z. pos (16 * unit) ≤ℤ z) (sym (settle-free a h)) (omega (arith, ints))) k))))

@@ -3,6 +3,7 @@ pub mod ConvertLemmas
 pub mod DoubledThresholds
 pub mod EntryLemmas
 pub mod ForgetLemmas
+pub mod GrowthLemmas
 pub mod JoinLemmas
 pub mod LightLemmas
 pub mod LowerLemmas

@@ -1,9 +1,9 @@
 -- Rounds over narrow entries are those of `dbm_close`.
-use Rattle.std.specs.Prelude.{◌≤◌, ◌≡◌, ℕ, ◌<◌, ◌+◌, ◌*◌, ◌/◌, ◌^◌, ℤ, pos, Option, Some, Bool, List, length, refl}
+use Rattle.std.specs.Prelude.{◌≡◌, ℕ, ◌<◌, ◌+◌, ◌*◌, ◌/◌, ℤ, pos, Option, Some, Bool, List, length, refl}
 use Rattle.std.proofs.Common.{arith, ap, sym, subst, ◌∙◌, inl, inr}
 use Rattle.std.proofs.lemmas.Bool.{cases_eq, eq-eqb, ne_eqb}
 use Rattle.std.proofs.lemmas.List.{length-map}
-use Rattle.dbm_close.proofs.RoundLemmas.{AreWithin-more, IsRounded, IsRounded-first, IsRounded-next, rounded-least}
+use Rattle.dbm_close.proofs.RoundLemmas.{IsRounded, IsRounded-next, rounded-least}
 use Rattle.dbm_close.proofs.WalkLemmas.{AreLeastWalks, IsLeastWalk, least-mirrored, path_weight}
 use Rattle.dbm_close.specs.Rounds.{IsDiagonalSound, round_entry, rounded}
 use Rattle.dbm_core.proofs.HalfLemmas.{entry-coherent, row_start-double}
@@ -11,7 +11,6 @@ use Rattle.dbm_core.proofs.NodeLemmas.{parity}
 use Rattle.dbm_core.proofs.WeightLemmas.{AtMost-both, AtMost-trans}
 use Rattle.dbm_core.specs.Half.{HalfMatrix, IsMatrix, entry, nodes, row_start, row_width}
 use Rattle.dbm_core.specs.Weights.{AtMost}
-use Rattle.dbm_narrow.proofs.EntryLemmas.{held-within}
 use Rattle.dbm_narrow.proofs.MiddleLemmas.{flip-second}
 use Rattle.dbm_narrow.specs.Entries.{held, wide}
 use Rattle.dbm_narrow.specs.Rounds.{IsNarrow, RoundsTo}
@@ -69,7 +68,3 @@ module _ (unit : ℕ) (room : 0 < unit) where
 
   pub narrow-size : (kinds : List Bool) (xs : List ℤ) → IsNarrow unit kinds xs → length xs ≡ row_start (2 * length kinds)
   narrow-size kinds xs t = sym (length-map xs (wide unit)) ∙ t.matrix.fits ∙ sym (row_start-double (length kinds))
-
-  pub first-rounded : unit ≤ 2 ^ 69 → (kinds : List Bool) (xs : List ℤ) → IsNarrow unit kinds xs → IsRounded (held unit kinds xs) (held unit kinds xs) 0
-  first-rounded small kinds xs t = IsRounded-first (held unit kinds xs) t.matrix
-      (AreWithin-more (2 * length kinds) (2 * unit) (2 ^ 70) (entry (held unit kinds xs)) (omega arith) (held-within unit room (2 * unit) kinds xs (2 * length kinds) (omega arith) t.entries))

@@ -197,14 +197,14 @@ module _ (unit : ℕ) (room : 0 < unit) where
       stands-closed a hq n f = finish-answer (equated (entry (held unit kinds xs)) q y c) (held unit kinds ys) a matrix (weights hq n) f
 
       -- what the last steps answer of it
-      pub stands-outcome : (r : ClosingResult) → q < length kinds → (y / 2 ≡ q → ⊥) → TellsFinish unit kinds ys ys r → IsEquatedOutcome unit kinds xs ys q y c r
-      stands-outcome OutcomeClosed hq n f = record {
+      pub stands-outcome : (zs : List ℤ) (r : ClosingResult) → q < length kinds → (y / 2 ≡ q → ⊥) → TellsFinish unit kinds ys zs r → IsEquatedOutcome unit kinds xs zs q y c r
+      stands-outcome zs OutcomeClosed hq n f = record {
         narrow = record { matrix = f.finish.entries.matrix; entries = f.entries };
-        closes = stands-closes (wide.Matrix (held unit kinds ys)) hq n f.finish;
-        closed = stands-closed (wide.Matrix (held unit kinds ys)) hq n f.finish;
+        closes = stands-closes (wide.Matrix (held unit kinds zs)) hq n f.finish;
+        closed = stands-closed (wide.Matrix (held unit kinds zs)) hq n f.finish;
       }
-      stands-outcome OutcomeEmpty hq n f = stands-closes wide.Empty hq n f
-      stands-outcome OutcomeTooWide hq n f = tt
+      stands-outcome zs OutcomeEmpty hq n f = stands-closes wide.Empty hq n f
+      stands-outcome zs OutcomeTooWide hq n f = tt
 
   -- what closing answers of a matrix in which a slot stands for a node plus a number
   pub stood-closing : {W : Type 0} → (m n : HalfMatrix) (q y : ℕ) (c : ℤ) (a : Closing W) → HasEntries m.kinds (stood_entry (entry m) q y c) n → IsStrong (nodes n) (entry n) → IsClosing n a → IsClosingStood m q y c a

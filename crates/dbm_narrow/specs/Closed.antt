@@ -1,5 +1,5 @@
 -- What closing a narrow matrix answers.
-use Rattle.std.specs.Prelude.{◌≡◌, List, ℕ, ℤ}
+use Rattle.std.specs.Prelude.{◌≡◌, Bool, true, List, ℕ, ℤ}
 use Rattle.dbm_close.specs.CloseOf.{close_of}
 use Rattle.dbm_close.specs.declared.closed.Closed.TheVariants as wide
 use Rattle.dbm_core.specs.Half.{HalfMatrix}
@@ -15,6 +15,12 @@ abbrev pub IsClosing : {W : Type 0} → HalfMatrix → Closing W → Type 0
 IsClosing m Empty = close_of m ≡ wide.Empty
 IsClosing m (Matrix n) = close_of m ≡ wide.Matrix n
 IsClosing m TooWide = Unit {0}
+
+-- a bound leaves the limits of a width that is checked alone
+abbrev pub ClosingLeavesIf : {W : Type 0} → Bool → Closing W → Type 0
+ClosingLeavesIf checked Empty = Unit {0}
+ClosingLeavesIf checked (Matrix n) = Unit {0}
+ClosingLeavesIf checked TooWide = checked ≡ true
 
 -- the same of closing a matrix with bounds lowered; a matrix that it gives is closed
 abbrev pub IsClosingLowered : {W : Type 0} → HalfMatrix → List Bound → Closing W → Type 0

@@ -1,5 +1,5 @@
 -- What closing narrow entries answers.
-use Rattle.std.specs.Prelude.{ℕ, ◌*◌, ◌≡◌, ℤ, Bool, List}
+use Rattle.std.specs.Prelude.{ℕ, ◌*◌, ◌≡◌, ℤ, Bool, true, List}
 use Rattle.dbm_close.specs.CloseOf.{close_of}
 use Rattle.dbm_close.specs.declared.closed.Closed.TheVariants as wide
 use Rattle.dbm_close.specs.Finish.{IsFinishOf}
@@ -23,3 +23,9 @@ abbrev pub IsOutcome : ℕ → List Bool → List ℤ → List ℤ → ClosingRe
 IsOutcome h kinds xs ys Closed = (close_of (held h kinds xs) ≡ wide.Matrix (held h kinds ys)) × IsNarrow h kinds ys
 IsOutcome h kinds xs ys Empty = close_of (held h kinds xs) ≡ wide.Empty
 IsOutcome h kinds xs ys TooWide = Unit {0}
+
+-- a bound leaves the limits of a width that is checked alone
+abbrev pub OutcomeLeavesIf : Bool → ClosingResult → Type 0
+OutcomeLeavesIf checked Closed = Unit {0}
+OutcomeLeavesIf checked Empty = Unit {0}
+OutcomeLeavesIf checked TooWide = checked ≡ true

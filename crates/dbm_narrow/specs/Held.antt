@@ -1,5 +1,5 @@
 -- What the matrix of narrow entries is known to be.
-use Rattle.std.specs.Prelude.{◌≡◌, ℕ, ◌*◌, ℤ, ◌≤ℤ◌, Option, Some, Bool, MatchOption, List, length, map}
+use Rattle.std.specs.Prelude.{◌≡◌, ◌⊎◌, ℕ, ◌*◌, ℤ, ◌≤ℤ◌, Option, Some, Bool, true, MatchOption, List, length, map}
 use Rattle.std.specs.Bool.{MatchBool}
 use Rattle.dbm_close.specs.Close.{HasEmptyRange, HasNoEmptyRange}
 use Rattle.dbm_close.specs.Halves.{HasHalves, HasNegativeHalves, HasNoNegativeHalves}
@@ -15,7 +15,7 @@ use Rattle.dbm_narrow.specs.declared.closing.ClosingResult.TheVariants.{Closed, 
 use Rattle.dbm_narrow.specs.declared.middle.Middle.{Middle}
 use Rattle.dbm_narrow.specs.Entries.{IsEntry, held, wide}
 use Rattle.dbm_narrow.specs.Middles.{wide_middle}
-use Rattle.dbm_narrow.specs.Rounds.{AreUncut}
+use Rattle.dbm_narrow.specs.Rounds.{HasLowEntry, HasNoLowEntry}
 
 -- its diagonal is 0 or less
 abbrev pub HasLowDiagonal : ℕ → List Bool → List ℤ → Type 0
@@ -37,13 +37,13 @@ TellsHalves h n hs b = MatchBool b (HasNegativeHalves n (map (wide h) hs)) (HasN
 abbrev pub TellsFinish : ℕ → List Bool → List ℤ → List ℤ → ClosingResult → Type 0
 TellsFinish h kinds xs ys Closed = FinishesTo h kinds xs ys
 TellsFinish h kinds xs ys Empty = FinishesEmpty h kinds xs
-TellsFinish h kinds xs ys TooWide = Unit {0}
+TellsFinish h kinds xs ys TooWide = ⊥
 
--- what steps 5 and 6 answer of the entries that the steps before have made
+-- what step 6 answers, and step 5 of entries below its limit, of those that it has cut
 abbrev pub TellsLast : ℕ → List Bool → List ℤ → ClosingResult → Type 0
-TellsLast h kinds xs Closed = AreUncut h xs × HasNoEmptyRange kinds (entry (held h kinds xs))
-TellsLast h kinds xs Empty = AreUncut h xs × HasEmptyRange kinds (entry (held h kinds xs))
-TellsLast h kinds xs TooWide = Unit {0}
+TellsLast h kinds xs Closed = HasNoLowEntry h xs × HasNoEmptyRange kinds (entry (held h kinds xs))
+TellsLast h kinds xs Empty = HasLowEntry h xs ⊎ HasEmptyRange kinds (entry (held h kinds xs))
+TellsLast h kinds xs TooWide = ⊥
 
 -- hs has half of each node's own bound
 abbrev pub HoldsHalves : ℕ → List Bool → List ℤ → List ℤ → Type 0
@@ -56,6 +56,10 @@ HoldsMiddle h kinds xs q m = HasMiddle (2 * length kinds) (entry (held h kinds x
 -- whether a bound lies within the limits
 abbrev pub TellsWithin : ℕ → Option ℤ → Bool → Type 0
 TellsWithin h bound b = MatchBool b (IsWithin (2 * h) bound) (IsWithin (2 * h) bound → ⊥)
+
+-- there is none only where the width is checked
+abbrev pub IsNoneIf : {A : Type 0} → Bool → Option A → Type 0
+IsNoneIf checked o = MatchOption o (checked ≡ true) (λ x. Unit {0})
 
 -- the bound as an entry, none where it lies outside the limits
 abbrev pub IsSmallOf : ℕ → ℤ → Option ℤ → Type 0

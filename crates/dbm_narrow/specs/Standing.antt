@@ -7,13 +7,17 @@ use Rattle.dbm_incremental.specs.ClosedMatrices.{IsClosed}
 use Rattle.dbm_incremental.specs.Equations.{ClosesEquated, stood_entry}
 use Rattle.dbm_narrow.specs.declared.closing.ClosingResult.{ClosingResult}
 use Rattle.dbm_narrow.specs.declared.closing.ClosingResult.TheVariants.{Closed, Empty, TooWide}
-use Rattle.dbm_narrow.specs.Entries.{AreEntries, at, held, settle}
+use Rattle.dbm_narrow.specs.Entries.{AreEntries, IsEntry, at, held, settle}
 use Rattle.dbm_narrow.specs.Rounds.{IsNarrow}
 
 -- the row of one of slot q's nodes, from the row of the node that it stands for: what is added at each column
 abbrev pub stood_at : ℕ → List ℤ → ℕ → ℕ → ℤ → ℤ → ℤ → ℕ → ℤ
 stood_at h row q y first second others j =
     cond (eqb j (2 * q)) (settle h (first +ℤ at h row y)) (cond (eqb j (2 * q + 1)) (settle h (second +ℤ at h row (flip y))) (settle h (others +ℤ at h row j)))
+
+-- that row lies within three times what the other row, and half of each step, do
+abbrev pub StoodFits : ℕ → List ℤ → ℤ → ℤ → ℤ → List ℤ → Type 0
+StoodFits h row first second others ys = (b : ℕ) → 3 * b < 16 * h → AreEntries h b row → IsEntry h (2 * b) first → IsEntry h (2 * b) second → IsEntry h (2 * b) others → AreEntries h (3 * b) ys
 
 -- an entry where the rows of slot q's nodes, and so its columns, are these
 abbrev pub replaced : ℕ → ℕ → List ℤ → List ℤ → ℕ → ℕ → ℤ → ℤ

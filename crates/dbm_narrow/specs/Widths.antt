@@ -1,14 +1,13 @@
 -- What the types of entries have in common.
-use Rattle.std.specs.Prelude.{◌⊎◌, ◌≡◌, ℕ, ◌≤◌, ◌*◌, ◌^◌, ℤ, pos, neg_ℤ, ◌+ℤ◌, ◌≤ℤ◌, ◌<ℤ◌, int_lt, Bool, cond, Option, MatchOption}
+use Rattle.std.specs.Prelude.{◌⊎◌, ◌≡◌, ℕ, ◌≤◌, ◌*◌, ◌^◌, ℤ, pos, neg_ℤ, ◌+ℤ◌, ◌≤ℤ◌, ◌<ℤ◌, int_lt, Bool, cond, false, true, Option, MatchOption}
 use prog.Memory.{align, size}
 use denote.Param.{layout}
 use denote.RattleType.{RattleType}
 use Rattle.std.specs.Int.{int_div_euclid, int_max}
 use Rattle.std.specs.Ordering.{int_eq}
 use Rattle.std.specs.Cmp.{IsEquivalence, decided}
-use Rattle.std.proofs.Common.{ap}
-use Rattle.std.proofs.Math.Nat.{le-add_right}
-use Rattle.std.proofs.Math.Pow.{pow_mono}
+use Rattle.std.proofs.Common.{ap, sym}
+use Rattle.std.proofs.lemmas.Bool.{false≢true}
 use Rattle.std.proofs.lemmas.Bool.Decides.{Decides-int_eq}
 
 -- a value of the type takes 16 bytes at most, so that arrays of them fit in memory
@@ -23,9 +22,9 @@ IsBound b x = (neg_ℤ (pos b) ≤ℤ x) × (x ≤ℤ pos b)
 abbrev pub HasRoom : ℕ → ℤ → Type 0
 HasRoom h x = IsBound (64 * h) x
 
--- a bound that step 5 of closing leaves as it is
-abbrev pub IsUncut : ℤ → Type 0
-IsUncut x = (neg_ℤ (pos (2 ^ 64)) ≤ℤ x) × (x <ℤ pos (2 ^ 64))
+-- a number as step 5 of closing leaves it: no bound is 2^64 or more
+abbrev pub cut_number : ℕ → ℤ → ℤ
+cut_number h x = cond (int_lt x (pos (2 ^ 64))) x (pos (32 * h))
 
 -- a bound, or none
 abbrev pub IsNumber : ℕ → ℤ → Type 0
@@ -43,6 +42,10 @@ start_at doubled x = cond doubled (int_div_euclid (x +ℤ pos 1) (pos 2)) x
 abbrev pub IsFirstFrom : ℤ → Option ℤ → Type 0
 IsFirstFrom x o = MatchOption o (pos (2 ^ 63) ≤ℤ x) (λ s. s ≡ int_max x (neg_ℤ (pos (2 ^ 63))))
 
+-- true is not false
+pub no_true : {A : Type 0} → true ≡ false → A
+no_true e = absurd (false≢true (sym e))
+
 -- a function of equals
 pub same_of : {A B : Type 0} (f : A → B) {x y : A} → x ≡ y → f x ≡ f y
 same_of f e = ap f e
@@ -53,7 +56,3 @@ same_int a b = int_eq a b
 
 pub int_equiv : IsEquivalence same_int
 int_equiv = decided same_int Decides-int_eq
-
--- the unit of 32 bits is small
-pub narrow-small : 2 ^ 24 ≤ 2 ^ 69
-narrow-small = pow_mono {i = 24} {j = 69} (le-add_right 24 45)

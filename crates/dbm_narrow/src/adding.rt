@@ -1,10 +1,12 @@
 //! Bounds added to closed entries, which are then closed once more.
-ghost use Rattle.std.specs.Prelude.{◌*◌, length};
+ghost use Rattle.std.specs.Prelude.{◌*◌, ◌≤◌, ◌^◌, length};
 ghost use Rattle.dbm_incremental.specs.Steps.{AreBounds};
 ghost use Rattle.dbm_narrow.specs.Addings.{AreLowered, IsLoweredOutcome};
+ghost use Rattle.dbm_narrow.specs.Closings.{OutcomeLeavesIf};
+ghost use Rattle.dbm_narrow.specs.Entries.{AreEntries};
 ghost use Rattle.dbm_narrow.specs.Held.{IsSmallOf};
 ghost use Rattle.dbm_narrow.specs.Lowerings.{HasOwnWeights};
-ghost use Rattle.dbm_narrow.specs.Rounds.{IsNarrow};
+ghost use Rattle.dbm_narrow.specs.Rounds.{IsNarrow, LeavesIf};
 
 use crate::closing::ClosingResult;
 use crate::convert::fits;
@@ -31,8 +33,11 @@ pub fn small_bound<W: Width>(bound: i128) -> Option<Entry<W>>
 pub fn lower_all<W: Width>(kinds: &[bool], entries: &mut [Entry<W>], bounds: &[Bound]) -> Walks
     requires narrow { IsNarrow W.unit kinds.now entries.old }
     requires weights { HasOwnWeights W.unit kinds.now entries.old }
+    requires few { length bounds.now ≤ 4 }
     requires bounds { AreBounds (2 * length kinds.now) bounds.now }
+    requires within { AreEntries W.unit (2 ^ 64) entries.old }
     ensures lowered { AreLowered W.unit kinds.now entries.old entries.new bounds.now result }
+    ensures total { LeavesIf W.checked result }
 {
     for bound in bounds {
         match small_bound(bound.bound) {
@@ -56,8 +61,11 @@ pub fn close_lowered<W: Width>(
 ) -> ClosingResult
     requires narrow { IsNarrow W.unit kinds.now entries.old }
     requires weights { HasOwnWeights W.unit kinds.now entries.old }
+    requires few { length bounds.now ≤ 4 }
     requires bounds { AreBounds (2 * length kinds.now) bounds.now }
+    requires within { AreEntries W.unit (2 ^ 64) entries.old }
     ensures outcome { IsLoweredOutcome W.unit kinds.now entries.old entries.new bounds.now result }
+    ensures total { OutcomeLeavesIf W.checked result }
 {
     match lower_all(kinds, entries, bounds) {
         Walks::Done => finish(kinds, entries),

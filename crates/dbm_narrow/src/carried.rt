@@ -1,9 +1,10 @@
 //! A slot that stands for a node plus a number, closed.
-ghost use Rattle.std.specs.Prelude.{◌<◌, IfOk, length};
+ghost use Rattle.std.specs.Prelude.{◌<◌, ◌^◌, IfOk, Some, length};
 ghost use Rattle.dbm_core.specs.Half.{entry, nodes};
+ghost use Rattle.dbm_core.specs.Limits.{IsWithin};
 ghost use Rattle.dbm_incremental.specs.ClosedMatrices.{IsClosed, IsStrong, IsWhole};
 ghost use Rattle.dbm_narrow.specs.Carried.{IsClosingStood};
-ghost use Rattle.dbm_narrow.specs.Closed.{IsClosing};
+ghost use Rattle.dbm_narrow.specs.Closed.{ClosingLeavesIf, IsClosing};
 
 use crate::Narrow;
 use crate::closed::Closing;
@@ -26,7 +27,9 @@ pub fn close_carried<W: Width>(
     requires node { y < nodes closed.now }
     requires closed { IsClosed closed.now }
     requires whole { IsWhole closed.now }
+    requires small { IsWithin (2 ^ 70) (Some c) }
     ensures closing { IfOk result (IsClosingStood closed.now q y c) }
+    ensures total { IfOk result (ClosingLeavesIf W.checked) }
 {
     let _kinds = closed.kinds.list();
     match stood(alloc, closed, q, y, c)? {
@@ -39,9 +42,11 @@ pub fn close_carried<W: Width>(
 fn close_set<W: Width>(set: Narrow<W>) -> Closing<W>
     requires strong { IsStrong (nodes set) (entry set) }
     ensures closing { IsClosing set result }
+    ensures total { ClosingLeavesIf W.checked result }
 {
-    match close_strong(set.kinds.list(), set.entries.as_slice()) {
-        ClosingResult::Closed => Closing::Matrix(set),
+    let Narrow { kinds, mut entries } = set;
+    match close_strong(kinds.list(), entries.as_mut_slice()) {
+        ClosingResult::Closed => Closing::Matrix(Narrow { kinds, entries }),
         ClosingResult::Empty => Closing::Empty,
         ClosingResult::TooWide => Closing::TooWide,
     }

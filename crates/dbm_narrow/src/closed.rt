@@ -1,10 +1,10 @@
 //! Closing a narrow matrix.
-ghost use Rattle.std.specs.Prelude.{◌≢◌, ◌<◌, ◌/◌, IfOk, length};
+ghost use Rattle.std.specs.Prelude.{◌≢◌, ◌<◌, ◌≤◌, ◌/◌, ◌^◌, IfOk, Some, length};
 ghost use Rattle.dbm_core.specs.Half.{entry, nodes};
-ghost use Rattle.dbm_core.specs.Limits.{HasZeroDiagonal, IsZeroAtMost};
+ghost use Rattle.dbm_core.specs.Limits.{AreWithin, HasZeroDiagonal, IsWithin, IsZeroAtMost};
 ghost use Rattle.dbm_incremental.specs.ClosedMatrices.{IsClosed, IsWhole};
 ghost use Rattle.dbm_incremental.specs.Steps.{AreBounds};
-ghost use Rattle.dbm_narrow.specs.Closed.{IsClosing, IsClosingEquated, IsClosingLowered};
+ghost use Rattle.dbm_narrow.specs.Closed.{ClosingLeavesIf, IsClosing, IsClosingEquated, IsClosingLowered};
 
 use crate::Narrow;
 use crate::adding::close_lowered;
@@ -22,7 +22,7 @@ pub enum Closing<W: Width> {
     Empty,
     /// The closed matrix.
     Matrix(Narrow<W>),
-    /// A bound has left the limits, or is 2^63 or more: nothing is said.
+    /// A bound has left the limits of a width that is checked: nothing is said.
     TooWide,
 }
 
@@ -30,7 +30,9 @@ pub enum Closing<W: Width> {
 /// leaves the limits on the way.
 pub fn close<W: Width>(alloc: Global, m: &Narrow<W>) -> Result<Closing<W>, Memory>
     requires diagonal { IsZeroAtMost (nodes m.now) (entry m.now) }
+    requires small { AreWithin (nodes m.now) (2 ^ 70) (entry m.now) }
     ensures closing { IfOk result (IsClosing m.now) }
+    ensures total { IfOk result (ClosingLeavesIf W.checked) }
 {
     let kinds = m.kinds.share()?;
     let mut entries = Vec::from_slice(alloc, m.entries.as_slice())?;
@@ -47,6 +49,7 @@ pub fn close_whole<W: Width>(alloc: Global, m: &Narrow<W>) -> Result<Closing<W>,
     requires diagonal { HasZeroDiagonal (nodes m.now) (entry m.now) }
     requires whole { IsWhole m.now }
     ensures closing { IfOk result (IsClosing m.now) }
+    ensures total { IfOk result (ClosingLeavesIf W.checked) }
 {
     let kinds = m.kinds.share()?;
     let mut entries = Vec::from_slice(alloc, m.entries.as_slice())?;
@@ -64,10 +67,12 @@ pub fn close_after_bounds<W: Width>(
     closed: &Narrow<W>,
     bounds: &[Bound],
 ) -> Result<Closing<W>, Memory>
+    requires few { length bounds.now ≤ 4 }
     requires bounds { AreBounds (nodes closed.now) bounds.now }
     requires closed { IsClosed closed.now }
     requires whole { IsWhole closed.now }
     ensures closing { IfOk result (IsClosingLowered closed.now bounds.now) }
+    ensures total { IfOk result (ClosingLeavesIf W.checked) }
 {
     let kinds = closed.kinds.share()?;
     let mut entries = Vec::from_slice(alloc, closed.entries.as_slice())?;
@@ -92,7 +97,9 @@ pub fn close_equation<W: Width>(
     requires apart { y / 2 ≢ q }
     requires closed { IsClosed closed.now }
     requires whole { IsWhole closed.now }
+    requires small { IsWithin (2 ^ 70) (Some c) }
     ensures closing { IfOk result (IsClosingEquated closed.now q y c) }
+    ensures total { IfOk result (ClosingLeavesIf W.checked) }
 {
     let kinds = closed.kinds.share()?;
     let mut entries = Vec::from_slice(alloc, closed.entries.as_slice())?;

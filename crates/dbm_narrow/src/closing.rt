@@ -1,8 +1,9 @@
 //! Closing, over entries.
-ghost use Rattle.std.specs.Prelude.{◌*◌, length};
+ghost use Rattle.std.specs.Prelude.{◌*◌, ◌^◌, length};
 ghost use Rattle.dbm_core.specs.Half.{entry};
+ghost use Rattle.dbm_core.specs.Limits.{AreWithin};
 ghost use Rattle.dbm_incremental.specs.ClosedMatrices.{IsStrong};
-ghost use Rattle.dbm_narrow.specs.Closings.{IsOutcome};
+ghost use Rattle.dbm_narrow.specs.Closings.{IsOutcome, OutcomeLeavesIf};
 ghost use Rattle.dbm_narrow.specs.Entries.{held};
 ghost use Rattle.dbm_narrow.specs.Held.{HasLowDiagonal};
 ghost use Rattle.dbm_narrow.specs.Lowerings.{HasOwnWeights};
@@ -28,7 +29,10 @@ pub enum ClosingResult {
 pub fn close_entries<W: Width>(kinds: &[bool], entries: &mut [Entry<W>]) -> ClosingResult
     requires narrow { IsNarrow W.unit kinds.now entries.old }
     requires diagonal { HasLowDiagonal W.unit kinds.now entries.old }
+    requires small { AreWithin (2 * length kinds.now) (2 ^ 70)
+        (entry (held W.unit kinds.now entries.old)) }
     ensures outcome { IsOutcome W.unit kinds.now entries.old entries.new result }
+    ensures total { OutcomeLeavesIf W.checked result }
 {
     match least_weights(kinds, entries) {
         Walks::Done => finish(kinds, entries),
@@ -42,15 +46,17 @@ pub fn close_own<W: Width>(kinds: &[bool], entries: &mut [Entry<W>]) -> ClosingR
     requires narrow { IsNarrow W.unit kinds.now entries.old }
     requires weights { HasOwnWeights W.unit kinds.now entries.old }
     ensures outcome { IsOutcome W.unit kinds.now entries.old entries.new result }
+    ensures total { OutcomeLeavesIf W.checked result }
 {
     finish(kinds, entries)
 }
 
-/// Closes strong entries, which stay as they are.
-pub fn close_strong<W: Width>(kinds: &[bool], entries: &[Entry<W>]) -> ClosingResult
-    requires narrow { IsNarrow W.unit kinds.now entries.now }
-    requires strong { IsStrong (2 * length kinds.now) (entry (held W.unit kinds.now entries.now)) }
-    ensures outcome { IsOutcome W.unit kinds.now entries.now entries.now result }
+/// Closes strong entries, in place: only step 5 changes them.
+pub fn close_strong<W: Width>(kinds: &[bool], entries: &mut [Entry<W>]) -> ClosingResult
+    requires narrow { IsNarrow W.unit kinds.now entries.old }
+    requires strong { IsStrong (2 * length kinds.now) (entry (held W.unit kinds.now entries.old)) }
+    ensures outcome { IsOutcome W.unit kinds.now entries.old entries.new result }
+    ensures total { OutcomeLeavesIf W.checked result }
 {
     finish_strong(kinds, entries)
 }

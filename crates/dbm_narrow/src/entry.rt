@@ -1,8 +1,8 @@
 //! Entries, which contracts see as their numbers.
-ghost use Rattle.std.specs.Prelude.{◌≡◌, ◌*◌, ◌+ℤ◌, ℤ, pos, neg_ℤ, int_lt, true};
+ghost use Rattle.std.specs.Prelude.{◌≡◌, ◌*◌, ◌^◌, ◌+ℤ◌, ℤ, pos, neg_ℤ, int_lt};
 ghost use Rattle.std.specs.Cmp.{partial_equiv_from_equiv};
 ghost use Rattle.std.specs.Int.{int_div_euclid};
-ghost use Rattle.dbm_narrow.specs.Widths.{HasRoom, IsBound, IsFirstFrom, IsNumber, IsUncut, fed_number, int_equiv, same_int, start_at};
+ghost use Rattle.dbm_narrow.specs.Widths.{HasRoom, IsBound, IsFirstFrom, IsNumber, cut_number, fed_number, int_equiv, same_int, start_at};
 
 use crate::width::Width;
 use std::alloc::AllocError;
@@ -177,12 +177,21 @@ impl<W: Width> Entry<W> {
         self.number.start(doubled)
     }
 
-    /// Whether step 5 of closing leaves a bound as it is.
+    /// The entry as step 5 of closing leaves it: none from 2^64 on.
     #[inline]
-    pub fn is_uncut(self) -> bool
-        requires bound { IsBound (2 * W.unit) self }
-        ensures uncut { result ≡ true → IsUncut self }
+    pub fn cut(self) -> Entry<W>
+        ensures value { result ≡ cut_number W.unit self }
     {
-        self.number.is_uncut()
+        Entry {
+            number: self.number.cut(),
+        }
+    }
+
+    /// Whether it is below -2^64.
+    #[inline]
+    pub fn is_low(self) -> bool
+        ensures low { result ≡ int_lt self (neg_ℤ (pos (2 ^ 64))) }
+    {
+        self.number.is_low()
     }
 }

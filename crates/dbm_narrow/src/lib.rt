@@ -1,10 +1,11 @@
 //! Octagon matrices whose entries have one of two widths.
 //!
 //! The same matrices as those of `dbm_core`, over a type of entries, a `Width`: `i32`, which takes four
-//! bytes, or `i128`, which takes sixteen. Each width has a unit, 2^24 or 2^69, in which its limits are
-//! counted: a finite bound lies from -2 units to 2 units, so from -2^25 to 2^25 or from -2^70 to 2^70,
+//! bytes, or `i128`, which takes sixteen. Each width has a unit, 2^24 or 2^103, in which its limits are
+//! counted: a finite bound lies from -2 units to 2 units, so from -2^25 to 2^25 or from -2^104 to 2^104,
 //! and 32 units stand for no bound. Closing and the other operations answer what their definitions of
-//! `dbm_core` and `dbm_close` say, or that the answer does not fit.
+//! `dbm_core` and `dbm_close` say, or, at `i32`, that the answer does not fit. At `i128` it always does: a
+//! round makes entries at most four times as large, so 16 rounds make 2^102 of 2^70.
 //!
 //! The limits leave room for the sums of a round: a finite one stays below 16 units, and 32 units with a
 //! finite one stay at 16 or above. What is at least 16 units is no bound. A half of a bound is at most

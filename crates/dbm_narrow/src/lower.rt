@@ -1,10 +1,10 @@
 //! A bound lowered in entries that are the least weights of their own walks.
-ghost use Rattle.std.specs.Prelude.{◌≡◌, ◌<◌, ◌≤◌, ◌*◌, ◌≤ℤ◌, neg_ℤ, pos, length};
+ghost use Rattle.std.specs.Prelude.{◌≡◌, ◌<◌, ◌≤◌, ◌*◌, ◌≤ℤ◌, ℕ, false, neg_ℤ, pos, length};
 ghost use Rattle.dbm_core.specs.Half.{row_start};
 ghost use Rattle.dbm_narrow.specs.Entries.{AreEntries};
-ghost use Rattle.dbm_narrow.specs.Lowerings.{AreEnds, HasOwnWeights, IsLowering};
+ghost use Rattle.dbm_narrow.specs.Lowerings.{AreEnds, HasOwnWeights, HasRoomFor, IsLowering, StaysWithin};
 ghost use Rattle.dbm_narrow.specs.Middles.{IsNarrowMiddle};
-ghost use Rattle.dbm_narrow.specs.Rounds.{IsNarrow};
+ghost use Rattle.dbm_narrow.specs.Rounds.{IsNarrow, LeavesIf};
 
 use crate::entry::Entry;
 use crate::middle::{Middle, flipped, over, stepped};
@@ -69,7 +69,11 @@ pub fn lower<W: Width>(
     requires column { j < 2 * length kinds.now }
     requires low { neg_ℤ (pos (2 * W.unit)) ≤ℤ bound }
     requires high { bound ≤ℤ pos (2 * W.unit) }
+    requires room { W.checked ≡ false → (b : ℕ) × HasRoomFor W.unit b entries.old bound }
     ensures lowering { IsLowering W.unit kinds.now entries.old entries.new i j bound result }
+    ensures within { W.checked ≡ false → (b : ℕ) → HasRoomFor W.unit b entries.old bound →
+        StaysWithin W.unit (7 * b) entries.new result }
+    ensures total { LeavesIf W.checked result }
 {
     let slots = kinds.len();
     let current = entry_at(entries, slots, i, j);

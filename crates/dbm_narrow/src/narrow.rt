@@ -18,7 +18,7 @@ use std::hash::{Hash, Hasher};
 use std::marker::Model;
 
 /// Bounds on the values of at most 16 slots, each an int or an array's length, within the limits of a
-/// width: from -2^25 to 2^25 at `i32`, from -2^70 to 2^70 at `i128`.
+/// width: from -2^25 to 2^25 at `i32`, from -2^104 to 2^104 at `i128`.
 ///
 /// Its value is that of the matrix of `dbm_core` with the same bounds.
 #[derive(Drop)]

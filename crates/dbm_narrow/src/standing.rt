@@ -1,11 +1,13 @@
 //! A slot that stands for a node of another slot plus a number.
-ghost use Rattle.std.specs.Prelude.{◌≡◌, ◌≢◌, ◌<◌, ◌≤◌, ◌*◌, ◌+◌, ◌/◌, ◌+ℤ◌, ◌≤ℤ◌, neg_ℤ, pos, true, length};
+ghost use Rattle.std.specs.Prelude.{◌≡◌, ◌≢◌, ◌<◌, ◌≤◌, ◌*◌, ◌+◌, ◌/◌, ◌^◌, ◌+ℤ◌, ◌≤ℤ◌, neg_ℤ, pos, Some, false, true, length};
 ghost use Rattle.dbm_core.specs.Half.{row_start, row_width};
+ghost use Rattle.dbm_core.specs.Limits.{IsWithin};
 ghost use Rattle.dbm_incremental.specs.ClosedMatrices.{IsClosed, IsWhole};
+ghost use Rattle.dbm_narrow.specs.Closings.{OutcomeLeavesIf};
 ghost use Rattle.dbm_narrow.specs.Entries.{AreEntries, IsEntry, at, held};
 ghost use Rattle.dbm_narrow.specs.Rounds.{IsNarrow};
 ghost use Rattle.dbm_narrow.specs.Rows.{ColumnsAre, EachIs, RestStays, RowIs, RowsAre};
-ghost use Rattle.dbm_narrow.specs.Standing.{IsEquatedOutcome, StandsTo, replaced, stood_at};
+ghost use Rattle.dbm_narrow.specs.Standing.{IsEquatedOutcome, StandsTo, StoodFits, replaced, stood_at};
 
 use crate::adding::small_bound;
 use crate::closing::ClosingResult;
@@ -32,7 +34,9 @@ pub fn close_stood<W: Width>(
     requires slot { q < length kinds.now }
     requires node { y < 2 * length kinds.now }
     requires apart { y / 2 ≢ q }
+    requires small { IsWithin (2 ^ 70) (Some c) }
     ensures outcome { IsEquatedOutcome W.unit kinds.now entries.old entries.new q y c result }
+    ensures total { OutcomeLeavesIf W.checked result }
 {
     match small_bound(c) {
         None => ClosingResult::TooWide,
@@ -56,7 +60,9 @@ fn close_small<W: Width>(
     requires apart { y / 2 ≢ q }
     requires low { neg_ℤ (pos (2 * W.unit)) ≤ℤ c }
     requires high { c ≤ℤ pos (2 * W.unit) }
+    requires small { W.checked ≡ false → IsWithin (2 ^ 70) (Some c) }
     ensures outcome { IsEquatedOutcome W.unit kinds.now entries.old entries.new q y c result }
+    ensures total { OutcomeLeavesIf W.checked result }
 {
     if !stand(kinds, entries, q, y, c) {
         return ClosingResult::TooWide;
@@ -64,7 +70,8 @@ fn close_small<W: Width>(
     finish_strong(kinds, entries)
 }
 
-// Makes slot q stand for node y plus c, in place: whether each bound stays within the limits.
+// Makes slot q stand for node y plus c, in place: whether each bound stays within the limits, where the width
+// is checked.
 #[inline]
 fn stand<W: Width>(
     kinds: &[bool],
@@ -79,7 +86,9 @@ fn stand<W: Width>(
     requires node { y < 2 * length kinds.now }
     requires low { neg_ℤ (pos (2 * W.unit)) ≤ℤ c }
     requires high { c ≤ℤ pos (2 * W.unit) }
+    requires small { W.checked ≡ false → IsWithin (2 ^ 70) (Some c) }
     ensures stands { result ≡ true → StandsTo W.unit kinds.now entries.old entries.new q y c }
+    ensures total { result ≡ false → W.checked ≡ true }
 {
     let slots = kinds.len();
     let other = other_sign(y);
@@ -90,14 +99,24 @@ fn stand<W: Width>(
     let twice = twice_of(c);
     let first = stood_row(&node, q, y, Entry::zero(), twice_less, less);
     let second = stood_row(&behind, q, y, twice, Entry::zero(), c);
-    if !are_within(&first) {
+    if !are_limited(&first) {
         return false;
     }
-    if !are_within(&second) {
+    if !are_limited(&second) {
         return false;
     }
     replace_rows(entries, slots, q, &first, &second);
     true
+}
+
+// Whether each bound of a row lies within the limits, where the width is checked.
+#[inline]
+fn are_limited<W: Width>(row: &[Entry<W>; 32]) -> bool
+    requires row { AreEntries W.unit (6 * W.unit) row.now }
+    ensures within { W.checked ≡ true → result ≡ true → AreEntries W.unit (2 * W.unit) row.now }
+    ensures total { result ≡ false → W.checked ≡ true }
+{
+    !W::is_checked() || are_within(row)
 }
 
 /// Makes slot q stand for node y plus c, in place: whether c and each bound lie within the limits.
@@ -112,7 +131,9 @@ pub fn stand_by<W: Width>(
     requires closed { IsClosed (held W.unit kinds.now entries.old) }
     requires slot { q < length kinds.now }
     requires node { y < 2 * length kinds.now }
+    requires small { IsWithin (2 ^ 70) (Some c) }
     ensures stands { result ≡ true → StandsTo W.unit kinds.now entries.old entries.new q y c }
+    ensures total { result ≡ false → W.checked ≡ true }
 {
     match small_bound(c) {
         None => false,
@@ -168,6 +189,7 @@ fn stood_row<W: Width>(
     requires others { IsEntry W.unit (4 * W.unit) others }
     ensures stood { ColumnsAre W.unit 32 (stood_at W.unit row.now q y first second others) result }
     ensures entries { AreEntries W.unit (6 * W.unit) result }
+    ensures small { StoodFits W.unit row.now first second others result }
 {
     let mut stood = stepped(others, row);
     let node = read(row, y);

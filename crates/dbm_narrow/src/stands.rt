@@ -1,8 +1,10 @@
 //! A slot that stands for a node of the same matrix plus a number.
-ghost use Rattle.std.specs.Prelude.{◌<◌, IfOk, length};
+ghost use Rattle.std.specs.Prelude.{◌<◌, ◌^◌, IfOk, Some, length};
 ghost use Rattle.dbm_core.specs.Half.{nodes};
+ghost use Rattle.dbm_core.specs.Limits.{IsWithin};
 ghost use Rattle.dbm_incremental.specs.ClosedMatrices.{IsClosed};
 ghost use Rattle.dbm_narrow.specs.Standing.{StandsIf};
+ghost use Rattle.dbm_narrow.specs.Held.{IsNoneIf};
 
 use crate::Narrow;
 use crate::standing::stand_by;
@@ -22,7 +24,9 @@ pub fn stood<W: Width>(
     requires slot { q < length closed.now.kinds }
     requires node { y < nodes closed.now }
     requires closed { IsClosed closed.now }
+    requires small { IsWithin (2 ^ 70) (Some c) }
     ensures stood { IfOk result (StandsIf closed.now q y c) }
+    ensures total { IfOk result (IsNoneIf W.checked) }
 {
     let kinds = closed.kinds.share()?;
     let mut entries = Vec::from_slice(alloc, closed.entries.as_slice())?;

@@ -1,12 +1,13 @@
-//! Steps 2 to 6, over the least weights. They end where step 5 would cut an entry, or one is too low
-//! for it: that bound has left the limits.
-ghost use Rattle.std.specs.Prelude.{◌≡◌, ◌<◌, ◌≤◌, ◌*◌, ◌+◌, true, length};
+//! Steps 2 to 6, over the least weights.
+ghost use Rattle.std.specs.Prelude.{◌≡◌, ◌<◌, ◌≤◌, ◌*◌, ◌+◌, neg_ℤ, pos, length};
+ghost use Rattle.std.specs.Bool.{MatchBool};
+ghost use Rattle.std.specs.Int.{int_div_euclid};
 ghost use Rattle.dbm_close.specs.Steps.{range_high, range_low};
 ghost use Rattle.dbm_core.specs.Half.{entry, row_start, row_width};
 ghost use Rattle.dbm_incremental.specs.ClosedMatrices.{IsStrong};
 ghost use Rattle.dbm_narrow.specs.Entries.{AreEntries, IsEntry, held, wide};
 ghost use Rattle.dbm_narrow.specs.Held.{HoldsHalves, TellsFinish, TellsHalves, TellsLast, TellsRanges};
-ghost use Rattle.dbm_narrow.specs.Rounds.{AreUncut, IsNarrow, IsUncutEntry};
+ghost use Rattle.dbm_narrow.specs.Rounds.{AreCut, HasLowEntry, HasNoLowEntry, IsNarrow};
 ghost use Rattle.dbm_narrow.specs.Rows.{AreFlipped, RestStays, RowIs, Strengthened, strengthened_at};
 
 use crate::closing::ClosingResult;
@@ -16,7 +17,7 @@ use crate::middle::flipped;
 use crate::rows::{place, read, row_at, row_len, strengthen};
 use crate::width::Width;
 
-/// Steps 2 to 6, in place. After an answer other than `Closed` the entries are of no use.
+/// Steps 2 to 6, in place; no bound leaves the limits. After `Empty` the entries are of no use.
 #[inline]
 pub fn finish<W: Width>(kinds: &[bool], entries: &mut [Entry<W>]) -> ClosingResult
     requires narrow { IsNarrow W.unit kinds.now entries.old }
@@ -32,24 +33,26 @@ pub fn finish<W: Width>(kinds: &[bool], entries: &mut [Entry<W>]) -> ClosingResu
     last_steps(kinds, entries)
 }
 
-/// The same of strong entries, which these steps leave as they are.
+/// The same of strong entries, which steps 2 to 4 leave as they are.
 #[inline]
-pub fn finish_strong<W: Width>(kinds: &[bool], entries: &[Entry<W>]) -> ClosingResult
-    requires narrow { IsNarrow W.unit kinds.now entries.now }
-    requires strong { IsStrong (2 * length kinds.now) (entry (held W.unit kinds.now entries.now)) }
-    ensures finish { TellsFinish W.unit kinds.now entries.now entries.now result }
+pub fn finish_strong<W: Width>(kinds: &[bool], entries: &mut [Entry<W>]) -> ClosingResult
+    requires narrow { IsNarrow W.unit kinds.now entries.old }
+    requires strong { IsStrong (2 * length kinds.now) (entry (held W.unit kinds.now entries.old)) }
+    ensures finish { TellsFinish W.unit kinds.now entries.old entries.new result }
 {
     last_steps(kinds, entries)
 }
 
 // Steps 5 and 6.
 #[inline]
-fn last_steps<W: Width>(kinds: &[bool], entries: &[Entry<W>]) -> ClosingResult
-    requires narrow { IsNarrow W.unit kinds.now entries.now }
-    ensures last { TellsLast W.unit kinds.now entries.now result }
+fn last_steps<W: Width>(kinds: &[bool], entries: &mut [Entry<W>]) -> ClosingResult
+    requires narrow { IsNarrow W.unit kinds.now entries.old }
+    ensures cut { AreCut W.unit entries.old entries.new }
+    ensures last { TellsLast W.unit kinds.now entries.new result }
 {
-    if !are_uncut(entries) {
-        return ClosingResult::TooWide;
+    cut_all(entries);
+    if has_low_entry(entries) {
+        return ClosingResult::Empty;
     }
     if has_empty_range(kinds, entries) {
         return ClosingResult::Empty;
@@ -57,28 +60,28 @@ fn last_steps<W: Width>(kinds: &[bool], entries: &[Entry<W>]) -> ClosingResult
     ClosingResult::Closed
 }
 
-// Whether step 5 cuts no entry, and none is too low for it.
+// Step 5, in place.
 #[inline]
-fn are_uncut<W: Width>(entries: &[Entry<W>]) -> bool
-    requires entries { AreEntries W.unit (2 * W.unit) entries.now }
-    ensures uncut { result ≡ true → AreUncut W.unit entries.now }
+fn cut_all<W: Width>(entries: &mut [Entry<W>])
+    ensures cut { AreCut W.unit entries.old entries.new }
 {
     for k in 0..entries.len() {
-        let entry = read(entries, k);
-        if !is_uncut(entry) {
-            return false;
-        }
+        entries[k] = read(entries, k).cut();
     }
-    true
 }
 
-// The same of one entry.
+// Whether an entry is below -2^64.
 #[inline]
-fn is_uncut<W: Width>(entry: Entry<W>) -> bool
-    requires entry { IsEntry W.unit (2 * W.unit) entry }
-    ensures uncut { result ≡ true → IsUncutEntry W.unit entry }
+fn has_low_entry<W: Width>(entries: &[Entry<W>]) -> bool
+    ensures low { MatchBool result (HasLowEntry W.unit entries.now)
+        (HasNoLowEntry W.unit entries.now) }
 {
-    !entry.is_less(Entry::free()) || entry.is_uncut()
+    for k in 0..entries.len() {
+        if read(entries, k).is_low() {
+            return true;
+        }
+    }
+    false
 }
 
 // Half of the bound from each node to that of the other sign, rounded down.
@@ -172,6 +175,15 @@ fn strengthen_row<W: Width>(
     strengthen(row, to, behind);
 }
 
+// The negative of half of a number, rounded down: half of 128 bits has one.
+#[inline]
+fn negative_half<W: Width>(bound: Entry<W>) -> i128
+    ensures value { result ≡ neg_ℤ (int_div_euclid bound (pos 2)) }
+{
+    let half = bound.number().div_euclid(2);
+    -half
+}
+
 /// The least value of a slot, by the bound on twice its negative.
 #[inline]
 #[tactic(auto, unfolding(crate::specs::Entries::wide))]
@@ -183,7 +195,7 @@ pub fn low_end<W: Width>(array: bool, bound: Entry<W>) -> i128
     if !bound.is_less(Entry::free()) {
         return extreme;
     }
-    let end = -bound.half_number();
+    let end = negative_half(bound);
     if end < extreme { extreme } else { end }
 }
 

@@ -1,10 +1,11 @@
 //! Step 1: the least weights of walks.
-ghost use Rattle.std.specs.Prelude.{◌≡◌, ◌<◌, ◌≤◌, ◌*◌, ◌+◌, true, length};
-ghost use Rattle.dbm_core.specs.Half.{row_start, row_width};
-ghost use Rattle.dbm_narrow.specs.Entries.{AreEntries};
+ghost use Rattle.std.specs.Prelude.{◌≡◌, ◌<◌, ◌≤◌, ◌*◌, ◌+◌, ◌^◌, false, true, length};
+ghost use Rattle.dbm_core.specs.Half.{entry, row_start, row_width};
+ghost use Rattle.dbm_core.specs.Limits.{AreWithin};
+ghost use Rattle.dbm_narrow.specs.Entries.{AreEntries, held};
 ghost use Rattle.dbm_narrow.specs.Held.{HasLowDiagonal, TellsDiagonal};
 ghost use Rattle.dbm_narrow.specs.Middles.{AllThrough, IsNarrowMiddle, through_middle};
-ghost use Rattle.dbm_narrow.specs.Rounds.{AreRounds, IsNarrow, IsRound};
+ghost use Rattle.dbm_narrow.specs.Rounds.{AreRounds, IsNarrow, IsRound, LeavesIf};
 ghost use Rattle.dbm_narrow.specs.Rows.{IsRowWithin, RestStays, RowIs};
 
 use crate::entry::Entry;
@@ -29,7 +30,10 @@ pub enum Walks {
 pub fn least_weights<W: Width>(kinds: &[bool], entries: &mut [Entry<W>]) -> Walks
     requires narrow { IsNarrow W.unit kinds.now entries.old }
     requires diagonal { HasLowDiagonal W.unit kinds.now entries.old }
+    requires small { AreWithin (2 * length kinds.now) (2 ^ 70)
+        (entry (held W.unit kinds.now entries.old)) }
     ensures weights { AreRounds W.unit kinds.now entries.old entries.new result }
+    ensures total { LeavesIf W.checked result }
 {
     let mut middle = no_middle();
     for q in 0..kinds.len() {
@@ -56,7 +60,10 @@ fn make_round<W: Width>(
     requires narrow { IsNarrow W.unit kinds.now entries.old }
     requires middle { q < length kinds.now }
     requires bounds { IsNarrowMiddle W.unit middle.old }
+    requires small { AreWithin (2 * length kinds.now) (2 ^ 102)
+        (entry (held W.unit kinds.now entries.old)) }
     ensures round { IsRound W.unit kinds.now q entries.old entries.new result }
+    ensures total { LeavesIf W.checked result }
     ensures bounds { IsNarrowMiddle W.unit middle.new }
 {
     fill_middle(kinds, entries, q, middle);
@@ -75,7 +82,8 @@ fn make_round<W: Width>(
     }
 }
 
-/// Walks may go through both nodes of the slot, in place: whether each bound stays within the limits.
+/// Walks may go through both nodes of the slot, in place: whether each bound stays within the limits, where
+/// the width is checked.
 #[inline]
 pub fn go_through_rows<W: Width>(entries: &mut [Entry<W>], slots: usize, middle: &Middle<W>) -> bool
     requires few { slots ≤ 16 }
@@ -84,10 +92,12 @@ pub fn go_through_rows<W: Width>(entries: &mut [Entry<W>], slots: usize, middle:
     requires middle { IsNarrowMiddle W.unit middle.now }
     ensures kept { result ≡ true →
         AllThrough W.unit middle.now (2 * slots) entries.old entries.new }
-    ensures entries { result ≡ true → AreEntries W.unit (2 * W.unit) entries.new }
+    ensures summed { result ≡ true → AreEntries W.unit (14 * W.unit) entries.new }
+    ensures entries { W.checked ≡ true → result ≡ true →
+        AreEntries W.unit (2 * W.unit) entries.new }
+    ensures total { result ≡ false → W.checked ≡ true }
 {
-    // of many slots most rows are skipped, so that one check of all would cost more
-    let each = slots > 8;
+    let each = checks_rows::<W>(slots);
     for i in 0..2 * slots {
         if !go_through_row(entries, i, middle, each) {
             return false;
@@ -96,7 +106,15 @@ pub fn go_through_rows<W: Width>(entries: &mut [Entry<W>], slots: usize, middle:
     if each {
         return true;
     }
-    are_within(entries)
+    are_within_if(W::is_checked(), entries)
+}
+
+// Whether each row is checked: of many slots most are skipped, so that one check of all would cost more.
+#[inline]
+fn checks_rows<W: Width>(slots: usize) -> bool
+    ensures checked { result ≡ true → W.checked ≡ true }
+{
+    W::is_checked() && slots > 8
 }
 
 // The same in row i: whether each of its bounds stays within the limits, where that is to be checked.
@@ -117,6 +135,7 @@ fn go_through_row<W: Width>(
     ensures entries { AreEntries W.unit (14 * W.unit) entries.new }
     ensures within { checks ≡ true → result ≡ true → AreEntries W.unit (2 * W.unit) entries.old →
         AreEntries W.unit (2 * W.unit) entries.new }
+    ensures total { result ≡ false → checks ≡ true }
 {
     let to_first = read(&middle.to_first, i);
     let to_second = read(&middle.to_second, i);
@@ -141,6 +160,7 @@ fn go_through_row<W: Width>(
 fn are_within_if<W: Width>(checks: bool, entries: &[Entry<W>]) -> bool
     requires entries { AreEntries W.unit (14 * W.unit) entries.now }
     ensures within { checks ≡ true → result ≡ true → AreEntries W.unit (2 * W.unit) entries.now }
+    ensures total { result ≡ false → checks ≡ true }
 {
     !checks || are_within(entries)
 }

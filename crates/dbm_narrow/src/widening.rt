@@ -1,10 +1,12 @@
 //! Widenings of narrow matrices.
-ghost use Rattle.std.specs.Prelude.{◌≡◌, ◌<◌, ◌≤◌, ◌*◌, ◌+◌, IfOk, Some, true, false, cond, int_lt, length};
+ghost use Rattle.std.specs.Prelude.{◌≡◌, ◌<◌, ◌≤◌, ◌*◌, ◌+◌, ◌^◌, IfOk, Some, true, false, cond, int_lt, length};
 ghost use Rattle.std.specs.Int.{int_min};
 ghost use Rattle.dbm_core.specs.Half.{row_start, row_width};
+ghost use Rattle.dbm_core.specs.Limits.{IsWithin};
 ghost use Rattle.dbm_core.specs.Operations.{threshold_value as value_of, next_threshold};
 ghost use Rattle.dbm_core.specs.Weights.{least};
 ghost use Rattle.dbm_narrow.specs.Entries.{AreEntries, IsEntry};
+ghost use Rattle.dbm_narrow.specs.Held.{IsNoneIf};
 ghost use Rattle.dbm_narrow.specs.Rows.{RestStays};
 ghost use Rattle.dbm_narrow.specs.Widenings.{AreWords, EachWidens, IsThresholdEntry, IsWidenedIf, RowWidensOn, WidensIf, WidensOn};
 
@@ -27,6 +29,7 @@ pub fn widen<W: Width>(
 ) -> Result<Option<Narrow<W>>, Memory>
     requires same_kinds { right.now.kinds ≡ left.now.kinds }
     ensures widens { IfOk result (WidensIf thresholds.now left.now right.now) }
+    ensures total { IfOk result (IsNoneIf W.checked) }
 {
     let kinds = left.kinds.share()?;
     let mut entries = Vec::from_slice(alloc, left.entries.as_slice())?;
@@ -56,6 +59,7 @@ fn raise_rows<W: Width>(
     requires entries { AreEntries W.unit (2 * W.unit) entries.old }
     requires others { AreEntries W.unit (2 * W.unit) others.now }
     ensures kept { WidensOn W.unit result thresholds.now slots entries.old others.now entries.new }
+    ensures total { result ≡ false → W.checked ≡ true }
     ensures entries { result ≡ true → AreEntries W.unit (2 * W.unit) entries.new }
 {
     for i in 0..2 * slots {
@@ -80,6 +84,7 @@ fn raise_row<W: Width>(
     requires entries { AreEntries W.unit (2 * W.unit) entries.old }
     requires others { AreEntries W.unit (2 * W.unit) others.now }
     ensures kept { RowWidensOn W.unit result thresholds.now i entries.old others.now entries.new }
+    ensures total { result ≡ false → W.checked ≡ true }
     ensures rest { RestStays W.unit i entries.old entries.new }
     ensures entries { result ≡ true → AreEntries W.unit (2 * W.unit) entries.new }
 {
@@ -104,6 +109,7 @@ fn raise_each<W: Width>(
     requires row { AreEntries W.unit (2 * W.unit) row.old }
     requires others { AreEntries W.unit (2 * W.unit) others.now }
     ensures kept { result ≡ true → EachWidens W.unit thresholds.now i row.old others.now row.new }
+    ensures total { result ≡ false → W.checked ≡ true }
     ensures within { result ≡ true → AreEntries W.unit (2 * W.unit) row.new }
 {
     let other = other_sign(i);
@@ -129,6 +135,7 @@ fn widened_entry<W: Width>(
     requires old { IsEntry W.unit (2 * W.unit) old }
     requires new { IsEntry W.unit (2 * W.unit) new }
     ensures widened { IsWidenedIf W.unit thresholds.now doubled old new result }
+    ensures total { IsNoneIf W.checked result }
 {
     if !old.is_less(new) {
         return Some(old);
@@ -142,6 +149,7 @@ fn widened_entry<W: Width>(
 // The entry of the next threshold, if it fits.
 fn threshold_entry<W: Width>(thresholds: &[i64], doubled: bool, bound: Entry<W>) -> Option<Entry<W>>
     ensures entry { IsThresholdEntry W.unit (next_threshold thresholds.now doubled bound) result }
+    ensures total { IsNoneIf W.checked result }
 {
     narrow_entry(threshold_from(thresholds, doubled, bound))
 }
@@ -149,6 +157,7 @@ fn threshold_entry<W: Width>(thresholds: &[i64], doubled: bool, bound: Entry<W>)
 // The least of the thresholds, or of the thresholds doubled, that is not less than the bound.
 fn threshold_from<W: Width>(thresholds: &[i64], doubled: bool, bound: Entry<W>) -> Option<i128>
     ensures threshold { result ≡ next_threshold thresholds.now doubled bound }
+    ensures within { IsWithin (2 ^ 64) result }
 {
     see_words(thresholds);
     let start = bound.start(doubled)?;

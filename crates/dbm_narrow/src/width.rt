@@ -1,10 +1,10 @@
 //! Widths of entries: how many bytes one takes, and how large its bounds may be. There are two, `i32` and
 //! `i128`.
-ghost use Rattle.std.specs.Prelude.{◌≡◌, ◌<◌, ◌≤◌, ◌*◌, ◌^◌, ◌+ℤ◌, ℕ, ℤ, pos, neg_ℤ, int_lt, true, refl};
+ghost use Rattle.std.specs.Prelude.{◌≡◌, ◌<◌, ◌≤◌, ◌*◌, ◌^◌, ◌+ℤ◌, ℕ, ℤ, Bool, pos, neg_ℤ, int_lt, false, true, refl};
 ghost use Rattle.std.specs.Int.{int_div_euclid};
 ghost use Rattle.std.proofs.Math.Nat.{le-add_right, le_refl};
 ghost use Rattle.std.proofs.lemmas.Nat.{pow_pos};
-ghost use Rattle.dbm_narrow.specs.Widths.{HasRoom, IsBound, IsFirstFrom, IsLight, IsNumber, IsUncut, fed_number, narrow-small, start_at};
+ghost use Rattle.dbm_narrow.specs.Widths.{HasRoom, IsBound, IsFirstFrom, IsLight, IsNumber, cut_number, fed_number, no_true, start_at};
 
 /// A type of entries: each finite bound lies from `-2 * unit` to `2 * unit`, and `32 * unit` stands for
 /// none.
@@ -24,8 +24,11 @@ pub trait Width: Copy + Drop {
     // It is not 0.
     ghost positive: { 0 < unit };
 
-    // Closing is asked of bounds up to 2^70 alone.
-    ghost small: { unit ≤ 2 ^ 69 };
+    // Whether a bound may leave the limits on the way.
+    ghost checked: { Bool };
+
+    // Where none may, the limits are four times what 16 rounds make of 2^70.
+    ghost roomy: { checked ≡ false → 2 ^ 103 ≤ unit };
 
     /// No bound.
     fn none() -> Self
@@ -88,10 +91,17 @@ pub trait Width: Copy + Drop {
     fn start(self, doubled: bool) -> Option<i64>
         ensures start { IsFirstFrom (start_at doubled (value self)) result };
 
-    /// Whether step 5 of closing leaves a bound as it is.
-    fn is_uncut(self) -> bool
-        requires bound { IsBound (2 * unit) (value self) }
-        ensures uncut { result ≡ true → IsUncut (value self) };
+    /// Whether a bound may leave the limits on the way, so that rounds look for one.
+    fn is_checked() -> bool
+        ensures value { result ≡ checked };
+
+    /// The number as step 5 of closing leaves it: none from 2^64 on.
+    fn cut(self) -> Self
+        ensures value { value result ≡ cut_number unit (value self) };
+
+    /// Whether it is below -2^64.
+    fn is_low(self) -> bool
+        ensures low { result ≡ int_lt (value self) (neg_ℤ (pos (2 ^ 64))) };
 
     // Arrays of numbers fit in memory.
     ghost light: { IsLight Self.row };
@@ -108,7 +118,9 @@ impl Width for i32 {
 
     ghost positive = { pow_pos 24 };
 
-    ghost small = { narrow-small };
+    ghost checked = { true };
+
+    ghost roomy = { no_true };
 
     ghost light = { (le-add_right 4 12, le-add_right 4 12) };
 
@@ -188,8 +200,19 @@ impl Width for i32 {
     }
 
     #[inline]
-    fn is_uncut(self) -> bool {
+    fn is_checked() -> bool {
         true
+    }
+
+    // No number of 32 bits is cut.
+    #[inline]
+    fn cut(self) -> i32 {
+        self
+    }
+
+    #[inline]
+    fn is_low(self) -> bool {
+        false
     }
 }
 
@@ -200,32 +223,34 @@ impl Width for i128 {
 
     ghost of_value = { λ x. refl };
 
-    ghost unit = { 2 ^ 69 };
+    ghost unit = { 2 ^ 103 };
 
-    ghost positive = { pow_pos 69 };
+    ghost positive = { pow_pos 103 };
 
-    ghost small = { le_refl (2 ^ 69) };
+    ghost checked = { false };
+
+    ghost roomy = { λ e. le_refl (2 ^ 103) };
 
     ghost light = { (le_refl 16, le_refl 16) };
 
     #[inline]
     fn none() -> i128 {
-        18889465931478580854784
+        324518553658426726783156020576256
     }
 
     #[inline]
     fn free() -> i128 {
-        9444732965739290427392
+        162259276829213363391578010288128
     }
 
     #[inline]
     fn greatest() -> i128 {
-        1180591620717411303424
+        20282409603651670423947251286016
     }
 
     #[inline]
     fn least() -> i128 {
-        -1180591620717411303424
+        -20282409603651670423947251286016
     }
 
     #[inline]
@@ -270,7 +295,7 @@ impl Width for i128 {
 
     #[inline]
     fn fed(self) -> i64 {
-        if self >= 9444732965739290427392 {
+        if self >= 162259276829213363391578010288128 {
             536870912
         } else if self < -9223372036854775808 {
             0
@@ -297,8 +322,23 @@ impl Width for i128 {
         }
     }
 
+    // 16 rounds make 2^102 of 2^70, and the limit is 2^104.
     #[inline]
-    fn is_uncut(self) -> bool {
-        -18446744073709551616 <= self && self < 18446744073709551616
+    fn is_checked() -> bool {
+        false
+    }
+
+    #[inline]
+    fn cut(self) -> i128 {
+        if self < 18446744073709551616 {
+            self
+        } else {
+            324518553658426726783156020576256
+        }
+    }
+
+    #[inline]
+    fn is_low(self) -> bool {
+        self < -18446744073709551616
     }
 }

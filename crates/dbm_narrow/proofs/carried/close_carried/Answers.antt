@@ -1,4 +1,4 @@
-use Rattle.std.specs.Prelude.{◌*◌, ◌≡◌, List, Bool, length}
+use Rattle.std.specs.Prelude.{◌*◌, List, Bool, length}
 use Rattle.std.proofs.Common.{sym, subst}
 use Rattle.std.proofs.lemmas.Int.{to_z-of_z}
 use mir.Syntax.{w128}
@@ -30,4 +30,5 @@ returns-in-Some gen c =
           (agree-strong gen.W.Width.unit gen.W.Width.positive (length c.args.closed.now.kinds) (stood_entry (entry c.args.closed.now) c.args.q c.args.y c.args.c) (entry c.in-Some.set) h.entries
           (stood-strong (entry c.args.closed.now) (length c.args.closed.now.kinds) c.args.q c.args.y c.args.c c.requires.node s)))
           c.close_set.ensures.closing;
+      total = c.close_set.ensures.total;
     }

@@ -62,6 +62,7 @@ returns-in-Closed gen c =
             (subst (λ (n : HalfMatrix). ClosesEquated (held gen.W.Width.unit c.list.result.now c.as_mut_slice.result.now) c.args.q c.args.y (to_z w128 (of_z w128 c.args.c)) (Matrix n)) r c.in-Closed.ensures.outcome.closes)),
         subst IsClosed r c.in-Closed.ensures.outcome.closed,
       );
+      total = tt;
     }
 
 pub returns-in-Empty : goal.returns-in-Empty
@@ -72,6 +73,7 @@ returns-in-Empty gen c =
     let tc : to_z w128 (of_z w128 c.args.c) ≡ c.args.c = to_z-of_z w128 c.args.c c.ranges.c in
     record {
       closing = subst (λ (x : ℤ). ClosesEquated c.args.closed.now c.args.q c.args.y x Empty) tc (subst (λ (m : HalfMatrix). ClosesEquated m c.args.q c.args.y (to_z w128 (of_z w128 c.args.c)) Empty) e c.in-Empty.ensures.outcome);
+      total = tt;
     }
 
 pub invariant_of-result : goal.invariant_of-result

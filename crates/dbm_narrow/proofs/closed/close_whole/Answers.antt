@@ -35,6 +35,7 @@ returns-in-Closed gen c =
     let w : (with_items c.in_ok-entries.entries c.close_own.new.entries).items ≡ c.close_own.new.entries = with_items_is c.in_ok-entries.entries c.close_own.new.entries (c.close_own.auto.entries ∙ c.as_mut_slice.ensures.len) in
     record {
       closing = ap close_of e ∙ c.in-Closed.ensures.outcome.0 ∙ ap (λ (k : List Bool). Matrix (held gen.W.Width.unit k c.close_own.new.entries)) c.list.ensures.value ∙ ap (λ (x : List ℤ). Matrix (held gen.W.Width.unit c.in_ok-kinds.kinds x)) (sym w);
+      total = tt;
     }
 
 pub returns-in-Empty : goal.returns-in-Empty
@@ -42,7 +43,7 @@ returns-in-Empty gen c =
     let k : c.list.result.now ≡ c.m.inside.kinds = c.list.ensures.value ∙ c.in_ok-kinds.ensures.items in
     let x : c.as_mut_slice.result.now ≡ c.m.inside.entries.items = c.as_mut_slice.ensures.value ∙ c.in_ok-entries.ensures.items ∙ c.as_slice.ensures.value in
     let e : c.args.m.now ≡ held gen.W.Width.unit c.list.result.now c.as_mut_slice.result.now = sym c.m.view_is ∙ ap (λ k. held gen.W.Width.unit k c.m.inside.entries.items) (sym k) ∙ ap (held gen.W.Width.unit c.list.result.now) (sym x) in
-    record { closing = ap close_of e ∙ c.in-Empty.ensures.outcome }
+    record { closing = ap close_of e ∙ c.in-Empty.ensures.outcome; total = tt }
 
 pub invariant_of-result : goal.invariant_of-result
 invariant_of-result gen c =

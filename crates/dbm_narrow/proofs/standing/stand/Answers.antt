@@ -1,19 +1,22 @@
-use Rattle.std.specs.Prelude.{◌≡◌, ◌<◌, ◌≤◌, ◌+◌, ◌*◌, ◌+ℤ◌, ◌≤ℤ◌, neg_ℤ, pos, true, ℕ, length}
+use Rattle.std.specs.Prelude.{◌≡◌, ◌<◌, ◌≤◌, ◌+◌, ◌*◌, ◌+ℤ◌, ◌≤ℤ◌, ◌^◌, neg_ℤ, pos, Some, true, ℕ, length}
 use Rattle.std.proofs.Common.{arith, sym, ◌∙◌, ap, subst, inr}
 use Rattle.std.proofs.lemmas.Int.{ints}
 use Rattle.dbm_core.proofs.HalfLemmas.{entry-coherent}
 use Rattle.dbm_core.proofs.NodeLemmas.{flip-flip, flip_below}
 use Rattle.dbm_core.specs.Half.{entry, row_start}
+use Rattle.dbm_core.specs.Limits.{IsWithin}
 use Rattle.dbm_core.specs.Nodes.{flip}
 use Rattle.dbm_incremental.proofs.SlotLemmas.{stood-rest}
 use Rattle.dbm_incremental.proofs.StandLemmas.{node-even, node-odd, shift-even, shift-odd}
 use Rattle.dbm_incremental.specs.Equations.{stood_entry}
-use Rattle.dbm_narrow.proofs.EntryLemmas.{held-entry, held-kept}
+use Rattle.dbm_narrow.proofs.EntryLemmas.{entry-more, held-entry, held-kept}
+use Rattle.dbm_narrow.proofs.GrowthLemmas.{by_checked, closed-entries}
 use Rattle.dbm_narrow.proofs.LightLemmas.{rows-fit}
 use Rattle.dbm_narrow.proofs.MiddleLemmas.{row-is_entry}
 use Rattle.dbm_narrow.proofs.RoundLemmas.{narrow-size}
 use Rattle.dbm_narrow.proofs.StandingLemmas.{IsStep, stood-coherent, stood-row, wide-replaced}
 use Rattle.dbm_narrow.specs.Entries.{AreEntries, IsEntry, at, held, pair_at, wide}
+use Rattle.dbm_narrow.specs.Widths.{no_true}
 use Rattle.dbm_narrow.proofs.standing.stand.Goals as goal
 
 pub whole_row-node-requires : goal.whole_row-node-requires
@@ -70,19 +73,45 @@ stood_row-second-requires gen c =
     let others : IsEntry gen.W.Width.unit (4 * gen.W.Width.unit) c.args.c = inr (omega (arith, ints), omega (arith, ints)) in
     (rows-fit gen.row.W gen.met.W.Width.light, (omega arith, (omega arith, (row, (first, (second, others))))))
 
-pub shared_whole_as_slice-are_within : goal.shared_whole_as_slice-are_within
-shared_whole_as_slice-are_within gen c = rows-fit gen.row.W gen.met.W.Width.light
+pub are_limited-requires : goal.are_limited-requires
+are_limited-requires gen c = (rows-fit gen.row.W gen.met.W.Width.light, c.stood_row-first.ensures.entries)
 
-pub shared_whole_as_slice-are_within-2 : goal.shared_whole_as_slice-are_within-2
-shared_whole_as_slice-are_within-2 gen c = rows-fit gen.row.W gen.met.W.Width.light
+pub are_limited-requires-2 : goal.are_limited-requires-2
+are_limited-requires-2 gen c = (rows-fit gen.row.W gen.met.W.Width.light, c.stood_row-second.ensures.entries)
 
 pub replace_rows-requires : goal.replace_rows-requires
 replace_rows-requires gen c =
     let few : length c.args.kinds.now ≤ 16 = c.requires.narrow.matrix.few in
     let size : length c.args.entries.now ≡ row_start (2 * length c.args.kinds.now) = narrow-size gen.W.Width.unit gen.W.Width.positive c.args.kinds.now c.args.entries.now c.requires.narrow in
-    let a : c.are_within.result ≡ true = cc in
-    let b : c.are_within-2.result ≡ true = cc in
-    (rows-fit gen.row.W gen.met.W.Width.light, (few, (size, (c.requires.narrow.entries, (c.are_within.ensures.within a, (c.are_within-2.ensures.within b, omega arith))))))
+    let tl : c.negative-less.result ≡ neg_ℤ c.args.c = c.negative-less.ensures.value in
+    let tt1 : c.twice_of-twice_less.result ≡ neg_ℤ c.args.c +ℤ neg_ℤ c.args.c = c.twice_of-twice_less.ensures.value ∙ ap (λ x. x +ℤ x) tl in
+    let tw : c.twice_of-twice.result ≡ c.args.c +ℤ c.args.c = c.twice_of-twice.ensures.value in
+    let z1 : c.zero.result ≡ pos 0 = c.zero.ensures.value in
+    let z2 : c.zero-2.result ≡ pos 0 = c.zero-2.ensures.value in
+    let a : c.are_limited.result ≡ true = cc in
+    let b : c.are_limited-2.result ≡ true = cc in
+    let all : AreEntries gen.W.Width.unit (2 ^ 70) c.args.entries.now = λ k. entry-more gen.W.Width.unit gen.W.Width.positive (2 ^ 64) (2 ^ 70) (at gen.W.Width.unit c.args.entries.now k) (omega arith) (closed-entries gen.W.Width.unit gen.W.Width.positive c.args.kinds.now c.args.entries.now c.requires.narrow c.requires.closed k) in
+    let node : AreEntries gen.W.Width.unit (2 ^ 70) c.whole_row-node.result = row-is_entry gen.W.Width.unit gen.W.Width.positive (2 ^ 70) (2 * length c.args.kinds.now) c.args.entries.now c.whole_row-node.result c.args.y all c.whole_row-node.ensures.entries c.whole_row-node.ensures.beyond in
+    let behind : AreEntries gen.W.Width.unit (2 ^ 70) c.whole_row-behind.result = row-is_entry gen.W.Width.unit gen.W.Width.positive (2 ^ 70) (2 * length c.args.kinds.now) c.args.entries.now c.whole_row-behind.result c.other_sign-other.result all c.whole_row-behind.ensures.entries c.whole_row-behind.ensures.beyond in
+    let first : AreEntries gen.W.Width.unit (2 * gen.W.Width.unit) c.stood_row-first.result = by_checked (AreEntries gen.W.Width.unit (2 * gen.W.Width.unit) c.stood_row-first.result) gen.W.Width.checked
+    (λ e. c.are_limited.ensures.within e a)
+    (λ e k.
+    let big : 2 ^ 103 ≤ gen.W.Width.unit = gen.W.Width.roomy e in
+    let p : IsWithin (2 ^ 70) (Some c.args.c) = c.requires.small e in
+    let lo : neg_ℤ (pos (2 ^ 70)) ≤ℤ c.args.c = p.0 in
+    let hi : c.args.c ≤ℤ pos (2 ^ 70) = p.1 in
+    entry-more gen.W.Width.unit gen.W.Width.positive (3 * 2 ^ 70) (2 * gen.W.Width.unit) (at gen.W.Width.unit c.stood_row-first.result k) (omega arith)
+    (c.stood_row-first.ensures.small (2 ^ 70) (omega arith) node (inr (omega (arith, ints), omega (arith, ints))) (inr (omega (arith, ints), omega (arith, ints))) (inr (omega (arith, ints), omega (arith, ints))) k)) in
+    let second : AreEntries gen.W.Width.unit (2 * gen.W.Width.unit) c.stood_row-second.result = by_checked (AreEntries gen.W.Width.unit (2 * gen.W.Width.unit) c.stood_row-second.result) gen.W.Width.checked
+    (λ e. c.are_limited-2.ensures.within e b)
+    (λ e k.
+    let big : 2 ^ 103 ≤ gen.W.Width.unit = gen.W.Width.roomy e in
+    let p : IsWithin (2 ^ 70) (Some c.args.c) = c.requires.small e in
+    let lo : neg_ℤ (pos (2 ^ 70)) ≤ℤ c.args.c = p.0 in
+    let hi : c.args.c ≤ℤ pos (2 ^ 70) = p.1 in
+    entry-more gen.W.Width.unit gen.W.Width.positive (3 * 2 ^ 70) (2 * gen.W.Width.unit) (at gen.W.Width.unit c.stood_row-second.result k) (omega arith)
+    (c.stood_row-second.ensures.small (2 ^ 70) (omega arith) behind (inr (omega (arith, ints), omega (arith, ints))) (inr (omega (arith, ints), omega (arith, ints))) (inr (omega (arith, ints), omega (arith, ints))) k)) in
+    (rows-fit gen.row.W gen.met.W.Width.light, (few, (size, (c.requires.narrow.entries, (first, (second, omega arith))))))
 
 pub returns : goal.returns
 returns gen c =
@@ -123,4 +152,5 @@ returns gen c =
             (stood-coherent gen.W.Width.unit gen.W.Width.positive (entry (held gen.W.Width.unit c.args.kinds.now c.args.entries.now)) (length c.args.kinds.now) c.args.q c.args.y c.args.c c.requires.node (entry-coherent (held gen.W.Width.unit c.args.kinds.now c.args.entries.now) c.requires.narrow.matrix)) c.requires.slot pf ps (entry (held gen.W.Width.unit c.args.kinds.now c.args.entries.now)) i j (at gen.W.Width.unit c.args.entries.now (row_start i + j)) hi hj
             (sym (held-kept gen.W.Width.unit gen.W.Width.positive c.args.kinds.now c.args.entries.now i j w)) (stood-rest (entry (held gen.W.Width.unit c.args.kinds.now c.args.entries.now)) c.args.q c.args.y c.args.c i j));
       };
+      total = λ e. no_true e;
     }

@@ -56,3 +56,17 @@ returns-clause-entries gen c =
     (entry-more gen.W.Width.unit gen.W.Width.positive (4 * gen.W.Width.unit + 2 * gen.W.Width.unit) (6 * gen.W.Width.unit) _ (omega arith)
     (settle-sum gen.W.Width.unit gen.W.Width.positive (4 * gen.W.Width.unit) (2 * gen.W.Width.unit) c.args.second (at gen.W.Width.unit c.args.row.now c.other_sign-other.result) (omega (arith, gen.W.Width.positive)) c.requires.second (c.requires.row c.other_sign-other.result))) in
     set-entries gen.W.Width.unit gen.W.Width.positive (6 * gen.W.Width.unit) _ (2 * c.args.q + 1) _ (set-entries gen.W.Width.unit gen.W.Width.positive (6 * gen.W.Width.unit) c.stepped-stood.result (2 * c.args.q) _ all a) b
+
+pub returns-clause-small : goal.returns-clause-small
+returns-clause-small gen c = λ b l pr pf ps po.
+    let rn : c.read-node.result ≡ at gen.W.Width.unit c.args.row.now c.args.y = c.read-node.ensures.value in
+    let rb : c.read-behind.result ≡ at gen.W.Width.unit c.args.row.now c.other_sign-other.result = c.read-behind.ensures.value in
+    let all : AreEntries gen.W.Width.unit (3 * b) c.stepped-stood.result =
+    λ k. entry-more gen.W.Width.unit gen.W.Width.positive (2 * b + b) (3 * b) (at gen.W.Width.unit c.stepped-stood.result k) (omega arith) (c.stepped-stood.ensures.entries (2 * b) b (omega arith) po pr k) in
+    let here : IsEntry gen.W.Width.unit (3 * b) c.plus-here.result = subst (IsEntry gen.W.Width.unit (3 * b)) (sym (c.plus-here.ensures.sum ∙ ap (λ s. settle gen.W.Width.unit (c.args.first +ℤ s)) rn))
+    (entry-more gen.W.Width.unit gen.W.Width.positive (2 * b + b) (3 * b) _ (omega arith)
+    (settle-sum gen.W.Width.unit gen.W.Width.positive (2 * b) b c.args.first (at gen.W.Width.unit c.args.row.now c.args.y) (omega arith) pf (pr c.args.y))) in
+    let there : IsEntry gen.W.Width.unit (3 * b) c.plus-there.result = subst (IsEntry gen.W.Width.unit (3 * b)) (sym (c.plus-there.ensures.sum ∙ ap (λ s. settle gen.W.Width.unit (c.args.second +ℤ s)) rb))
+    (entry-more gen.W.Width.unit gen.W.Width.positive (2 * b + b) (3 * b) _ (omega arith)
+    (settle-sum gen.W.Width.unit gen.W.Width.positive (2 * b) b c.args.second (at gen.W.Width.unit c.args.row.now c.other_sign-other.result) (omega arith) ps (pr c.other_sign-other.result))) in
+    set-entries gen.W.Width.unit gen.W.Width.positive (3 * b) _ (2 * c.args.q + 1) _ (set-entries gen.W.Width.unit gen.W.Width.positive (3 * b) c.stepped-stood.result (2 * c.args.q) _ all here) there

@@ -58,6 +58,7 @@ returns-then-stand_by gen c =
     let p : HasEntries c.list.result.now (stood_entry (entry (held gen.W.Width.unit c.list.result.now c.as_mut_slice.result.now)) c.args.q c.args.y c.args.c) (held gen.W.Width.unit c.list.result.now c.stand_by.new.entries) =
     stands-entries gen.W.Width.unit gen.W.Width.positive c.list.result.now c.as_mut_slice.result.now c.stand_by.new.entries c.args.q c.args.y c.args.c t hy c.stand_by.auto.entries st in
     record {
+      total = tt;
       stood = subst (HasEntries c.args.closed.now.kinds (stood_entry (entry c.args.closed.now) c.args.q c.args.y c.args.c)) r
           (subst (λ (m : HalfMatrix). HasEntries m.kinds (stood_entry (entry m) c.args.q c.args.y c.args.c) (held gen.W.Width.unit c.list.result.now c.stand_by.new.entries)) e p);
     }

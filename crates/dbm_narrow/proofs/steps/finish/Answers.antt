@@ -52,5 +52,5 @@ returns gen c =
     let behind : AreEntries gen.W.Width.unit gen.W.Width.unit c.flipped-behind.result = flipped-is_entry gen.W.Width.unit gen.W.Width.positive gen.W.Width.unit (2 * length c.args.kinds.now) c.halves_of-halves.result c.flipped-behind.result c.halves_of-halves.ensures.entries c.flipped-behind.ensures.flipped c.flipped-behind.ensures.beyond in
     record {
       finish = finishes gen.W.Width.unit gen.W.Width.positive c.args.kinds.now c.args.entries.now c.strengthen_rows.new.entries c.halves_of-halves.result c.flipped-behind.result c.halves_of-halves.ensures.entries behind c.strengthen_rows.ensures.entries c.flipped-behind.ensures.flipped
-          c.strengthen_rows.ensures.kept c.requires.narrow.matrix c.strengthen_rows.auto.entries c.halves_of-halves.ensures.halves c.if-has_negative_halves.ensures.negative c.last_steps.result c.last_steps.ensures.last;
+          c.strengthen_rows.ensures.kept c.last_steps.new.entries c.last_steps.ensures.cut c.requires.narrow.matrix c.strengthen_rows.auto.entries c.halves_of-halves.ensures.halves c.if-has_negative_halves.ensures.negative c.last_steps.result c.last_steps.ensures.last;
     }

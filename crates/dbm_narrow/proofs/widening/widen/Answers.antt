@@ -51,6 +51,7 @@ returns-then-raise_rows gen c =
     λ i j hi wj. subst (λ (v : List ℤ). IsWidened gen.W.Width.unit c.args.thresholds.now (is_single i j) (at gen.W.Width.unit v (row_start i + j)) (at gen.W.Width.unit c.right.inside.entries.items (row_start i + j)) (at gen.W.Width.unit c.raise_rows.new.entries (row_start i + j))) x
     (subst (λ (v : List ℤ). IsWidened gen.W.Width.unit c.args.thresholds.now (is_single i j) (at gen.W.Width.unit c.as_mut_slice.result.now (row_start i + j)) (at gen.W.Width.unit v (row_start i + j)) (at gen.W.Width.unit c.raise_rows.new.entries (row_start i + j))) o (c.raise_rows.ensures.kept true_is i j (omega arith) wj)) in
     record {
+      total = tt;
       widens = subst (λ (a : HalfMatrix). HasEntries a.kinds (widened c.args.thresholds.now a c.args.right.now) (held gen.W.Width.unit c.in_ok-kinds.kinds (with_items c.in_ok-entries.entries c.raise_rows.new.entries).items)) c.left.view_is
           (subst (λ (b : HalfMatrix). HasEntries c.left.inside.kinds (widened c.args.thresholds.now (held gen.W.Width.unit c.left.inside.kinds c.left.inside.entries.items) b) (held gen.W.Width.unit c.in_ok-kinds.kinds (with_items c.in_ok-entries.entries c.raise_rows.new.entries).items)) c.right.view_is
           (subst (λ (k : List Bool). HasEntries c.left.inside.kinds (widened c.args.thresholds.now (held gen.W.Width.unit c.left.inside.kinds c.left.inside.entries.items) (held gen.W.Width.unit c.right.inside.kinds c.right.inside.entries.items)) (held gen.W.Width.unit k (with_items c.in_ok-entries.entries c.raise_rows.new.entries).items)) (sym k)
