@@ -1,5 +1,6 @@
 pub mod Forms
 pub mod SameKinds
+pub mod TaskLemmas
 pub mod Tight
 pub mod TransitiveLemmas
 pub mod WideningLemmas

@@ -1,8 +1,8 @@
 -- Widenings of matrices: thresholds have 64 bits, so that no bound leaves the wide form.
-use Rattle.std.specs.Prelude.{◌≡◌, ℕ, ◌<◌, ◌≤◌, ◌^◌, ℤ, pos, neg_ℤ, ◌≤ℤ◌, ◌<ℤ◌, int_lt, Option, Some, None, Bool, true, false, cond, List, [], ◌∷◌}
+use Rattle.std.specs.Prelude.{◌≡◌, ℕ, ◌≤◌, ◌^◌, ℤ, pos, neg_ℤ, ◌≤ℤ◌, ◌<ℤ◌, int_lt, Option, Some, None, Bool, true, false, cond, List, [], ◌∷◌}
 use Rattle.std.proofs.Common.{arith, suc}
 use Rattle.std.proofs.lemmas.Int.{ints}
-use Rattle.dbm_core.proofs.LimitLemmas.{AreWithin-entries, IsLimited-entries, IsLimited-of, widened-diagonal}
+use Rattle.dbm_core.proofs.LimitLemmas.{IsLimited-entries, IsLimited-of, widened-diagonal}
 use Rattle.dbm_core.proofs.WeightLemmas.{least-cases}
 use Rattle.dbm_core.specs.Half.{HalfMatrix, HasEntries, entry, nodes}
 use Rattle.dbm_core.specs.Limits.{AreWithin, IsLimited, IsWithin}
@@ -38,11 +38,7 @@ module _ (b : ℕ) (room : 2 ^ 64 ≤ b) where
   entries-within : (ms : List ℤ) (a c : HalfMatrix) → AreWords ms → AreWithin (nodes a) b (entry a) → AreWithin (nodes a) b (widened ms a c)
   entries-within ms a c h w i j hi hj = widen_bound-within ms (is_single i j) (entry a i j) (entry c i j) h (w i j hi hj)
 
-  -- a widened matrix lies within what the left one does
-  pub widened_within : (ms : List ℤ) (a c m : HalfMatrix) → AreWords ms → AreWithin (nodes a) b (entry a) → HasEntries a.kinds (widened ms a c) m → AreWithin (nodes m) b (entry m)
-  widened_within ms a c m h w e = AreWithin-entries a.kinds (widened ms a c) m b e (entries-within ms a c h w)
-
--- and the limits of states are kept
+-- the limits of states are kept
 pub widened_limited : (ms : List ℤ) (a c m : HalfMatrix) → AreWords ms → c.kinds ≡ a.kinds → HasEntries a.kinds (widened ms a c) m → IsLimited (2 ^ 64) a → IsLimited (2 ^ 64) c → IsLimited (2 ^ 64) m
 widened_limited ms a c m h k e p q = IsLimited-entries a.kinds (widened ms a c) m (2 ^ 64) (widened-diagonal ms a c (nodes a) p.diagonal (IsLimited-of a.kinds (2 ^ 64) c k q).0)
     (entries-within (2 ^ 64) (omega arith) ms a c h p.within) e

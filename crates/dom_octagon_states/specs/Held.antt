@@ -2,11 +2,6 @@
 use Rattle.std.specs.Prelude.{◌^◌, Option, Some, None}
 use Rattle.dbm_core.specs.Half.{HalfMatrix, entry, nodes}
 use Rattle.dbm_core.specs.Limits.{AreWithin}
-use Rattle.dbm_close.specs.declared.closed.Closed.{Closed}
-use Rattle.dbm_close.specs.declared.closed.Closed.TheVariants as closed
-use Rattle.dbm_incremental.specs.ClosedMatrices.{IsClosed}
-use Rattle.dbm_narrow.specs.declared.closed.Closing.{Closing}
-use Rattle.dbm_narrow.specs.declared.closed.Closing.TheVariants.{Empty, Matrix, TooWide}
 use Rattle.dom_octagon_states.specs.declared.bounds.Held.{Held}
 use Rattle.dom_octagon_states.specs.declared.bounds.Held.TheVariants.{Large, Small}
 
@@ -19,18 +14,6 @@ matrix_held (Large m) = m.value
 abbrev pub IsHeld : Held → Type 0
 IsHeld (Small n) = Unit {0}
 IsHeld (Large m) = AreWithin (nodes m.value) (2 ^ 25) (entry m.value) → ⊥
-
--- what closing a narrow matrix answers, where it fits
-abbrev pub closed_if : {W : Type 0} → Closing W → Option Closed
-closed_if Empty = Some closed.Empty
-closed_if (Matrix n) = Some (closed.Matrix n)
-closed_if TooWide = None
-
--- the matrix that it answers is closed
-abbrev pub IsClosedIf : {W : Type 0} → Closing W → Type 0
-IsClosedIf Empty = Unit {0}
-IsClosedIf (Matrix n) = IsClosed n
-IsClosedIf TooWide = Unit {0}
 
 -- the matrix, if there is one, fits the narrow form
 abbrev pub IsSmallIf : Option HalfMatrix → Type 0

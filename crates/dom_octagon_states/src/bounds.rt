@@ -1,20 +1,24 @@
 //! The matrices of states, narrow wherever they fit.
-ghost use Rattle.std.specs.Prelude.{◌≡◌, ◌<◌, ◌^◌, IfOk};
+ghost use Rattle.std.specs.Prelude.{◌≡◌, ◌<◌, ◌^◌, true, IfOk};
 ghost use Rattle.dbm_core.specs.Half.{IsMatrix, entry, nodes};
 ghost use Rattle.dbm_core.specs.Limits.{AreWithin};
+ghost use Rattle.dbm_close.specs.declared.closed.Closed.TheVariants as closed;
+ghost use Rattle.dbm_incremental.specs.ClosedMatrices.{IsClosed, IsWhole};
+ghost use Rattle.dbm_incremental.specs.Steps.{AreBounds, ClosesAllLowered};
 ghost use Rattle.dbm_core.specs.Same.{same_matrix, same_matrix-equiv, same_matrix-hash};
 ghost use Rattle.dbm_narrow.specs.Feeding.{matrix_fed};
 ghost use Rattle.std.specs.Cmp.{partial_equiv_from_equiv};
 
 use base_values::Memory;
 use dbm_core::Matrix;
+use dbm_incremental::Bound;
 use dbm_narrow::{Narrow, narrowed, refitted, widened};
 use std::alloc::Global;
 use std::hash::{Hash, Hasher};
 use std::marker::Model;
 use std::rc::Rc;
 
-/// Bounds on the values of at most 16 slots: a matrix of `dbm_core` whose bounds lie from -2^70 to 2^70,
+/// Bounds on the values of at most 16 slots: a matrix of `dbm_core` whose bounds lie from -2^104 to 2^104,
 /// in four bytes an entry where all bounds fit these, else in sixteen. Copies share the entries.
 #[derive(Drop)]
 pub struct Bounds {
@@ -26,7 +30,7 @@ pub struct Bounds {
 pub enum Held {
     /// Each bound lies from -2^25 to 2^25.
     Small(Rc<Narrow<i32>>),
-    /// Some bound does not; each lies from -2^70 to 2^70.
+    /// Some bound does not; each lies from -2^104 to 2^104.
     Large(Rc<Narrow<i128>>),
 }
 
@@ -121,6 +125,21 @@ impl Bounds {
                     held: Held::Large(matrix),
                 })
             }
+        }
+    }
+
+    /// Whether a closed matrix that obeys the triangle law has each of the bounds anyway: closing it with
+    /// them gives it again.
+    pub fn meets(&self, bounds: &[Bound]) -> bool
+        requires bounds { AreBounds (nodes self.now) bounds.now }
+        requires closed { IsClosed self.now }
+        requires whole { IsWhole self.now }
+        ensures met { result ≡ true
+            → ClosesAllLowered self.now bounds.now (closed.Matrix self.now) }
+    {
+        match &self.held {
+            Held::Small(narrow) => dbm_narrow::meets(narrow.as_ref(), bounds),
+            Held::Large(wide) => dbm_narrow::meets(wide.as_ref(), bounds),
         }
     }
 }

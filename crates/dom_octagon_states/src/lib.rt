@@ -17,6 +17,7 @@ mod joins;
 mod kept;
 mod operations;
 mod state;
+mod tasks;
 mod transitive;
 
 pub use bounds::{Bounds, bounds_of, matrix_of_bounds};

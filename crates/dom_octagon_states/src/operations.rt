@@ -9,7 +9,7 @@ ghost use Rattle.dbm_narrow.specs.Widenings.{WidensIf};
 ghost use Rattle.dom_octagon_states.specs.Held.{IsSmallIf};
 ghost use Rattle.dom_octagon_states.specs.Limits.{AreWords, IsInLimits};
 
-use crate::bounds::{Bounds, Held, bounds_of, hold, large, small};
+use crate::bounds::{Bounds, Held, hold, large, small};
 use crate::transitive::is_transitive;
 use base_values::Memory;
 use dbm_narrow::Narrow;
@@ -115,7 +115,7 @@ fn widen_small(
     }
 }
 
-// The same of wide matrices.
+// The same of wide matrices, which each threshold fits.
 fn widen_large(
     alloc: Global,
     thresholds: &[i64],
@@ -129,26 +129,8 @@ fn widen_large(
     words(thresholds);
     match dbm_narrow::widen(alloc, thresholds, a, b)? {
         Some(widening) => hold(alloc, widening),
-        None => widen_wide(alloc, thresholds, a, b),
+        None => unreachable!(),
     }
-}
-
-// The same by the entries of `dbm_core`.
-fn widen_wide(
-    alloc: Global,
-    thresholds: &[i64],
-    a: &Narrow<i128>,
-    b: &Narrow<i128>,
-) -> Result<Bounds, Memory>
-    requires words { AreWords thresholds.now }
-    requires same_kinds { b.now.kinds ≡ a.now.kinds }
-    ensures entries { IfOk result (HasEntries a.now.kinds (widened thresholds.now a.now b.now)) }
-    ensures limited { IsInLimits a.now → IsInLimits b.now → IfOk result IsInLimits }
-{
-    let _kinds = a.kinds();
-    let left = dbm_narrow::widened(alloc, a)?;
-    let right = dbm_narrow::widened(alloc, b)?;
-    bounds_of(alloc, left.widen(alloc, thresholds, &right)?)
 }
 
 // Thresholds are numbers of 64 bits: there is nothing to do.

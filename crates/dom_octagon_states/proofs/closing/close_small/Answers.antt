@@ -1,13 +1,22 @@
-use Rattle.std.specs.Prelude.{◌≡◌}
-use Rattle.dbm_close.specs.CloseOf.{close_of}
-use Rattle.dom_octagon_states.proofs.Forms.{answered_is, closing_closed, closing_is}
+use Rattle.std.proofs.Common.{ap, subst, sym, ◌∙◌}
+use Rattle.dbm_close.specs.declared.closed.Closed.TheVariants as closed
+use Rattle.dbm_core.specs.Half.{HalfMatrix}
+use Rattle.dbm_incremental.specs.ClosedMatrices.{IsClosed}
+use Rattle.dom_octagon_states.specs.Tasks.{CanDo, Does, DoesIf}
 use Rattle.dom_octagon_states.proofs.closing.close_small.Goals as goal
 
-pub answered_small-requires : goal.answered_small-requires
-answered_small-requires c = record { closed = closing_closed c.args.m.now c.in_ok-close.field-0 c.kinds-kinds.ensures.matrix c.requires.ready.diagonal c.in_ok-close.ensures.closing }
+pub returns-in-Empty : goal.returns-in-Empty
+returns-in-Empty c = record { does = subst (Does c.args.m.now c.args.task) (sym c.empty.ensures.exact) (subst (DoesIf c.args.m.now c.args.task) c.in-Empty.is c.in_ok-close_by.ensures.does) }
 
-pub returns : goal.returns
-returns c = record {
-  exact = answered_is c.answered_small.result c.in_ok-close.field-0 (λ s. s ≡ close_of c.args.m.now) c.answered_small.ensures.exact
-      (closing_is c.args.m.now c.in_ok-close.field-0 c.in_ok-close.ensures.closing);
-}
+pub bounded-requires : goal.bounded-requires
+bounded-requires c =
+    let h : Does c.args.m.now c.args.task (closed.Matrix c.in-Matrix.closed) × IsClosed c.in-Matrix.closed = subst (DoesIf c.args.m.now c.args.task) c.in-Matrix.is c.in_ok-close_by.ensures.does in
+    record { closed = subst IsClosed (sym c.in_ok-small-in-Matrix.ensures.same) h.1 }
+
+pub returns-in_ok-small-in-Matrix : goal.returns-in_ok-small-in-Matrix
+returns-in_ok-small-in-Matrix c =
+    let h : Does c.args.m.now c.args.task (closed.Matrix c.in-Matrix.closed) × IsClosed c.in-Matrix.closed = subst (DoesIf c.args.m.now c.args.task) c.in-Matrix.is c.in_ok-close_by.ensures.does in
+    record { does = subst (Does c.args.m.now c.args.task) (sym (c.bounded.ensures.exact ∙ ap closed.Matrix c.in_ok-small-in-Matrix.ensures.same)) h.0 }
+
+pub close_large-requires : goal.close_large-requires
+close_large-requires c = record { can = subst (λ (m : HalfMatrix). CanDo m c.args.task) (sym c.in_ok-large-in-TooWide.ensures.same) c.requires.can }

@@ -1,5 +1,0 @@
-use Rattle.dom_octagon_states.proofs.Forms.{closing_closed}
-use Rattle.dom_octagon_states.proofs.closing.whole_large.Goals as goal
-
-pub answered_large-requires : goal.answered_large-requires
-answered_large-requires c = record { closed = closing_closed c.args.m.now c.in_ok-close_whole.field-0 c.kinds-kinds.ensures.matrix c.requires.ready.diagonal c.in_ok-close_whole.ensures.closing }
