@@ -1,11 +1,12 @@
 //! Runs that a text tells of: blocks of lines, an empty line after each. The first byte of a line says what it is: `#` a
 //! remark, `$` the words, `:` a line of the source `f`, `%` a line of the certificate `c`, `>` a line of the script and
 //! `~` a last one without its end, `<` a line that is to be written, `?` the status to end with, 0 where none is told.
-//! What it holds stands after a space; `%` alone says that there is a certificate, of which other lines tell.
+//! What it holds stands after a space; `%` alone says that there is a certificate, of which other lines tell. Any other
+//! line is an error.
 use crate::served::{MOST, status_of};
 use io_edge::{FaultPlan, MemFiles, MemSink, MemSource, NamedFile};
 use std::alloc::Global;
-use std::io::Error;
+use std::io::{Error, ErrorKind};
 
 /// A run, and what is to come of it.
 #[derive(Drop)]
@@ -48,7 +49,8 @@ impl Row {
             [b'~', b' ', request @ ..] => self.script.extend_from_slice(request)?,
             [b'<', b' ', reply @ ..] => add_line(&mut self.wanted, reply)?,
             [b'?', b' ', status @ ..] => self.status.extend_from_slice(status)?,
-            _ => {}
+            [] | [b'#', ..] => {}
+            _ => return Err(Error::from(ErrorKind::InvalidData)),
         }
         Ok(())
     }
@@ -114,7 +116,7 @@ pub(crate) struct Outcome {
 }
 
 impl Outcome {
-    /// Counts a run of which something is told.
+    /// Counts a run, where words are told.
     fn count(&mut self, alloc: Global, row: &Row) -> Result<(), Error> {
         if row.words.is_empty() {
             return Ok(());
@@ -145,5 +147,6 @@ pub(crate) fn outcome_of(alloc: Global, text: &[u8]) -> Result<Outcome, Error> {
             row = Row::new(alloc);
         }
     }
+    outcome.count(alloc, &row)?;
     Ok(outcome)
 }

@@ -7,7 +7,7 @@ use io_edge::{
 use std::alloc::Global;
 use std::process::Abort;
 use std::test::Fail;
-use std::{fs, io};
+use std::fs::{self, File};
 
 fn named(alloc: Global, name: &str, bytes: &[u8]) -> Result<Vec<NamedFile>, Fail> {
     let file = NamedFile::new(String::from_str(alloc, name)?, bytes.to_vec(alloc)?);
@@ -111,14 +111,30 @@ fn real_files(rt: HostRuntime) -> Result<(), Fail> {
 }
 
 #[test]
-fn real_output(rt: HostRuntime) {
-    let mut sink = OutputSink::new(io::writer(&rt));
-    assert_eq!(rt; sink.write(b"hello\n"), Ok(6));
+fn real_output(rt: HostRuntime) -> Result<(), Fail> {
+    let name = "io_edge_output.txt";
+    let mut sink = OutputSink::new(File::create(&rt, name)?);
+    for piece in ["hello\n", "", "you\n"] {
+        assert_eq!(rt; sink.write(piece.as_bytes()), Ok(piece.len()));
+    }
+    drop(sink);
+    let written = fs::read(&rt, name)?;
+    fs::remove_file(&rt, name)?;
+    assert_eq!(rt; written.as_slice(), b"hello\nyou\n".as_slice());
+    Ok(())
 }
 
 #[test]
-fn real_input(rt: HostRuntime) {
-    let mut source = InputSource::new(rt.reader());
+fn real_input(rt: HostRuntime) -> Result<(), Fail> {
+    let name = "io_edge_input.txt";
+    fs::write(&rt, name, b"hello")?;
+    let mut source = InputSource::new(File::open(&rt, name)?);
     let mut buffer = [0u8; 4];
-    assert_eq!(rt; source.read(&mut buffer), Ok(0));
+    for wanted in ["hell", "o", ""] {
+        assert_eq!(rt; source.read(&mut buffer), Ok(wanted.len()));
+        assert_eq!(rt; &buffer[..wanted.len()], wanted.as_bytes());
+    }
+    drop(source);
+    fs::remove_file(&rt, name)?;
+    Ok(())
 }
