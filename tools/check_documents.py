@@ -3,10 +3,12 @@
 
 Each link leads to a file, and to a heading of it. Each name in backticks is declared somewhere: in a crate, a script,
 the protocol or the language; where a document says "`name` of `crate`", in that crate. Each row of docs/THEOREM.md, and
-each link that names clauses, names a function of that file with these clauses; a row is marked as a law exactly where
+each link that names clauses, names a function of that file that promises these clauses; a row is marked as a law exactly where
 its function takes no arguments. Each request of the protocol has an example. Each block of code is run, or is marked as
 one that is not. All documents together stay below a number of words; `--words` prints how many each has.
 """
+from __future__ import annotations
+
 import fnmatch
 import json
 import os
@@ -14,13 +16,16 @@ import re
 import sys
 from functools import cache
 from glob import glob
+from typing import Iterable, Iterator
 
 sys.dont_write_bytecode = True
 
 import crate_list
+import dependencies
 import draw_graph
 import run_sessions
-from kit import ROOT
+from clauses import clause_fault, law_fault
+from kit import ROOT, listed
 from tally import Tally
 
 MOST_WORDS = 13_000
@@ -44,19 +49,20 @@ OUTSIDE = """
 """.split()
 
 
-def read(path):
+@cache
+def read(path: str) -> str:
     with open(f"{ROOT}/{path}", encoding="utf-8") as text:
         return text.read()
 
 
 @cache
-def documents():
+def documents() -> tuple[str, ...]:
     """README, CONTRIBUTING, and what stands in docs/."""
     return tuple(run_sessions.all_documents())
 
 
 @cache
-def prose(document):
+def prose(document: str) -> list[tuple[int, str]]:
     """The lines of a document without its blocks of code, by their numbers."""
     found, is_inside = [], False
     for number, line in enumerate(read(document).split("\n"), 1):
@@ -67,7 +73,7 @@ def prose(document):
     return found
 
 
-def whole_prose(document):
+def whole_prose(document: str) -> str:
     """The same as one text, with each line's end as a space, so that what a line break parts is found."""
     return " ".join(line for _, line in prose(document))
 
@@ -89,14 +95,15 @@ TEXT = re.compile(r'"((?:[^"\\\n]|\\.)*)"')
 COMMENT = re.compile(r"(?m)//.*$|^\s*--.*$")
 
 
-def words_of(texts):
+def words_of(texts: Iterable[str]) -> set[str]:
     """All words of some texts."""
     return {word for text in texts for word in WORD.findall(text)} | {text.strip("- ") for text in texts}
 
 
-def declared(path):
+def declared(path: str) -> set[str]:
     """The names that a file declares, and the words of its texts."""
-    text, names = read(path), set()
+    text = read(path)
+    names: set[str] = set()
     if path.endswith((".rt", ".antt")):
         text = COMMENT.sub("", text)
         form = DECLARED_IN_RT if path.endswith(".rt") else DECLARED_IN_ANTT
@@ -108,9 +115,9 @@ def declared(path):
 
 
 @cache
-def files():
+def files() -> list[str]:
     """The files of the repository, without what is built."""
-    found = []
+    found: list[str] = []
     for folder, folders, names in os.walk(ROOT):
         folders[:] = [it for it in folders if it not in ("out", ".git", "__pycache__")]
         found += [os.path.relpath(f"{folder}/{it}", ROOT) for it in names]
@@ -118,18 +125,18 @@ def files():
 
 
 @cache
-def names_of(crate):
+def names_of(crate: str) -> set[str]:
     """The names that a crate declares."""
     folders = tuple(f"crates/{crate}/{it}/" for it in ("src", "specs", "proofs"))
     ours = [it for it in files() if it.startswith(folders) and it.endswith((".rt", ".antt"))]
-    return set().union(*map(declared, ours))
+    return {name for it in ours for name in declared(it)}
 
 
 @cache
-def known():
+def known() -> set[str]:
     """The names that are declared anywhere, with those of other programs."""
     names = set(OUTSIDE)
-    for crate in crate_list.crates():
+    for crate in listed():
         names |= names_of(crate) | {crate}
     for path in files():
         is_ours = path.startswith(("tools/", "editors/", "bench/")) and "/tests/" not in path
@@ -141,16 +148,16 @@ def known():
 
 # ---- links
 
-def slug(heading):
+def slug(heading: str) -> str:
     """The anchor of a heading."""
     return re.sub(r"[^\w\- ]", "", heading.strip().lower()).replace(" ", "-")
 
 
-def anchors(document):
+def anchors(document: str) -> set[str]:
     return {slug(line.lstrip("#")) for _, line in prose(document) if line.startswith("#")}
 
 
-def link_faults(document):
+def link_faults(document: str) -> Iterator[str]:
     """The links that lead nowhere."""
     for _, target in LINK.findall(whole_prose(document)):
         if re.match(r"\w+://", target):
@@ -165,7 +172,7 @@ def link_faults(document):
 
 # ---- names
 
-def is_path(document, word):
+def is_path(document: str, word: str) -> bool:
     """Whether a word is a file or folder: of the repository, beside the document, of a crate, or one that is made."""
     rest = word.rstrip("/")
     beside = os.path.dirname(document)
@@ -175,9 +182,9 @@ def is_path(document, word):
 
 
 @cache
-def made_files():
+def made_files() -> set[str]:
     """The files that the documents' sessions make."""
-    made = set()
+    made: set[str] = set()
     for document in documents():
         for begun, above, block in run_sessions.blocks(read(document)):
             told = run_sessions.commands(begun, block)
@@ -187,14 +194,14 @@ def made_files():
     return made
 
 
-def is_known(word):
+def is_known(word: str) -> bool:
     """Whether a word is declared. Short ones stand for values, as `n` or `at`, and so do those in capitals."""
     if len(word) < 3 or word.isupper() or "NAME" in word or word in known() or word.strip("-_") in known():
         return True
     return "-" in word and all(is_known(it) for it in word.split("-"))
 
 
-def unknown_in(document, span):
+def unknown_in(document: str, span: str) -> Iterator[str]:
     """What a span of code names that is not declared."""
     if span.startswith("{") and span.endswith("}"):
         span = re.sub(r'[^"\w]+', " ", span)
@@ -209,7 +216,7 @@ def unknown_in(document, span):
         yield from (it for it in WORD.findall(word) if not is_known(it))
 
 
-def name_faults(document):
+def name_faults(document: str) -> Iterator[str]:
     """The names in backticks that are declared nowhere."""
     for number, line in prose(document):
         for span in SPAN.findall(LINK.sub(lambda it: it[1], line)):
@@ -219,41 +226,21 @@ def name_faults(document):
     for block in re.findall(r"^```text\n(.*?)^```", read(document), re.M | re.S):
         yield from (f"{it} in a block" for it in re.findall(r"\b[a-z]+(?:_[a-z]+)+\b", block) if not is_known(it))
     for name, crate in OF_CRATE.findall(whole_prose(document)):
-        if crate in crate_list.crates() and name not in names_of(crate) | set(crate_list.crates()):
+        if crate in listed() and name not in names_of(crate) | set(listed()):
             yield f"`{name}` is not declared in `{crate}`"
 
 
 # ---- clauses
 
-def contracts(text, function):
-    """The contracts of the functions of a name in a text: what stands between the name and the body."""
-    for found in re.finditer(rf"\bfn {function}\b", text):
-        rest = text[found.end() :]
-        body = re.search(r"\n\s*\{(\}|\n)|^    [^\n]*;$", rest, re.M)
-        yield rest[: body.start()] if body else rest
-
-
-def clause_fault(text, function, clauses):
-    """What a text of code lacks of a function with clauses."""
-    found = list(contracts(text, function))
-    if not found:
-        return f"there is no function {function}"
-    for clause in clauses:
-        form = re.compile(rf"\b(?:ensures\*?|requires)\s+{clause}\b|\b{clause}\s*[=:]")
-        if not any(form.search(it) for it in found):
-            return f"{function} has no clause {clause}"
-    return ""
-
-
-def fault_in_file(path, function, clauses):
-    """The same of a file."""
+def fault_in_file(path: str, function: str, clauses: Iterable[str]) -> str:
+    """What a file lacks of a function that promises these clauses."""
     if not os.path.exists(f"{ROOT}/{path}"):
         return f"{path} is no file"
     fault = clause_fault(read(path), function, clauses)
     return f"{path}: {fault}" if fault else ""
 
 
-def clause_links(document):
+def clause_links(document: str) -> Iterator[tuple[str, str, list[str]]]:
     """The links of a document that name a function and its clauses."""
     for words, target in LINK.findall(whole_prose(document)):
         found = CLAUSES.match(words)
@@ -262,7 +249,7 @@ def clause_links(document):
             yield path, found[1], re.findall(r"\w+", found[2])
 
 
-def theorem_rows():
+def theorem_rows() -> Iterator[tuple[str, str, list[str], bool]]:
     """The rows of the claims: file, function, clauses, and whether it is marked as a law, as the row above where it
     goes on."""
     is_law = False
@@ -275,30 +262,25 @@ def theorem_rows():
             yield os.path.normpath(f"docs/{links[0][1]}"), functions[0], SPAN.findall(parts[2]), is_law
 
 
-def definitions_of(path):
+def definitions_of(path: str) -> Iterator[str]:
     """The files of definitions that a file's contracts name, without those of std and of types of code."""
     for crate, module in re.findall(r"^ghost use Rattle\.(\w+)\.specs\.((?:\w+\.)*\w+)\.\{", read(path), re.M):
         if crate != "std" and not module.startswith("declared."):
             yield f"crates/{crate}/specs/{module.replace('.', '/')}.antt"
 
 
-def unlisted_definitions():
+def unlisted_definitions() -> list[str]:
     """The definitions that the contract of `serve` names, and that docs/THEOREM.md has no link to."""
     links = {os.path.normpath(f"docs/{target}") for _, target in LINK.findall(whole_prose("docs/THEOREM.md"))}
     return sorted(set(definitions_of(SERVING)) - links)
 
 
-def law_fault(text, function, is_law):
-    """What is wrong with how a function is marked: a law takes no arguments, and nothing else takes none."""
-    takes_none = any(re.match(r"(?:<[^(]*>)?\(\)", it) for it in contracts(text, function))
-    return "" if takes_none == is_law else f"{function} is {'no' if is_law else 'a'} law"
-
-
 # ---- blocks, requests, words
 
-def block_faults(document):
+def block_faults(document: str) -> Iterator[str]:
     """The blocks of code that nothing runs and that are not marked so."""
-    opened, first = "", None
+    opened = ""
+    first: str | None = None
     for number, line in enumerate(read(document).split("\n"), 1):
         fence = FENCE.match(line)
         if fence and not opened:
@@ -314,18 +296,18 @@ def block_faults(document):
             yield f"{begun}: this block is no session and no file"
 
 
-def diagram_faults(text):
+def diagram_faults(text: str) -> Iterator[str]:
     """What the first diagram of a text says stands on what, and does not."""
-    known_crates = crate_list.crates()
-    diagram = re.search(r"^```text\n(.*?)^```", text, re.M | re.S)[1]
-    for chain in re.split(r"[;\n]", diagram):
+    known_crates = listed()
+    diagram = re.search(r"^```text\n(.*?)^```", text, re.M | re.S)
+    for chain in re.split(r"[;\n]", diagram[1] if diagram else ""):
         groups = [re.findall(r"\b[a-z]\w+", part) for part in chain.split(" > ")]
         for above, below in zip(groups, groups[1:]):
             on = known_crates.get(above[-1], ())
             yield from (f"{above[-1]} does not stand on {it}" for it in below if it not in on)
 
 
-def requests_shown():
+def requests_shown() -> Iterator[str]:
     """The requests that the protocol's sessions ask."""
     for begun, _, block in run_sessions.blocks(read("docs/PROTOCOL.md")):
         for command in run_sessions.commands(begun, block):
@@ -335,7 +317,7 @@ def requests_shown():
                     yield json.loads(found[1])["do"]
 
 
-def requests_told():
+def requests_told() -> Iterator[str]:
     """The requests of the protocol's table."""
     begin = next(i for i, (_, line) in enumerate(prose("docs/PROTOCOL.md")) if line.startswith("| `do` |"))
     for _, line in prose("docs/PROTOCOL.md")[begin + 2 :]:
@@ -344,22 +326,22 @@ def requests_told():
         yield from SPAN.findall(line.split("|")[1])
 
 
-def requests_read():
+def requests_read() -> list[str]:
     """The requests that are read."""
     return re.findall(r'^ +"(\w+)" => Some\(Verb::', read("crates/request_json/src/names.rt"), re.M)
 
 
-def word_count(text):
+def word_count(text: str) -> int:
     """The words of a text: what has a letter or a digit, without the targets of links."""
     return sum(bool(re.search(r"\w", it)) for it in re.sub(r"\]\([^)]*\)", "]", text).split())
 
 
-def note_all(tally, name, faults):
-    faults = list(faults)
-    tally.note(name, "\n    ".join(["", *faults]) if faults else "")
+def note_all(tally: Tally, name: str, faults: Iterable[str]) -> None:
+    found = list(faults)
+    tally.note(name, "\n    ".join(["", *found]) if found else "")
 
 
-def main(words):
+def main(words: list[str]) -> int:
     if words not in ([], ["--words"]):
         print("usage: check_documents.py [--words]", file=sys.stderr)
         return 2
@@ -382,7 +364,7 @@ def main(words):
     told = set(requests_told())
     tally.note("the requests are those that are read", " ".join(sorted(told ^ set(requests_read()))))
     tally.note("each request has an example", " ".join(sorted(told ^ set(requests_shown()))))
-    for name, fault in crate_list.faults():
+    for name, fault in (*crate_list.faults(), *dependencies.faults()):
         tally.note(name, fault)
     made = ((crate_list.DOCUMENT, crate_list.document), (draw_graph.DOCUMENT, draw_graph.drawing))
     for document, make in made:

@@ -4,13 +4,16 @@
 The layers stand below. Each crate of crates.txt is in one of them, and stands on crates of its own layer or of those
 before it. `--check` compares the list with what stands in the document, and writes nothing.
 """
+from __future__ import annotations
+
 import os
 import re
 import sys
+from typing import Iterator
 
 sys.dont_write_bytecode = True
 
-from kit import ROOT
+from kit import ROOT, listed
 from tally import Tally
 
 DOCUMENT = "docs/CRATES.md"
@@ -43,13 +46,13 @@ LAYERS = {
 SENTENCE = re.compile(r"(.+?[.])(?= [A-Z\[`(]|$)")
 
 
-def root_file(crate):
+def root_file(crate: str) -> str:
     """The crate's root, from the top of the repository."""
     library = f"crates/{crate}/src/lib.rt"
     return library if os.path.exists(f"{ROOT}/{library}") else f"crates/{crate}/src/main.rt"
 
 
-def first_sentence(crate):
+def first_sentence(crate: str) -> str:
     """The first sentence of the crate's page."""
     paragraph = []
     with open(f"{ROOT}/{root_file(crate)}") as lines:
@@ -62,23 +65,12 @@ def first_sentence(crate):
     return found[1] if found else text
 
 
-def crates():
-    """Each crate of crates.txt, with what it stands on."""
-    found = {}
-    with open(f"{ROOT}/crates.txt") as lines:
-        for line in lines:
-            name, colon, on = line.partition(":")
-            if colon and not line.startswith("#"):
-                found[name.split()[0]] = on.split()
-    return found
-
-
-def placed(layers):
+def placed(layers: dict[str, str]) -> dict[str, int]:
     """The place of each crate's layer."""
     return {crate: place for place, names in enumerate(layers.values()) for crate in names.split()}
 
 
-def document():
+def document() -> str:
     """The text of the list."""
     parts = [HEAD]
     for layer, names in LAYERS.items():
@@ -87,16 +79,16 @@ def document():
     return "".join(parts)
 
 
-def faults(layers=LAYERS):
+def faults(layers: dict[str, str] = LAYERS) -> Iterator[tuple[str, str]]:
     """What is wrong with the layers, by the name of what was checked."""
-    places, known = placed(layers), crates()
+    places, known = placed(layers), listed()
     odd = sorted(places.keys() ^ known.keys())
     yield "each crate is in one layer", f"these are not, or are no crates: {' '.join(odd)}" if odd else ""
     upward = [f"{it} on {on}" for it in known for on in known[it] if on in places and places[on] > places.get(it, 0)]
     yield "no crate stands on a later layer", ", ".join(upward)
 
 
-def main(words):
+def main(words: list[str]) -> int:
     if words not in ([], ["--check"]):
         print("usage: crate_list.py [--check]", file=sys.stderr)
         return 2

@@ -8,13 +8,16 @@ its status. A block after a paragraph that names a file in backticks and ends in
 begins with `$ `. Blocks between lines of three backticks are not run here.
 
 All sessions of a document run in one folder, where the document's files are, where `daig` is the program, and where
-`./daig` and `crates` are those of this repository.
+`./daig`, `crates` and `tools` are those of this repository.
 """
+from __future__ import annotations
+
 import os
 import re
 import subprocess
 import sys
 import tempfile
+from typing import Iterator
 
 sys.dont_write_bytecode = True
 
@@ -31,29 +34,38 @@ LIMIT = 120
 class Command:
     """A command of a session, with what it reads and what it is to write."""
 
-    def __init__(self, words, number):
-        self.words, self.number, self.lines, self.status = words, number, [], 0
+    def __init__(self, words: str, number: int) -> None:
+        self.words, self.number, self.status = words, number, 0
+        self.lines: list[str] = []
 
-    def fault(self, folder, path):
-        exchanges = [EXCHANGE.fullmatch(it) for it in self.lines]
-        is_exchange = bool(exchanges) and all(exchanges)
-        script = "".join(f"{it[1]}\n" for it in exchanges) if is_exchange else ""
-        wanted = "".join(f"{it[2] if is_exchange else line}\n" for it, line in zip(exchanges, self.lines))
+    def fault(self, folder: str, path: str) -> str:
+        """What it writes or ends with, where that is not what is told."""
         if self.words == ASKS_STATUS:
             return ""
-        how = {"cwd": folder, "input": script, "stdout": subprocess.PIPE, "text": True, "timeout": LIMIT}
+        script, wanted = self._exchanged()
+        words, environment = ["sh", "-c", self.words], {**os.environ, "PATH": path}
         try:
-            ran = subprocess.run(["sh", "-c", self.words], env={**os.environ, "PATH": path}, **how)
+            ran = subprocess.run(
+                words, cwd=folder, env=environment, input=script, stdout=subprocess.PIPE, text=True, timeout=LIMIT
+            )
         except subprocess.TimeoutExpired:
             return f"did not end within {LIMIT} seconds"
         if ran.returncode != self.status:
             return f"ended with {ran.returncode} in place of {self.status}"
         return "" if ran.stdout == wanted else f"wrote {shown(ran.stdout)} in place of {shown(wanted)}"
 
+    def _exchanged(self) -> tuple[str, str]:
+        """What it reads, and what it is to write."""
+        exchanges = [it for it in map(EXCHANGE.fullmatch, self.lines) if it]
+        if len(exchanges) < len(self.lines):
+            return "", "".join(f"{it}\n" for it in self.lines)
+        return "".join(f"{it[1]}\n" for it in exchanges), "".join(f"{it[2]}\n" for it in exchanges)
 
-def blocks(text):
+
+def blocks(text: str) -> Iterator[tuple[int, str, list[str]]]:
     """The indented blocks of a document: the number of the first line, the last line above, and the lines."""
-    above, block, begun, is_fenced = "", [], 0, False
+    above, begun, is_fenced = "", 0, False
+    block: list[str] = []
     for number, line in enumerate([*text.split("\n"), "end"], 1):
         is_fenced ^= line.startswith("```")
         if line.startswith(INDENT) and not is_fenced:
@@ -68,9 +80,9 @@ def blocks(text):
             block.append("")
 
 
-def commands(begun, block):
+def commands(begun: int, block: list[str]) -> list[Command]:
     """The commands of a session."""
-    found = []
+    found: list[Command] = []
     for number, line in enumerate(block, begun):
         if line.startswith("$ "):
             found.append(Command(line[2:], number))
@@ -82,12 +94,13 @@ def commands(begun, block):
     return found
 
 
-def run(document, program, tally):
+def run(document: str, program: str, tally: Tally) -> None:
     with open(f"{ROOT}/{document}") as text, tempfile.TemporaryDirectory(prefix="session-") as folder:
         os.mkdir(f"{folder}/bin")
         os.symlink(program, f"{folder}/bin/daig")
         os.symlink(program, f"{folder}/daig")
-        os.symlink(f"{ROOT}/crates", f"{folder}/crates")
+        for name in ("crates", "tools"):
+            os.symlink(f"{ROOT}/{name}", f"{folder}/{name}")
         path = f"{folder}/bin{os.pathsep}{os.environ['PATH']}"
         for begun, above, block in blocks(text.read()):
             found, named = commands(begun, block), FILE.search(above)
@@ -98,12 +111,12 @@ def run(document, program, tally):
                 tally.note(f"{document}:{it.number}: {it.words}", it.fault(folder, path))
 
 
-def all_documents():
+def all_documents() -> list[str]:
     """README, CONTRIBUTING, and what stands in docs/."""
     return ["README.md", "CONTRIBUTING.md", *sorted(f"docs/{it}" for it in os.listdir(f"{ROOT}/docs") if it.endswith(".md"))]
 
 
-def main(program, *documents):
+def main(program: str, *documents: str) -> int:
     tally, program = Tally(), os.path.abspath(program)
     for document in documents or all_documents():
         run(document, program, tally)
