@@ -4,8 +4,11 @@
 The cells, their inputs and the range of `i` in each stand below; what is emptied is all that depends on the edited
 statement's cell. `--check` compares the drawing with what stands in the document, and writes nothing.
 """
+from __future__ import annotations
+
 import sys
 from html import escape
+from typing import Iterable, NamedTuple
 
 sys.dont_write_bytecode = True
 
@@ -19,18 +22,21 @@ STEP, WIDTH, HEIGHT = 140, 114, 46
 LEFT, SPINE, BODY, DONE = 66, 268, 180, 92
 
 
-class Cell:
+class Cell(NamedTuple):
     """A cell: its name, what is known of `i`, its middle, and its inputs."""
 
-    def __init__(self, name, known, x, y, inputs):
-        self.name, self.known, self.x, self.y, self.inputs = name, known, x, y, inputs
+    name: str
+    known: str
+    x: float
+    y: float
+    inputs: tuple[str, ...]
 
 
-def spine(place):
+def spine(place: int) -> int:
     return LEFT + place * STEP
 
 
-def cells():
+def cells() -> list[Cell]:
     """All cells, each after its inputs."""
     found = [
         Cell("start", "i = 0", spine(0), SPINE, ()),
@@ -56,7 +62,7 @@ def cells():
     return found
 
 
-def emptied(all_cells):
+def emptied(all_cells: Iterable[Cell]) -> set[str]:
     """The names of the cells that the edit empties."""
     found = {EDITED}
     for cell in all_cells:
@@ -65,13 +71,13 @@ def emptied(all_cells):
     return found
 
 
-def way(*points):
+def way(*points: tuple[float, float]) -> str:
     """A line between two points, or a bow by way of a third one."""
     first, *others = (f"{x:.0f},{y:.0f}" for x, y in points)
     return f"M{first} {'L' if len(others) == 1 else 'Q'}{' '.join(others)}"
 
 
-def path_between(start, end):
+def path_between(start: Cell, end: Cell) -> str:
     """The way of an arrow: straight to a neighbour, and in a bow below the spine to one further on."""
     half, right = HEIGHT / 2, start.x + WIDTH / 2
     if start.y == end.y and end.x - start.x > STEP:
@@ -85,12 +91,12 @@ def path_between(start, end):
     return way((start.x + aside[0], start.y - half), (end.x + aside[1], end.y + half + 3))
 
 
-def text(x, y, words, kind, anchor="middle"):
+def text(x: float, y: float, words: str, kind: str, anchor: str = "middle") -> str:
     place = f'x="{x:.0f}" y="{y:.0f}" class="{kind}" text-anchor="{anchor}" xml:space="preserve"'
     return f"<text {place}>{escape(words)}</text>"
 
 
-def drawing():
+def drawing() -> str:
     """The whole picture."""
     all_cells = cells()
     gone, by_name = emptied(all_cells), {it.name: it for it in all_cells}
@@ -116,9 +122,9 @@ def drawing():
         parts += [f'<path class="arrow" d="{path_between(by_name[it], cell)}"/>' for it in cell.inputs]
     for cell in all_cells:
         kind = "gone" if cell.name in gone else "kept"
-        x, y = cell.x - WIDTH / 2, cell.y - HEIGHT / 2
+        left, top = cell.x - WIDTH / 2, cell.y - HEIGHT / 2
         parts += [
-            f'<rect x="{x:.0f}" y="{y:.0f}" width="{WIDTH}" height="{HEIGHT}" rx="5" class="{kind}"/>',
+            f'<rect x="{left:.0f}" y="{top:.0f}" width="{WIDTH}" height="{HEIGHT}" rx="5" class="{kind}"/>',
             text(cell.x, cell.y - 4, cell.name, "name"),
             text(cell.x, cell.y + 14, cell.known, "known"),
         ]
@@ -132,7 +138,7 @@ def drawing():
     return "\n".join([*parts, "</svg>", ""])
 
 
-def main(words):
+def main(words: list[str]) -> int:
     if words not in ([], ["--check"]):
         print("usage: draw_graph.py [--check]", file=sys.stderr)
         return 2

@@ -6,11 +6,14 @@ PREFIX is ~/.local where it is not said. What is put there needs the repository 
 server, the command that checks files where the repository has it, and their manual pages. A list of the files stands in
 PREFIX/lib/daig/installed; `--remove` takes away what it lists, and nothing else.
 """
+from __future__ import annotations
+
 import os
 import shlex
 import shutil
 import subprocess
 import sys
+from typing import Callable
 
 sys.dont_write_bytecode = True
 
@@ -31,11 +34,12 @@ exec python3 "$prefix/lib/daig/{script}" "$@"
 class Installation:
     """What is put below a prefix: each file is written apart and then renamed, so a running program stays whole."""
 
-    def __init__(self, prefix):
-        self.prefix, self.earlier, self.files = prefix, set(listed(prefix)), []
+    def __init__(self, prefix: str) -> None:
+        self.prefix, self.earlier = prefix, set(listed(prefix))
+        self.files: list[str] = []
         os.makedirs(f"{prefix}/{os.path.dirname(LIST)}", exist_ok=True)
 
-    def _place(self, path, write, mode):
+    def _place(self, path: str, write: Callable[[str], object], mode: int) -> None:
         full = f"{self.prefix}/{path}"
         if os.path.lexists(full) and path not in (*self.earlier, LIST):
             raise OSError(f"{full} is there already, and was not put there by this command")
@@ -49,17 +53,17 @@ class Installation:
         os.replace(f"{full}.new", full)
         self.files.append(path)
 
-    def copy(self, source, path, mode=0o644):
+    def copy(self, source: str, path: str, mode: int = 0o644) -> None:
         self._place(path, lambda it: shutil.copyfile(source, it), mode)
 
-    def write(self, text, path, mode=0o644):
-        def write(to):
+    def write(self, text: str, path: str, mode: int = 0o644) -> None:
+        def write(to: str) -> None:
             with open(to, "w") as out:
                 out.write(text)
 
         self._place(path, write, mode)
 
-    def copy_editor(self):
+    def copy_editor(self) -> None:
         """The editor's modules, without its tests."""
         for at, folders, names in os.walk(f"{ROOT}/editors"):
             folders[:] = sorted(it for it in folders if it not in ("tests", "__pycache__", "node_modules"))
@@ -68,21 +72,21 @@ class Installation:
                     source = f"{at}/{name}"
                     self.copy(source, f"lib/daig/{os.path.relpath(source, ROOT)}")
 
-    def command(self, name, script):
+    def command(self, name: str, script: str) -> None:
         self.write(WRAPPER.format(script=script), f"bin/{name}", 0o755)
         self.page(name)
 
-    def page(self, name):
+    def page(self, name: str) -> None:
         self.copy(f"{ROOT}/docs/man/{name}.1", f"share/man/man1/{name}.1")
 
-    def finish(self):
+    def finish(self) -> None:
         """Takes away what an earlier installation had and this one has not, and writes the list."""
         for path in self.earlier - set(self.files):
             remove_file(self.prefix, path)
         self.write("".join(f"{it}\n" for it in self.files), LIST)
 
 
-def listed(prefix):
+def listed(prefix: str) -> list[str]:
     """The files of an installation."""
     try:
         with open(f"{prefix}/{LIST}") as text:
@@ -91,7 +95,7 @@ def listed(prefix):
         return []
 
 
-def remove_file(prefix, path):
+def remove_file(prefix: str, path: str) -> None:
     """Removes a file, and the folders that are empty then."""
     full = os.path.normpath(f"{prefix}/{path}")
     if not full.startswith(f"{prefix}/"):
@@ -109,7 +113,7 @@ def remove_file(prefix, path):
         folder = os.path.dirname(folder)
 
 
-def built_program():
+def built_program() -> tuple[str, str]:
     """The program to put there, and what is to be said of it."""
     proved = places.fresh_program("proved")
     if proved:
@@ -121,7 +125,7 @@ def built_program():
     return made, "the program that was compiled without proofs (after ./prove, install once more)"
 
 
-def install(prefix):
+def install(prefix: str) -> int:
     program, words = built_program()
     if not program:
         return 1
@@ -142,7 +146,7 @@ def install(prefix):
     return 0
 
 
-def remove(prefix):
+def remove(prefix: str) -> int:
     files = listed(prefix)
     if not files:
         say(f"nothing is installed below {prefix}")
@@ -153,7 +157,7 @@ def remove(prefix):
     return 0
 
 
-def main(words):
+def main(words: list[str]) -> int:
     is_removal = "--remove" in words
     rest = [it for it in words if it != "--remove"]
     if len(rest) > 1 or any(it.startswith("-") for it in rest):

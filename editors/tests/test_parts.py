@@ -87,3 +87,10 @@ def test_changes_of_texts() -> None:
             made.append(change)
         found = text.changed(made)
         assert (found.data, found.starts) == (wanted.data, wanted.starts), (text, made)
+
+
+def test_defaults() -> None:
+    """The settings that stand where none are given."""
+    settings = read_options(None).settings
+    assert (settings.domain, settings.widening, settings.delay) == ("octagon+listseg", "thresholds", 0)
+    assert (settings.budget, settings.memory) == (100, 2048)

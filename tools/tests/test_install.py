@@ -5,11 +5,11 @@ import shutil
 from fake_kit import Scene
 
 
-def files_below(folder):
+def files_below(folder: str) -> list[str]:
     return sorted(os.path.relpath(f"{at}/{name}", folder) for at, _, names in os.walk(folder) for name in names)
 
 
-def test_what_is_installed_stands_alone():
+def test_what_is_installed_stands_alone() -> None:
     with Scene() as it:
         prefix = f"{it.room}/a prefix"
         ran = it.run(f"{it.checkout}/install", prefix)
@@ -34,13 +34,13 @@ def test_what_is_installed_stands_alone():
         assert ran.status == 0 and '"capabilities"' in ran.written, (ran.status, ran.written, ran.said)
 
 
-def test_the_home_folder_is_where_it_stands_by_default():
+def test_the_home_folder_is_where_it_stands_by_default() -> None:
     with Scene() as it:
         it.run(f"{it.checkout}/install")
         it.run(f"{it.home}/.local/bin/daig", "x").expect(0, "quick version 1 x\n")
 
 
-def test_it_is_taken_away_again():
+def test_it_is_taken_away_again() -> None:
     with Scene() as it:
         os.makedirs(f"{it.room}/prefix/bin")
         with open(f"{it.room}/prefix/bin/other", "w") as out:
@@ -54,7 +54,7 @@ def test_it_is_taken_away_again():
         it.run(f"{it.checkout}/install", "--remove", f"{it.room}/prefix").expect(1, "", "nothing is installed")
 
 
-def test_a_later_installation_takes_the_proved_program():
+def test_a_later_installation_takes_the_proved_program() -> None:
     with Scene() as it:
         it.run(f"{it.checkout}/install", f"{it.room}/prefix")
         it.run(f"{it.checkout}/prove")
@@ -63,7 +63,7 @@ def test_a_later_installation_takes_the_proved_program():
         it.run(f"{it.room}/prefix/bin/daig", "x").expect(0, "proved version 1 x\n")
 
 
-def test_what_others_put_there_is_not_overwritten():
+def test_what_others_put_there_is_not_overwritten() -> None:
     with Scene() as it:
         os.makedirs(f"{it.room}/prefix/bin")
         with open(f"{it.room}/prefix/bin/daig", "w") as out:
@@ -73,7 +73,7 @@ def test_what_others_put_there_is_not_overwritten():
             assert text.read() == "other"
 
 
-def test_words_that_it_does_not_take():
+def test_words_that_it_does_not_take() -> None:
     with Scene() as it:
         for words in (["--help"], ["a", "b"], ["--remove", "a", "b"]):
             it.run(f"{it.checkout}/install", *words).expect(2, "", "usage: install")

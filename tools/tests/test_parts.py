@@ -3,6 +3,7 @@ import os
 import shutil
 import subprocess
 import tempfile
+import unittest
 
 import kit
 import llvm_parts
@@ -58,20 +59,20 @@ attributes #2 = { nounwind }
 """
 
 
-def module(given=3):
+def module(given: int = 3) -> llvm_parts.Module:
     made = llvm_parts.Module(HEAD + CHECKED.replace("GIVEN", str(given)))
     made.drop_unreached()
     made.merge_equal()
     return made
 
 
-def test_what_is_not_reached_is_dropped_and_what_is_equal_is_merged():
+def test_what_is_not_reached_is_dropped_and_what_is_equal_is_merged() -> None:
     names = sorted(module().functions)
     assert names == ['"f::<#1>"', '"g::<#1>"', '"rattle-llvm-checks::Overflow"', "main"], names
     assert module().functions["main"].text.count('@"g::<#1>"') == 2
 
 
-def test_a_module_of_another_form_is_refused():
+def test_a_module_of_another_form_is_refused() -> None:
     for text in (HEAD, HEAD + "@shared = global i8 0\n" + CHECKED, "}\n}\n"):
         try:
             llvm_parts.Module(text)
@@ -80,7 +81,7 @@ def test_a_module_of_another_form_is_refused():
         raise AssertionError(f"was read: {text[-60:]!r}")
 
 
-def test_large_functions_stand_in_one_part_and_small_ones_where_they_are_called():
+def test_large_functions_stand_in_one_part_and_small_ones_where_they_are_called() -> None:
     small = llvm_parts.SMALL
     llvm_parts.SMALL = 60
     try:
@@ -94,7 +95,7 @@ def test_large_functions_stand_in_one_part_and_small_ones_where_they_are_called(
     assert sum("define i32 @main" in it for it in texts) == 1
 
 
-def compiled(folder, given):
+def compiled(folder: str, given: int) -> str:
     """The module as the kit's tools make it."""
     rattle, objects = kit.Kit.find(), []
     for number, part in enumerate(module(given).parts(2)):
@@ -109,9 +110,9 @@ def compiled(folder, given):
     return f"{folder}/out"
 
 
-def test_a_check_that_does_not_hold_ends_the_program_with_words_and_a_status_of_its_own():
+def test_a_check_that_does_not_hold_ends_the_program_with_words_and_a_status_of_its_own() -> None:
     if not shutil.which("rt"):
-        return "there is no kit"
+        raise unittest.SkipTest("there is no kit")
     with tempfile.TemporaryDirectory(prefix="parts-") as folder:
         ran = subprocess.run([compiled(folder, 3)], capture_output=True, text=True)
         assert (ran.returncode, ran.stdout, ran.stderr) == (0, "", ""), ran
