@@ -1,18 +1,21 @@
 #!/bin/sh
 # Where the built programs of a checkout stand, and which are fresh.
 #
-#     places.sh CHECKOUT proved|quick|folder
+#     places.sh CHECKOUT proved|quick|folder [CRATE]
 #
 # `proved` and `quick` write the program's path where it is there and fresh, and else end with 1; `folder` writes the
-# folder of the quick program. The same file is read by `daig`, which calls the functions.
+# folder of the quick programs. CRATE is `daig` where it is not said; of a crate without a program, `quick` is that of its
+# tests. The same file is read by `daig`, which calls the functions.
 #
 # A program is fresh where no source of the crates that it is made of is newer, nor crates.txt, and the kit is that of
 # which the line beside the program tells. The proved program is made of contracts, definitions and proofs too, and the
 # quick one of src/ alone: that is all that its compiler reads.
 
+crate=daig
+
 # The crates that the program is made of.
-crates_of_daig() {
-    awk -F: '
+crates_of_program() {
+    awk -F: -v crate="$crate" '
         !/^#/ { below[$1] = $2 }
         function add(name, many, names, i) {
             if (seen[name]++ || !(name in below)) return
@@ -20,7 +23,7 @@ crates_of_daig() {
             many = split(below[name], names, " ")
             for (i = 1; i <= many; i++) add(names[i])
         }
-        END { add("daig") }' "$checkout/crates.txt"
+        END { add(crate) }' "$checkout/crates.txt"
 }
 
 # Whether nothing in these parts of the crates is newer than the program: is_newest PROGRAM PART ..
@@ -30,9 +33,9 @@ is_newest() {
     shift
     parts=$*
     set -- "$checkout/crates.txt"
-    for crate in $(crates_of_daig); do
+    for below in $(crates_of_program); do
         for part in $parts; do
-            [ -d "$checkout/crates/$crate/$part" ] && set -- "$@" "$checkout/crates/$crate/$part"
+            [ -d "$checkout/crates/$below/$part" ] && set -- "$@" "$checkout/crates/$below/$part"
         done
     done
     newer=$(find "$@" \( -name '*.rt' -o -name '*.antt' -o -name crates.txt \) \
@@ -69,22 +72,22 @@ find_folder() {
 is_fresh() {
     case $1 in
     proved)
-        program=$checkout/crates/daig/out/daig
+        program=$checkout/crates/$crate/out/$crate
         is_newest "$program" src specs proofs && is_same_kit "$program"
         ;;
     quick)
-        program=$checkout/out/quick/daig
+        program=$checkout/out/quick/$crate
         is_newest "$program" src && is_same_kit "$program" && return
         find_folder
-        [ "$folder/daig" != "$program" ] || return 1
-        program=$folder/daig
+        [ "$folder/$crate" != "$program" ] || return 1
+        program=$folder/$crate
         is_newest "$program" src && is_same_kit "$program"
         ;;
     esac
 }
 
 if [ "${0##*/}" = places.sh ]; then
-    checkout=$1
+    checkout=$1 crate=${3:-daig}
     case $2 in
     folder) find_folder && printf '%s\n' "$folder" ;;
     proved | quick) is_fresh "$2" && printf '%s\n' "$program" ;;

@@ -1,4 +1,6 @@
 """The real kit on small programs: a whole build without proofs of one that does not prove, and a whole proof of one that does."""
+from __future__ import annotations
+
 import os
 import shutil
 import subprocess
@@ -47,7 +49,7 @@ fn main(rt: HostRuntime) -> io::Result<()> {
 """
 
 
-def checkout(folder, texts):
+def checkout(folder: str, texts: dict[str, str]) -> None:
     """A checkout of other crates: our commands and tools over these texts, by their paths."""
     for name in ("daig", "prove", "README.md"):
         shutil.copy(f"{kit.ROOT}/{name}", folder)
@@ -58,23 +60,24 @@ def checkout(folder, texts):
             out.write(text)
 
 
-def run(*words, **more):
-    return subprocess.run(words, capture_output=True, text=True, **more)
+def run(*words: str, given: str = "") -> subprocess.CompletedProcess[str]:
+    return subprocess.run(words, capture_output=True, text=True, input=given)
 
 
-def test_the_real_kit_builds_a_program_whose_broken_check_ends_it():
+def test_the_real_kit_builds_a_program_whose_broken_check_ends_it() -> str | None:
     if not shutil.which("rt"):
         return "there is no kit"
     with tempfile.TemporaryDirectory(prefix="real-") as folder:
         checkout(folder, {"crates.txt": "daig:\n", "crates/daig/src/main.rt": PROGRAM})
-        ran = run(f"{folder}/daig", input="four\n")
+        ran = run(f"{folder}/daig", given="four\n")
         assert (ran.returncode, ran.stdout) == (0, "204\n"), ran
-        ran = run(f"{folder}/daig", input="four\n" + "x" * 60 + "\n")
+        ran = run(f"{folder}/daig", given="four\n" + "x" * 60 + "\n")
         assert (ran.returncode, ran.stderr) == (llvm_parts.BROKEN_STATUS, llvm_parts.BROKEN_WORDS), ran
         assert "260" not in ran.stdout and "4\n" not in ran.stdout.replace("204\n", ""), ran
+    return None
 
 
-def test_the_real_kit_proves_a_program_which_then_runs_and_no_wrong_one():
+def test_the_real_kit_proves_a_program_which_then_runs_and_no_wrong_one() -> str | None:
     if not shutil.which("rt"):
         return "there is no kit"
     with tempfile.TemporaryDirectory(prefix="real-") as folder:
@@ -89,3 +92,4 @@ def test_the_real_kit_proves_a_program_which_then_runs_and_no_wrong_one():
             out.write(DOUBLED.replace("    number + number\n}", "    number + 1\n}"))
         ran = run(f"{folder}/prove", "--jobs", "2")
         assert ran.returncode == 1 and "not proved" in ran.stderr, ran
+    return None
