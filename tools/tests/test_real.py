@@ -5,6 +5,7 @@ import os
 import shutil
 import subprocess
 import tempfile
+import unittest
 
 import kit
 import llvm_parts
@@ -64,9 +65,9 @@ def run(*words: str, given: str = "") -> subprocess.CompletedProcess[str]:
     return subprocess.run(words, capture_output=True, text=True, input=given)
 
 
-def test_the_real_kit_builds_a_program_whose_broken_check_ends_it() -> str | None:
+def test_the_real_kit_builds_a_program_whose_broken_check_ends_it() -> None:
     if not shutil.which("rt"):
-        return "there is no kit"
+        raise unittest.SkipTest("there is no kit")
     with tempfile.TemporaryDirectory(prefix="real-") as folder:
         checkout(folder, {"crates.txt": "daig:\n", "crates/daig/src/main.rt": PROGRAM})
         ran = run(f"{folder}/daig", given="four\n")
@@ -74,12 +75,11 @@ def test_the_real_kit_builds_a_program_whose_broken_check_ends_it() -> str | Non
         ran = run(f"{folder}/daig", given="four\n" + "x" * 60 + "\n")
         assert (ran.returncode, ran.stderr) == (llvm_parts.BROKEN_STATUS, llvm_parts.BROKEN_WORDS), ran
         assert "260" not in ran.stdout and "4\n" not in ran.stdout.replace("204\n", ""), ran
-    return None
 
 
-def test_the_real_kit_proves_a_program_which_then_runs_and_no_wrong_one() -> str | None:
+def test_the_real_kit_proves_a_program_which_then_runs_and_no_wrong_one() -> None:
     if not shutil.which("rt"):
-        return "there is no kit"
+        raise unittest.SkipTest("there is no kit")
     with tempfile.TemporaryDirectory(prefix="real-") as folder:
         library = "crates/doubles/src/lib.rt"
         checkout(folder, {"crates.txt": "doubles:\ndaig: doubles\n", library: DOUBLED, "crates/daig/src/main.rt": TWICE})
@@ -92,4 +92,3 @@ def test_the_real_kit_proves_a_program_which_then_runs_and_no_wrong_one() -> str
             out.write(DOUBLED.replace("    number + number\n}", "    number + 1\n}"))
         ran = run(f"{folder}/prove", "--jobs", "2")
         assert ran.returncode == 1 and "not proved" in ran.stderr, ran
-    return None

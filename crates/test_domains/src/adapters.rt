@@ -5,9 +5,9 @@ use io_edge::{
     NamedFile, OutputSink, Sink, Source, SureFiles, SureSink, SureSource,
 };
 use std::alloc::Global;
+use std::fs::{self, File};
 use std::process::Abort;
 use std::test::Fail;
-use std::fs::{self, File};
 
 fn named(alloc: Global, name: &str, bytes: &[u8]) -> Result<Vec<NamedFile>, Fail> {
     let file = NamedFile::new(String::from_str(alloc, name)?, bytes.to_vec(alloc)?);

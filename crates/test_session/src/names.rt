@@ -24,7 +24,7 @@ const ROOMY: Setup<'static> = Setup {
 fn edits(alloc: Global) -> Result<Vec<Line<'static>>, Fail> {
     let mut script = Vec::new(alloc);
     script.push(Line::Ask(2))?;
-    for edit in 0..400 {
+    for edit in 0..200 {
         let text = if edit % 2 == 0 {
             "k = k + 3;"
         } else {
