@@ -4,7 +4,7 @@ use Rattle.std.specs.List.{flat_map}
 use Rattle.std.proofs.lemmas.List.{map-append, append-nil, take_more}
 use Rattle.base_values.proofs.Lists.{take_item}
 use Rattle.shape_graph.specs.Shape.{Shape}
-use Rattle.shape_graph.proofs.Function.{fold_of}
+use Rattle.fold_laws.specs.Folding.{fold_of}
 use Rattle.dom_listseg_meaning.specs.Sets.{put, union}
 use Rattle.dom_listseg_meaning.proofs.Members.{union-push}
 use Rattle.std.proofs.lemmas.Grind.{flat_map-append}

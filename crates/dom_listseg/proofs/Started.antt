@@ -5,7 +5,8 @@ use Rattle.imp_slots.specs.Plain.{Layout}
 use Rattle.concrete_sem.specs.Passing.{first_link, over}
 use Rattle.shape_graph.specs.declared.graph.Atom.{Atom}
 use Rattle.shape_graph.specs.Shape.{Shape, IsGraph, shape_of}
-use Rattle.shape_graph.proofs.Function.{fold_of, fold_of-self}
+use Rattle.fold_laws.specs.Folding.{fold_of}
+use Rattle.fold_laws.proofs.Function.{fold_of-self}
 use Rattle.shape_steps.proofs.Graphs.{moved}
 use Rattle.dom_listseg_meaning.specs.State.{Graphs}
 use Rattle.dom_listseg_meaning.specs.Sets.{put}

@@ -2,7 +2,7 @@
 ghost use Rattle.std.specs.Prelude.{◌≡◌, ◌-◌, [], ◌∷◌, length, IfOk, map, None, slice_index_or};
 ghost use Rattle.concrete_sem.specs.Passing.{first_link, over};
 ghost use Rattle.imp_slots.specs.CallViews.{argument_of, taken_of};
-ghost use Rattle.shape_graph.proofs.Function.{fold_of};
+ghost use Rattle.fold_laws.specs.Folding.{fold_of};
 ghost use Rattle.shape_steps.specs.Steps as steps;
 ghost use Rattle.dom_listseg_meaning.specs.State.{Graphs};
 ghost use Rattle.dom_listseg_meaning.specs.Sets as sets;

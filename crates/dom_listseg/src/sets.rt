@@ -1,7 +1,7 @@
 //! Sets of graphs as states.
 ghost use Rattle.std.specs.Prelude.{◌≡◌, IfOk, map};
 ghost use Rattle.dom_listseg_meaning.specs.State.{Graphs};
-ghost use Rattle.shape_graph.proofs.Function.{fold_of};
+ghost use Rattle.fold_laws.specs.Folding.{fold_of};
 ghost use Rattle.dom_listseg_meaning.specs.Sets as sets;
 ghost use Rattle.dom_listseg_meaning.specs.Operations as operations;
 

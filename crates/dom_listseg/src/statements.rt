@@ -3,7 +3,7 @@ ghost use Rattle.std.specs.Prelude.{◌≡◌, IfOk, map};
 ghost use Rattle.imp_slots.specs.ActionViews.{effect_of, act_of};
 ghost use Rattle.domain_laws.specs.Checks as checks;
 ghost use Rattle.domain_laws.specs.Guards.{past_check};
-ghost use Rattle.shape_graph.proofs.Function.{fold_of};
+ghost use Rattle.fold_laws.specs.Folding.{fold_of};
 ghost use Rattle.dom_listseg_meaning.specs.State.{Graphs};
 ghost use Rattle.dom_listseg_meaning.specs.Sets as sets;
 ghost use Rattle.dom_listseg_meaning.specs.Operations as operations;

@@ -6,7 +6,8 @@ use Rattle.std.proofs.lemmas.Bool.{cases_Bool}
 use Rattle.shape_graph.specs.Shape.{Shape, IsGraph, In}
 use Rattle.shape_graph.specs.Covers.{Covers}
 use Rattle.shape_graph.proofs.Covered.{Covers-fold}
-use Rattle.shape_graph.proofs.Function.{fold_of, fold_of-folds}
+use Rattle.fold_laws.specs.Folding.{fold_of}
+use Rattle.fold_laws.proofs.Function.{fold_of-folds}
 use Rattle.shape_steps.specs.Steps.{AnyCovers}
 use Rattle.dom_listseg_meaning.specs.State.{Segments, Top, Graphs}
 use Rattle.dom_listseg_meaning.specs.Sets.{union, most, capped}

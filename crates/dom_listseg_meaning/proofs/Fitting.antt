@@ -10,7 +10,8 @@ use lib.Pointwise.{pointwise, pointwise_decides}
 use Rattle.imp_slots.specs.Plain.{Layout}
 use Rattle.shape_graph.specs.Shape.{Shape, IsGraph, In}
 use Rattle.shape_graph.specs.Folds.{Folds, IsFolded}
-use Rattle.shape_graph.proofs.Function.{fold_of, is_folded, fold_of-folds, fold_of-graph, fold_of-folded, is_folded-graph, is_folded-folded, folded-is_folded}
+use Rattle.fold_laws.specs.Folding.{fold_of, is_folded}
+use Rattle.fold_laws.proofs.Function.{fold_of-folds, fold_of-graph, fold_of-folded, is_folded-graph, is_folded-folded, folded-is_folded}
 use Rattle.dom_listseg_meaning.specs.State.{Segments, Top, Graphs}
 use Rattle.dom_listseg_meaning.specs.Sets.{union, rises, most, capped}
 use Rattle.dom_listseg_meaning.specs.Operations.{collected, each, kept}

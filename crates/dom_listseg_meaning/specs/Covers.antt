@@ -4,7 +4,7 @@ use lib.Pointwise.{pointwise}
 use Rattle.imp_slots.specs.Plain.{Layout}
 use Rattle.concrete_sem.specs.Values.{Variables, Cell, Heap}
 use Rattle.shape_graph.specs.Shape.{Shape}
-use Rattle.shape_graph.proofs.Function.{is_folded}
+use Rattle.fold_laws.specs.Folding.{is_folded}
 use Rattle.shape_steps.specs.Steps.{AnyCovers}
 use Rattle.dom_listseg_meaning.specs.State.{Segments, Top, Graphs}
 use Rattle.dom_listseg_meaning.specs.Sets.{rises, most}

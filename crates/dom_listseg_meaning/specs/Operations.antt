@@ -10,7 +10,7 @@ use Rattle.domain_laws.specs.Checks.{check_of}
 use Rattle.domain_laws.specs.Guards.{assumed, past_check, verdict_by}
 use Rattle.imp_words.specs.declared.verdict.Verdict.{Verdict}
 use Rattle.shape_graph.specs.Shape.{Shape, shape_of}
-use Rattle.shape_graph.proofs.Function.{fold_of}
+use Rattle.fold_laws.specs.Folding.{fold_of}
 use Rattle.shape_steps.specs.Steps.{forget_of, new_cell_of, push_frame_of, pop_frame_of, last_frame_of, slot_of, argument_of, read_of, write_of, leave_of}
 use Rattle.dom_listseg_meaning.specs.State.{Segments, Top, Graphs}
 use Rattle.dom_listseg_meaning.specs.Sets.{union, capped}

@@ -2,7 +2,8 @@
 use Rattle.std.proofs.Common.{◌≡◌, sym, ◌∙◌, ap}
 use Rattle.shape_graph.specs.Folds.{Folds}
 use Rattle.shape_graph.specs.Shape.{Shape, IsGraph}
-use Rattle.shape_graph.proofs.Function.{fold_of, Folds-fold_of, fold_of-again}
+use Rattle.fold_laws.specs.Folding.{fold_of}
+use Rattle.fold_laws.proofs.Function.{Folds-fold_of, fold_of-again}
 
 pub fold_again : (g next : Shape) → IsGraph g → Folds g next → fold_of next ≡ next
 fold_again g next ok f =

@@ -3,7 +3,7 @@ ghost use Rattle.std.specs.Prelude.{◌≡◌, IfOk};
 ghost use Rattle.std.specs.Ordering.{as_partial_cmp, eq_by_cmp};
 ghost use Rattle.std.proofs.Common.{refl};
 ghost use Rattle.shape_graph.specs.Order.{shape_cmp, shape_total, shape_equiv, shape_per, shape_po, shape_hash, shape_hash-same};
-ghost use Rattle.shape_graph.proofs.Function.{fold_of};
+ghost use Rattle.fold_laws.specs.Folding.{fold_of};
 
 use base_values::Memory;
 use shape_graph::{ShapeGraph, fold};
@@ -22,7 +22,7 @@ pub struct FoldedGraph {
 impl Model for FoldedGraph {
     ghost use Rattle.std.specs.Prelude.{◌≡◌};
     ghost use Rattle.shape_graph.specs.Shape.{Shape};
-    ghost use Rattle.shape_graph.proofs.Function.{fold_of};
+    ghost use Rattle.fold_laws.specs.Folding.{fold_of};
 
     ghost Value = { Shape };
 

@@ -1,6 +1,6 @@
 //! Sets of folded graphs.
 ghost use Rattle.std.specs.Prelude.{◌≡◌, ◌↔◌, ◌≤◌, ◌∷◌, ◌++◌, [], true, length, IfNone, IfOk, IfSome, IsTrue, OnErr, OnOk, drop, take};
-ghost use Rattle.shape_graph.proofs.Function.{fold_of};
+ghost use Rattle.fold_laws.specs.Folding.{fold_of};
 ghost use Rattle.dom_listseg_meaning.specs.Sets as sets;
 
 use crate::folded::FoldedGraph;

@@ -8,7 +8,8 @@ use Rattle.base_values.proofs.Cases.{by_bool}
 use Rattle.shape_graph.specs.Folds.{IsFolded}
 use Rattle.shape_graph.specs.Order.{shape_cmp, shape_eq-same, shape_equiv}
 use Rattle.shape_graph.specs.Shape.{Shape, IsGraph}
-use Rattle.shape_graph.proofs.Function.{fold_of, is_folded, fold_of-graph, fold_of-folded, fold_of-self, is_folded-graph, is_folded-folded, folded-is_folded}
+use Rattle.fold_laws.specs.Folding.{fold_of, is_folded}
+use Rattle.fold_laws.proofs.Function.{fold_of-graph, fold_of-folded, fold_of-self, is_folded-graph, is_folded-folded, folded-is_folded}
 use Rattle.dom_listseg_words.specs.Words.{graph_if}
 
 pub folded_found : (g next : Shape) → next ≡ fold_of g → eq_by_cmp shape_cmp next g ≡ true → Some next ≡ (if is_folded g then Some g else None)

@@ -7,7 +7,8 @@ use Rattle.std.proofs.lemmas.List.FromFn.{map-range_with_len_more}
 use Rattle.std.proofs.Math.Nat.{min-le_right}
 use Rattle.base_values.proofs.Lists.{drop_item}
 use Rattle.shape_graph.specs.Shape.{Shape, IsGraph}
-use Rattle.shape_graph.proofs.Function.{is_folded, is_folded-graph}
+use Rattle.fold_laws.specs.Folding.{is_folded}
+use Rattle.fold_laws.proofs.Function.{is_folded-graph}
 use Rattle.cert_words.specs.Words.{limit}
 use Rattle.dom_listseg_words.specs.Words.{number_of, target_of, word_at, frames_of, after_frames, node_count, atom_of, after_atoms, graph_of, graph_if, before, graphs_of}
 

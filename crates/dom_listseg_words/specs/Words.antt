@@ -9,7 +9,7 @@ use Rattle.imp_slots.specs.Plain.{Layout}
 use Rattle.shape_graph.specs.declared.graph.Atom.{Atom}
 use Rattle.shape_graph.specs.Order.{shape_cmp}
 use Rattle.shape_graph.specs.Shape.{Shape, shape_of, slots}
-use Rattle.shape_graph.proofs.Function.{is_folded}
+use Rattle.fold_laws.specs.Folding.{is_folded}
 use Rattle.cert_meaning.specs.Portable.{Portable}
 use Rattle.cert_words.specs.States.{by_words, state_if}
 use Rattle.cert_words.specs.Words.{is_number, limit, words_of}

@@ -2,7 +2,7 @@
 ghost use Rattle.std.specs.Prelude.{◌≡◌, ◌++◌, nat_eq, IfOk, None, Some, if◌then◌else◌, map, length};
 ghost use Rattle.std.specs.Option.{option_map};
 ghost use lib.Pointwise.{pointwise};
-ghost use Rattle.shape_graph.proofs.Function as folding;
+ghost use Rattle.fold_laws.specs.Folding as folding;
 ghost use Rattle.shape_graph.specs.Shape.{shape_of};
 ghost use Rattle.dom_listseg_meaning.specs.Sets as sets;
 ghost use Rattle.dom_listseg_words.specs.Words as meant;

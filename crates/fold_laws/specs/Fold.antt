@@ -3,7 +3,7 @@ use Rattle.std.specs.Prelude.{◌≡◌, ◌↔◌, true}
 use Rattle.shape_graph.specs.Folds.{IsFolded}
 use Rattle.shape_graph.specs.Laws.{IsFolding}
 use Rattle.shape_graph.specs.Shape.{Shape, IsGraph}
-use Rattle.shape_graph.proofs.Function.{fold_of, is_folded}
+use Rattle.fold_laws.specs.Folding.{fold_of, is_folded}
 
 -- the function that the operations of list segments fold by gives the one fold of each graph
 abbrev pub FoldIsFolding : Type 0

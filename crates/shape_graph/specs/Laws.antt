@@ -1,5 +1,5 @@
 -- Statements about all graphs.
-use Rattle.std.specs.Prelude.{◌≡◌, ℕ, Bool, true, ◌↔◌}
+use Rattle.std.specs.Prelude.{◌≡◌, ℕ, true, ◌↔◌}
 use Rattle.std.specs.Ordering.{eq_by_cmp}
 use Rattle.std.specs.Cmp.{IsTotalOrder}
 use Rattle.std.specs.declared.cmp.Ordering.TheVariants.{Equal}
@@ -43,11 +43,3 @@ pub record IsFolding (fold : Shape → Shape) : Type 0 where
   pub only : (g next : Shape) → IsGraph g → Folds g next → next ≡ fold g
   pub idempotent : (g : Shape) → IsGraph g → fold (fold g) ≡ fold g
   pub covers : (g : Shape) → IsGraph g → IsCoveredBy g (fold g)
-
--- there is such a function
-abbrev pub FoldingIsAFunction : Type 0
-FoldingIsAFunction = (fold : Shape → Shape) × IsFolding fold
-
--- there is a test of graphs that are folded
-abbrev pub FoldedIsTested : Type 0
-FoldedIsTested = (test : Shape → Bool) × ((g : Shape) → (test g ≡ true) ↔ (IsGraph g × IsFolded g))

@@ -1,6 +1,6 @@
 //! Theorems on graphs, each the contract of a function that does nothing.
 
-ghost use Rattle.shape_graph.specs.Laws.{EachGraphFolds, FoldsOfOneAreEqual, OrderIsTotal, TiesAreEqual, EqualityIsExact, HashRespectsEquality, RenamedAreEqual, FoldingIsAFunction, FoldedIsTested};
+ghost use Rattle.shape_graph.specs.Laws.{EachGraphFolds, FoldsOfOneAreEqual, OrderIsTotal, TiesAreEqual, EqualityIsExact, HashRespectsEquality, RenamedAreEqual};
 
 /// Each graph has a fold, and only one.
 pub fn folding_is_determined()
@@ -19,10 +19,4 @@ pub fn order_is_exact()
     ensures ties { TiesAreEqual }
     ensures equality { EqualityIsExact }
     ensures hash { HashRespectsEquality }
-{}
-
-/// Folding is a function of the graph, and there is a test of being folded.
-pub fn folding_is_a_function()
-    ensures function { FoldingIsAFunction }
-    ensures tested { FoldedIsTested }
 {}

@@ -1,5 +1,6 @@
 use Rattle.shape_graph.proofs.Covered.{Covers-fold}
-use Rattle.shape_graph.proofs.Function.{fold_of, fold_of-again, fold_of-folds, folded-is_folded, Folds-fold_of, is_folded-folded, is_folded-graph}
+use Rattle.fold_laws.specs.Folding.{fold_of}
+use Rattle.fold_laws.proofs.Function.{fold_of-again, fold_of-folds, folded-is_folded, Folds-fold_of, is_folded-folded, is_folded-graph}
 use Rattle.fold_laws.proofs.segments_fold.Goals as goal
 
 pub returns-clause-fold : goal.returns-clause-fold

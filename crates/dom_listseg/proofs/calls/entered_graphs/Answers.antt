@@ -1,7 +1,7 @@
 use Rattle.std.proofs.Common.{arith, ap, map, ◌∙◌}
 use Rattle.shape_steps.specs.Steps.{push_frame_of, argument_of}
 use Rattle.shape_graph.specs.Shape.{Shape}
-use Rattle.shape_graph.proofs.Function.{fold_of}
+use Rattle.fold_laws.specs.Folding.{fold_of}
 use Rattle.dom_listseg_meaning.specs.Sets as sets
 use Rattle.dom_listseg.proofs.Collected.{single_next}
 use Rattle.dom_listseg.proofs.calls.entered_graphs.Goals as goal

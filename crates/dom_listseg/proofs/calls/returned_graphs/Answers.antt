@@ -2,7 +2,7 @@ use Rattle.std.proofs.Common.{arith, ap, ◌∙◌}
 use Rattle.imp_slots.specs.CallViews.{taken_of}
 use Rattle.dom_listseg_meaning.specs.Operations.{returned}
 use Rattle.shape_graph.specs.Shape.{Shape}
-use Rattle.shape_graph.proofs.Function.{fold_of}
+use Rattle.fold_laws.specs.Folding.{fold_of}
 use Rattle.dom_listseg_meaning.specs.Sets as sets
 use Rattle.dom_listseg.proofs.Collected.{single_next}
 use Rattle.dom_listseg.proofs.calls.returned_graphs.Goals as goal

@@ -1,5 +1,5 @@
 use Rattle.std.proofs.Common.{arith}
-use Rattle.shape_graph.proofs.Function.{fold_of}
+use Rattle.fold_laws.specs.Folding.{fold_of}
 use Rattle.dom_listseg.proofs.Collected.{put_next}
 use Rattle.dom_listseg.proofs.sets.put_all.Goals as goal
 

@@ -1,5 +1,5 @@
 use Rattle.std.proofs.Common.{◌≡◌, map, take}
-use Rattle.shape_graph.proofs.Function.{fold_of}
+use Rattle.fold_laws.specs.Folding.{fold_of}
 use Rattle.dom_listseg_meaning.specs.Sets.{union}
 use Rattle.dom_listseg.proofs.sets.put_all.Given as goal
 

@@ -1,7 +1,7 @@
 use Rattle.std.proofs.Common.{◌≡◌, map, take, []}
 use Rattle.std.specs.List.{flat_map}
 use Rattle.imp_slots.specs.ActionViews.{effect_of}
-use Rattle.shape_graph.proofs.Function.{fold_of}
+use Rattle.fold_laws.specs.Folding.{fold_of}
 use Rattle.dom_listseg_meaning.specs.Sets.{union}
 use Rattle.dom_listseg_meaning.specs.Operations.{stepped}
 use Rattle.dom_listseg.proofs.statements.moved_graphs.Given as goal

@@ -1,6 +1,6 @@
 use Rattle.std.proofs.Common.{◌∙◌}
 use Rattle.dom_listseg_sets.proofs.folded.FoldedGraph.from_graph.Goals as goal
-use Rattle.shape_graph.proofs.Function.{Folds-fold_of}
+use Rattle.fold_laws.proofs.Function.{Folds-fold_of}
 
 pub returns : goal.returns
 returns c = record {

@@ -1,25 +1,13 @@
--- Folding as a function, and the test of being folded.
-use Rattle.std.proofs.Common.{◌≡◌, Bool, ◌⊎◌, inl, inr, true, [], refl, sym, subst}
+-- What folding as a function gives is the fold of the relation, and the test of being folded holds of what is folded.
+use Rattle.std.proofs.Common.{◌≡◌, ◌⊎◌, inl, inr, true, [], sym, subst}
 use Rattle.std.specs.Ordering.{eq_by_cmp}
 use Rattle.shape_graph.specs.Shape.{Shape, IsGraph, shape_of}
 use Rattle.shape_graph.specs.Folds.{Folds, IsFolded}
 use Rattle.shape_graph.specs.Order.{shape_cmp, shape_equiv, shape_eq-same}
+use Rattle.fold_laws.specs.Folding.{fold_if, fold_of, is_folded}
 use Rattle.shape_graph.proofs.Decided.{is_graph}
 use Rattle.shape_graph.proofs.Exists.{Folds-exists}
 use Rattle.shape_graph.proofs.Same.{Folds-unique, Folds-graph, Folds-folded, Folds-self}
-
--- the fold where each target is a node; else the graph of nothing
-fold_if : (g : Shape) → IsGraph g ⊎ (IsGraph g → ⊥) → Shape
-fold_if g (inl ok) = (Folds-exists g ok).0
-fold_if g (inr n) = shape_of [] []
-
--- the graph folded: of the graphs to which it folds, of which there is one, that one
-pub fold_of : Shape → Shape
-fold_of g = fold_if g (is_graph g)
-
--- whether to fold the graph changes nothing
-pub is_folded : Shape → Bool
-is_folded g = eq_by_cmp shape_cmp (fold_of g) g
 
 if_folds : (g : Shape) (c : IsGraph g ⊎ (IsGraph g → ⊥)) → IsGraph g → Folds g (fold_if g c)
 unfolding fold_if
