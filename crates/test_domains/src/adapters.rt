@@ -58,11 +58,16 @@ fn source_in_memory(rt: HostRuntime) -> Result<(), Fail> {
     let alloc = rt.alloc();
     let mut buffer = [0u8; 4];
     let mut source = MemSource::new(b"abc".to_vec(alloc)?, 2, failing(alloc, 1)?);
-    for wanted in [Ok(2), Err(Failed), Ok(1)] {
+    let reads: [(Result<usize, Failed>, &str); 4] = [
+        (Ok(2), "ab"),
+        (Err(Failed), "ab"),
+        (Ok(1), "cb"),
+        (Ok(0), "cb"),
+    ];
+    for (wanted, left) in reads {
         assert_eq!(rt; source.read(&mut buffer), wanted);
+        assert_eq!(rt; &buffer[..2], left.as_bytes());
     }
-    assert_eq!(rt; buffer[0], b'c');
-    assert_eq!(rt; source.read(&mut buffer), Ok(0));
     Ok(())
 }
 
@@ -71,6 +76,7 @@ fn sure_source_in_memory(rt: HostRuntime) -> Result<(), Fail> {
     let mut buffer = [0u8; 4];
     let mut source = SureSource::new(b"abc".to_vec(rt.alloc())?);
     assert_eq!(rt; source.read(&mut buffer), Ok(3));
+    assert_eq!(rt; &buffer[..3], b"abc".as_slice());
     Ok(())
 }
 
