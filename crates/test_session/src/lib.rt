@@ -1,5 +1,5 @@
 //! Tests of sessions over a domain that fails: what stands after memory ran out, and which questions take no operation.
-//! New tables of names change no answer.
+//! New tables of names change no answer. Here too are tests of what the program does not call: the text of a statement.
 #![tactic(auto)]
 
 #[cfg(test)]
@@ -10,6 +10,8 @@ mod failing;
 mod memory;
 #[cfg(test)]
 mod names;
+#[cfg(test)]
+mod printing;
 #[cfg(test)]
 mod scripts;
 #[cfg(test)]

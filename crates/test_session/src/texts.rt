@@ -25,7 +25,7 @@ pub(crate) fn bytes_of(text: &str) -> Result<&[u8], Fail>
 }
 
 /// The program of a text.
-fn read(alloc: Global, text: &str) -> Result<Program, Fail>
+pub(crate) fn read(alloc: Global, text: &str) -> Result<Program, Fail>
     ensures numbered { IfOk result (λ program. AreNumbered program) }
 {
     let program = parse_program(alloc, bytes_of(text)?)?;
