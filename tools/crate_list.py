@@ -25,7 +25,7 @@ sentences are the first of each crate's own page, which says what the crate prom
 `tools/crate_list.py`.
 """
 LAYERS = {
-    "Base": "base_values base_short base_counter io_edge base_hash state_table daig_order base_sets",
+    "Base": "base_values base_short base_counter io_edge base_hash state_table daig_order daig_traces base_sets",
     "Language": "imp_lex imp_syntax imp_parse imp_print imp_round_trip imp_slots imp_check imp_table imp_chains"
     " imp_words edit_entries edit_breaks imp_edit edit_history",
     "Input and output": "serve_command request_json serve_script gen_summary",
