@@ -8,10 +8,10 @@
 //! has exactly the name's inputs, and its value.
 //!
 //! The definition is in `specs/Traces.antt`, over names and values of any type, and the theorems in
-//! `specs/Theorems.antt`. The function below does nothing when it runs: it carries the theorems as its clauses.
+//! `specs/Theorems.antt`. The functions below do nothing when they run: each carries theorems as its clauses.
 #![tactic(auto)]
 
-ghost use Rattle.daig_traces.specs.Theorems.{NamesHaveTraces, TracesLead, TracesMove, TracesTell};
+ghost use Rattle.daig_traces.specs.Theorems.{FoundLead, FoundTell, NamesHaveTraces, TracesLead, TracesMove, TracesTell};
 
 /// That each name has a trace, how far a trace leads, what it tells, and when it is one of another program's row.
 pub fn trace_laws<T, V>()
@@ -19,4 +19,10 @@ pub fn trace_laws<T, V>()
     ensures leads { TracesLead T V }
     ensures tells { TracesTell T V }
     ensures moves { TracesMove T V }
+{}
+
+/// The same where a name's inputs are looked up one after another, as a demand does.
+pub fn found_laws<T, V>()
+    ensures leads { FoundLead T V }
+    ensures tells { FoundTell T V }
 {}
