@@ -44,14 +44,15 @@ fn emptied<D: Domain>(
     let changed = points_changed(alloc, table, change, setting, other)?;
     let old = Flow::new(table.view(), setting);
     let new = Flow::new(table.changed(change), other);
-    plan(
+    let emptying = plan(
         alloc,
         engine.graph(),
         engine.names(),
         &old,
         &new,
         changed.as_slice(),
-    )
+    )?;
+    Ok(emptying.order)
 }
 
 /// The move to the program that a change makes, with all memory that it needs. Nothing is changed yet. It takes time in

@@ -1,5 +1,5 @@
 -- The touched cells, statement by statement.
-use Rattle.std.proofs.Common.{◌≡◌, ℕ, ◌<◌, ◌≤◌, ◌+◌, ◌⊎◌, ◌↔◌, List, [], ◌∷◌, ◌++◌, Some, IsSome, Result, Ok, Err, IfOk, length, take, get_or, refl, sym, ap, ◌∙◌, subst, inl, inr}
+use Rattle.std.proofs.Common.{◌≡◌, ℕ, ◌<◌, ◌≤◌, ◌+◌, ◌⊎◌, ◌↔◌, List, [], ◌∷◌, ◌++◌, Some, IsSome, length, take, get_or, refl, sym, ap, ◌∙◌, subst, inl, inr}
 use Rattle.std.proofs.lemmas.List.{take_more, take_all}
 use Rattle.std.proofs.lemmas.Option.{slice_get-get_or}
 use Rattle.daig_graph.specs.Cells.{AreCells, IsOwned}
@@ -95,7 +95,3 @@ removes_same cells these those plan same r = record {
   only = λ n m. leads_as cells these those (λ k t. (same k).0 t) n (r.only n m);
   each = λ n l. r.each n (leads_as cells those these (λ k t. (same k).1 t) n l);
 }
-
-pub removes_ok : {V E : Type 0} (cells : Cells V) (these those : ℕ → Type 0) (r : Result (List ℕ) E) → ((n : ℕ) → these n ↔ those n) → IfOk r (Removes cells these) → IfOk r (Removes cells those)
-removes_ok cells these those (Ok plan) same h = removes_same cells these those plan same h
-removes_ok cells these those (Err e) same h = h

@@ -1,5 +1,5 @@
 -- What a plan leaves are the kept names.
-use Rattle.std.proofs.Common.{reverse, ◌≡◌, ℕ, ◌↔◌, List, Option, Some, None, true, is_some, length, slice_get, refl, sym, ap, ◌∙◌, subst}
+use Rattle.std.proofs.Common.{reverse, ◌≡◌, ℕ, ◌↔◌, List, Option, Some, None, IsSome, true, is_some, length, slice_get, refl, sym, ap, ◌∙◌, subst, inl, inr}
 use Rattle.std.proofs.lemmas.Option.{slice_get-get_or}
 use Rattle.std.specs.List.{Contains}
 use Rattle.std.specs.FinMap.{get}
@@ -14,7 +14,8 @@ use Rattle.cell_rows.specs.Flat.{flat_row}
 use Rattle.cell_rows.specs.Claims.{rows_of}
 use Rattle.cell_rows.proofs.Rowed.{has_row}
 use Rattle.cell_kept_set.specs.Places.{KeepPlaces}
-use Rattle.cell_kept_set.specs.Touched.{Edit, AreCells, old_system, IsChanged, IsKept, IsKeptByRows}
+use Rattle.cell_kept_set.specs.Touched.{Edit, AreCells, old_system, KeepsRow, IsChanged, IsKept, IsKeptByRows}
+use Rattle.cell_kept_set.proofs.Decided.{keeps_row}
 use Rattle.cell_kept_set.proofs.Local.{same_kept}
 use Rattle.cell_kept_set.proofs.ByNew.{is_right}
 use Rattle.cell_kept_set.proofs.Plans.{same_rows_stay}
@@ -26,10 +27,10 @@ use Rattle.cell_removal.specs.Removal.{Cells, LeadsTo, itself, through, Removes,
 use Rattle.cell_removal.proofs.Rest.{rest_other, rest_cell}
 use Rattle.cell_graph.specs.Same.{same_name}
 use Rattle.cell_graph.specs.Named.{filled_at, kept, AreNumbers}
-use Rattle.edit_invalidate.specs.Touched.{KeepsCell, or_start, input_count, inputs_at, IsTouched}
+use Rattle.edit_invalidate.specs.Touched.{KeepsCell, or_start, name_at, input_count, inputs_at, IsTouched}
 use Rattle.cell_graph.specs.Asked.{inputs}
 use Rattle.cell_graph.specs.Holds.{IsCellOf, HoldsCells}
-use Rattle.edit_invalidate.specs.Claims.{edit_of, LeavesKept, PlansLeaveKept}
+use Rattle.edit_invalidate.specs.Claims.{edit_of, LeavesKept, PlansLeaveKept, UntouchedKeepRows}
 use Rattle.cell_graph.proofs.Same.{same_is}
 use Rattle.cell_graph.proofs.Numbers.{filled_number, filled_named, numbers_get, numbers_of, numbers_length, member_at, at_member}
 use Rattle.edit_invalidate.proofs.Asking.{keeps, keeps_cell}
@@ -38,7 +39,7 @@ filled_some : {A : Type 0} (o : Option A) → is_some o ≡ true → (a : A) × 
 filled_some None h = absurd cc
 filled_some (Some a) h = (a, refl)
 
-contained : (xs : List ℕ) (n : ℕ) → Contains xs n → IsIn xs n
+pub contained : (xs : List ℕ) (n : ℕ) → Contains xs n → IsIn xs n
 contained xs n c = (c.0, slice_get-get_or xs c.0 n c.1 ∙ ap Some c.2)
 
 module _ {S V : Type 0} (dom : Operations S) (old new : Plan) (names : List CellName) (cells : Cells V) (stmts : List ℕ) (one : old.engine ≡ new.engine) (h : HoldsCells dom old names cells) (are : AreChanged old new stmts) where
@@ -93,6 +94,21 @@ module _ {S V : Type 0} (dom : Operations S) (old new : Plan) (names : List Cell
           lost = λ k. lost (keeps dom old new one x (inputs_at cells n) (count n x f c) (subst (λ z. KeepsCell old new z (inputs_at cells n)) (ap or_start c.name) k));
         };
       }
+
+  -- An untouched one keeps its row.
+  untouched_keeps : (n : ℕ) (x : CellName) (f : Filled V) → IsNamed n x f → (IsTouched old new names cells stmts n → ⊥) → KeepsRow dom e same_name x
+  untouched_keeps n x f c free =
+      elim (keeps_row same_name same_is dom e x) [
+        | inl k ↦ k
+        | inr lost ↦ absurd (free (touched n x f c lost))
+      ]
+
+  pub untouched_cell_keeps : (n : ℕ) → IsSome (get cells n) → (IsTouched old new names cells stmts n → ⊥) → KeepsCell old new (name_at names n) (inputs_at cells n)
+  untouched_cell_keeps n s free =
+      let f = filled_some (get cells n) s in
+      let d = named n f.0 f.1 in
+      subst (λ z. KeepsCell old new z (inputs_at cells n)) (sym (ap or_start d.1.name))
+      (keeps_cell dom old new one d.0 (inputs_at cells n) (count n d.0 f.0 d.1) (untouched_keeps n d.0 f.0 d.1 free))
 
   -- what leads to touched cells are cells
   is_cell : (n : ℕ) → LeadsTo cells (IsTouched old new names cells stmts) n → (f : Filled V) × (get cells n ≡ Some f)
@@ -180,3 +196,6 @@ module _ {S V : Type 0} (dom : Operations S) (old new : Plan) (names : List Cell
 
 pub plans_leave : {S : Type 0} (dom : Operations S) {V : Type 0} → PlansLeaveKept dom V
 plans_leave dom old new names cells stmts plan one cn keep h are r = leaves dom old new names cells stmts one h are cn keep plan r
+
+pub untouched_keep_rows : {S : Type 0} (dom : Operations S) {V : Type 0} → UntouchedKeepRows dom V
+untouched_keep_rows dom old new names cells stmts n one h are s free = untouched_cell_keeps dom old new names cells stmts one h are n s free

@@ -20,7 +20,7 @@ use Rattle.edit_invalidate.specs.Claims.{CellsAreNamed, CellsRise}
 use Rattle.cell_graph.proofs.Same.{same_is}
 use Rattle.cell_graph.proofs.Numbers.{numbers_get, at_member}
 
-some_of : {A : Type 0} (o : Option A) → IsSome o → (a : A) × (o ≡ Some a)
+pub some_of : {A : Type 0} (o : Option A) → IsSome o → (a : A) × (o ≡ Some a)
 some_of None h = absurd cc
 some_of (Some a) h = (a, refl)
 

@@ -6,7 +6,8 @@
 //! `cell_removal` takes the planned cells away, each after those that use it; it takes no memory and cannot fail.
 //!
 //! What is left are exactly the kept cells of the edit (`IsKept` of crate `cell_kept_set`), and they are cells of the new
-//! program ([`plans_leave_kept`]).
+//! program ([`plans_leave_kept`]). Of a cell that is taken away only because of its inputs the row is kept, so its value
+//! is right again wherever they get their old values ([`untouched_keep_rows`]).
 //!
 //! All takes time in proportion to the cells that are taken away, their inputs, and the cells of the changed statements.
 #![tactic(auto)]
@@ -17,5 +18,5 @@ mod planning;
 mod touching;
 
 pub use compare::same_rows;
-pub use laws::plans_leave_kept;
-pub use planning::plan;
+pub use laws::{plans_leave_kept, untouched_keep_rows};
+pub use planning::{Emptying, plan};

@@ -1,15 +1,24 @@
-//! What an edit takes away, for `removes` of `plan`.
+//! What an edit takes away.
 ghost use Rattle.std.specs.Prelude.{IfOk};
 ghost use Rattle.cell_removal.specs.Removal.{IsRising, Removes};
-ghost use Rattle.edit_invalidate.specs.Touched.{AreNamed, IsTouched};
+ghost use Rattle.edit_invalidate.specs.Touched.{AreNamed, AreTouched, IsTouched};
 
 use crate::touching::touched;
-use base_values::Memory;
+use base_values::{Items, Memory};
 use cell_names::Names;
 use cell_removal::{RemovalOrder, removal};
 use daig_graph::Graph;
 use imp_flow::Flow;
 use std::alloc::Global;
+
+/// The cells that a change of the program empties.
+#[derive(Drop)]
+pub struct Emptying {
+    /// All of them, each after those that use it.
+    pub order: RemovalOrder,
+    /// Those whose own row is changed. The others only depend on them.
+    pub touched: Items<usize>,
+}
 
 /// The cells that a change of the program empties: those of the changed statements whose own row is changed, and all that
 /// are computed from these. Changed are the statements that `points_changed` gives. Nothing is changed yet.
@@ -26,12 +35,18 @@ pub fn plan<V>(
     old: &Flow<'_>,
     new: &Flow<'_>,
     changed: &[u32],
-) -> Result<RemovalOrder, Memory>
+) -> Result<Emptying, Memory>
     requires named { AreNamed graph.now.cells names.now.names }
     requires rising { IsRising graph.now.cells }
-    ensures removes { IfOk result (Removes graph.now.cells
-        (IsTouched old.now new.now names.now.names graph.now.cells changed.now)) }
+    ensures removes { IfOk result (λ emptying. Removes graph.now.cells
+        (IsTouched old.now new.now names.now.names graph.now.cells changed.now) emptying.order) }
+    ensures touched { IfOk result (λ emptying. AreTouched old.now new.now names.now.names
+        graph.now.cells changed.now emptying.touched) }
 {
     let touched = touched(alloc, graph, names, old, new, changed)?;
-    removal(alloc, graph, touched.as_slice())
+    let order = removal(alloc, graph, touched.as_slice())?;
+    Ok(Emptying {
+        order,
+        touched: Items::from_vec(touched),
+    })
 }
