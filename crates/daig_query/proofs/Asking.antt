@@ -22,8 +22,8 @@ use Rattle.daig_query.proofs.Walks.{place_stays, placed_grows, asked_named}
 
 -- a name of a path that has a number gets one
 pub named_here : {S : Type 0} (old new : Store S) (x : Name) (cell : ℕ) → IsOnce old.names.names → x.path < length old.names.paths → Adds old.names.names new.names.names (name_in old.names.paths x) cell → new.names.paths ≡ old.names.paths →
-    new.states ≡ old.states → new.operations ≡ old.operations → new.memo ≡ old.memo → new.recent ≡ old.recent → new.graph ≡ old.graph → Named old new (name_in old.names.paths x) x cell
-named_here old new x cell once path adds paths states operations memo recent graph = named_by old new old.names x cell (name_in old.names.paths x) once (keeps_refl old.names.paths) refl refl path adds paths states operations memo recent graph
+    new.states ≡ old.states → new.operations ≡ old.operations → new.memo ≡ old.memo → new.recent ≡ old.recent → new.stale ≡ old.stale → new.graph ≡ old.graph → Named old new (name_in old.names.paths x) x cell
+named_here old new x cell once path adds paths states operations memo recent stale graph = named_by old new old.names x cell (name_in old.names.paths x) once (keeps_refl old.names.paths) refl refl path adds paths states operations memo recent stale graph
 
 module _ {S : Type 0} (dom : Operations S) (plan : Plan) (ts : List Target) (old new : Store S) (right : IsRight dom plan old) (y : CellName) (x : Name) (cell : ℕ) (named : Named old new y x cell) (w : Walk) (placed : IsPlaced dom plan ts old w) (asked : asks (place_of ts old w) ≡ Some y) where
   pub right_later : IsRight dom plan new

@@ -13,6 +13,8 @@ use Rattle.cell_graph.specs.Named.{filled_at, number_of}
 use Rattle.daig_query.specs.declared.store.Store.{Store}
 use Rattle.daig_query.specs.Kept.{kept}
 use Rattle.daig_query.specs.Right.{IsRight}
+use Rattle.daig_query.specs.Stale.{IsFresh}
+use Rattle.daig_query.proofs.StaleGrowth.{none_stale}
 
 module _ {S : Type 0} (store : Store S) where
   pub none_kept : store.names.names ≡ [] → (x : CellName) → kept store x ≡ false
@@ -22,8 +24,8 @@ module _ {S : Type 0} (store : Store S) where
   none_once : {A : Type 0} (xs : List A) → xs ≡ [] → IsOnce xs
   none_once xs e m n x f k = absurd (let c : None ≡ Some x = sym (ap (λ ys. slice_get ys m) e) ∙ f in cc)
 
-  pub new_right : (dom : Operations S) (plan : Plan) → IsChecked plan.program → store.graph.cells ≡ empty → store.names.paths ≡ [] ∷ [] → store.names.names ≡ [] → store.states ≡ [] → store.memo.entries ≡ [] → store.recent.entries ≡ [] → IsRight dom plan store
-  new_right dom plan checked cells paths names states memo recent = record {
+  pub new_right : (dom : Operations S) (plan : Plan) → IsChecked plan.program → store.graph.cells ≡ empty → store.names.paths ≡ [] ∷ [] → store.names.names ≡ [] → store.states ≡ [] → store.memo.entries ≡ [] → store.recent.entries ≡ [] → IsFresh store.stale → IsRight dom plan store
+  new_right dom plan checked cells paths names states memo recent fresh = record {
     checked = checked;
     root = ap (λ ps. slice_get ps 0) paths;
     once = none_once store.names.names names;
@@ -35,6 +37,7 @@ module _ {S : Type 0} (store : Store S) where
     cells = λ n f e. absurd (let c : None ≡ Some f = sym (ap (λ m. get m n) cells ∙ get-empty nat_cmp n) ∙ e in cc);
     results = subst (AreResults dom store.operations store.states) (sym memo) (λ key n h. absurd (let l : h.0 < 0 = h.1 in omega arith));
     recent = subst (AreResults dom store.operations store.states) (sym recent) (λ key n h. absurd (let l : h.0 < 0 = h.1 in omega arith));
+    stale = none_stale dom plan store.names.names store.states store.stale fresh;
   }
     where
       none : (x : CellName) → kept store x ≡ true → ⊥

@@ -1,5 +1,5 @@
 -- Names that are worked out are good still where some of the cells are gone.
-use Rattle.std.proofs.Common.{◌≡◌, ℕ, ◌<◌, length, Option, Some, None, option_map, is_some, IsSome, IfSome, true, refl, sym, ap, subst, ◌∙◌}
+use Rattle.std.proofs.Common.{◌≡◌, ℕ, length, Option, Some, None, option_map, is_some, IsSome, IfSome, refl, sym, ap, subst, ◌∙◌}
 use Rattle.std.specs.FinMap.{get}
 use Rattle.cell_names.specs.Known.{Known}
 use Rattle.daig_query.specs.declared.names_sweep.NewNames.{NewNames}

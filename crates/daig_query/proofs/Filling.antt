@@ -25,9 +25,11 @@ use Rattle.cell_graph.specs.Named.{filled_at, number_of, AreNumbers}
 use Rattle.daig_query.specs.Kept.{kept, IsValue, Grows}
 use Rattle.cell_graph.specs.Asked.{inputs}
 use Rattle.daig_query.specs.Right.{found, IsCellOf, IsRight}
-use Rattle.daig_query.specs.Opened.{name_of, IsReady, Puts, Computes}
+use Rattle.daig_query.specs.Opened.{name_of, next_of, IsOpen, IsReady, Puts, Computes}
+use Rattle.daig_query.specs.Stale.{stale_at}
 use Rattle.cell_graph.proofs.Same.{same_is}
-use Rattle.daig_query.proofs.Growing.{few_same, few_trans, keeps_same, grows_trans, kept_alike}
+use Rattle.daig_query.proofs.Growing.{few_more, few_same, few_trans, keeps_refl, keeps_same, grows_trans, kept_alike}
+use Rattle.daig_query.proofs.StaleGrowth.{stale_grows}
 use Rattle.cell_graph.proofs.Numbers.{number_there, filled_number, numbers_of, member_at}
 use Rattle.std.proofs.lemmas.Bool.{or_cases, or_right, or_left, cases_eq as same_number}
 use Rattle.std.proofs.lemmas.Option.{same_Some}
@@ -46,25 +48,40 @@ pub ok_always : {A E P : Type 0} (r : Result A E) → P → OnOk r P
 ok_always (Ok a) h = h
 ok_always (Err e) h = tt
 
+pub err_always : {A E P : Type 0} (r : Result A E) → P → OnErr r P
+err_always (Ok a) h = tt
+err_always (Err e) h = h
+
 pub on_err : {A E P Q : Type 0} (r : Result A E) → OnErr r P → (P → Q) → OnErr r Q
 on_err (Ok a) h f = tt
 on_err (Err e) h f = f h
 
 module _ {S : Type 0} (dom : Operations S) (plan : Plan) where
-  -- all inputs are found
+  module _ (store : Store S) (o : Open) (opened : IsOpen dom plan store o) (complete : next_of dom plan store o ≡ None) where
+    -- all inputs are found
+    complete_found : length o.inputs ≡ length (inputs dom plan (name_of store o))
+    complete_found =
+        let all = inputs dom plan (name_of store o) in
+        let within : length o.inputs ≤ length all = opened.within in
+        let past : length all ≤ length o.inputs = none_past all (length o.inputs) complete in
+        omega arith
+
+    complete_front : take (length o.inputs) (inputs dom plan (name_of store o)) ≡ inputs dom plan (name_of store o)
+    complete_front = let all = inputs dom plan (name_of store o) in ap (λ m. take m all) complete_found ∙ take-length all
+
+    -- so these are their numbers
+    pub complete_numbers : AreNumbers store.names.names o.inputs (inputs dom plan (name_of store o))
+    complete_numbers = subst (λ xs. AreNumbers store.names.names o.inputs xs) complete_front opened.numbers
+
+  -- the same where its row is known
   pub all_found : (store : Store S) (row : Row) (o : Open) → IsReady dom plan store row o → length o.inputs ≡ length (inputs dom plan (name_of store o))
-  all_found store row o ready =
-      let all = inputs dom plan (name_of store o) in
-      let within : length o.inputs ≤ length all = ready.at.entry.within in
-      let past : length all ≤ length o.inputs = none_past all (length o.inputs) ready.complete in
-      omega arith
+  all_found store row o ready = complete_found store o ready.at.entry ready.complete
 
   pub front_is_all : (store : Store S) (row : Row) (o : Open) → IsReady dom plan store row o → take (length o.inputs) (inputs dom plan (name_of store o)) ≡ inputs dom plan (name_of store o)
-  front_is_all store row o ready = let all = inputs dom plan (name_of store o) in ap (λ m. take m all) (all_found store row o ready) ∙ take-length all
+  front_is_all store row o ready = complete_front store o ready.at.entry ready.complete
 
-  -- so these are their numbers
   pub ready_numbers : (store : Store S) (row : Row) (o : Open) → IsReady dom plan store row o → AreNumbers store.names.names o.inputs (inputs dom plan (name_of store o))
-  ready_numbers store row o ready = subst (λ xs. AreNumbers store.names.names o.inputs xs) (front_is_all store row o ready) ready.at.entry.numbers
+  ready_numbers store row o ready = complete_numbers store o ready.at.entry ready.complete
 
   -- a name that has no cell has none under its number
   pub absent_get : (store : Store S) → IsRight dom plan store → (n : ℕ) (x : CellName) → slice_get store.names.names n ≡ Some x → kept store x ≡ false → get store.graph.cells n ≡ None
@@ -76,6 +93,10 @@ module _ {S : Type 0} (dom : Operations S) (plan : Plan) where
           let a : kept store x ≡ true = ap is_some (filled_number store.graph.cells store.names.names right.once x n e ∙ k) in
           let c : true ≡ false = sym a ∙ h in
           absurd cc
+
+  -- a store that stays computes nothing
+  pub computes_refl : (store : Store S) → IsRight dom plan store → Computes dom plan store store
+  computes_refl store right = record { cells = refl; names = refl; states = keeps_refl store.states; right = right; few = few_more store store 0 1 (omega arith) (few_same store store refl refl refl) }
 
   pub computes_grow : (old new : Store S) → Computes dom plan old new → Grows old new
   computes_grow old new h = record {
@@ -90,7 +111,7 @@ module _ {S : Type 0} (dom : Operations S) (plan : Plan) where
 
   module _ (mid new : Store S) (right : IsRight dom plan mid) (n : ℕ) (x : CellName) (f : Filled Held)
       (number : slice_get mid.names.names n ≡ Some x) (absent : get mid.graph.cells n ≡ None) (has : HasName plan.engine plan.program x) (is : IsCellOf dom plan mid x f) (there : AreCells mid.graph.cells f.inputs)
-      (names : new.names ≡ mid.names) (states : new.states ≡ mid.states) (operations : new.operations ≡ mid.operations) (memo : new.memo ≡ mid.memo) (recent : new.recent ≡ mid.recent) (cells : new.graph.cells ≡ insert mid.graph.cells n f) where
+      (names : new.names ≡ mid.names) (states : new.states ≡ mid.states) (operations : new.operations ≡ mid.operations) (memo : new.memo ≡ mid.memo) (recent : new.recent ≡ mid.recent) (stale : (q : ℕ) → stale_at new.stale q ≡ stale_at mid.stale q) (count : new.stale.count ≡ mid.stale.count) (cells : new.graph.cells ≡ insert mid.graph.cells n f) where
     here : get new.graph.cells n ≡ Some f
     here = ap (λ m. get m n) cells ∙ get-insert-here mid.graph.cells n f
 
@@ -204,6 +225,7 @@ module _ {S : Type 0} (dom : Operations S) (plan : Plan) where
       cells = at_cell;
       results = results;
       recent = recent_results;
+      stale = stale_grows dom plan mid.names.names new.names.names mid.states new.states grows.names grows.states mid.stale new.stale stale right.stale;
     }
 
     one_more : len new.graph.cells ≡ suc (len mid.graph.cells)
@@ -217,5 +239,5 @@ module _ {S : Type 0} (dom : Operations S) (plan : Plan) where
       grows = grows_trans old mid new (computes_grow old mid c) grows;
       adds = λ y. adds y ∙ ap (λ b. b || same_name y x) (computes_kept old mid c y);
       count = one_more ∙ ap (λ m. suc (len m)) c.cells;
-      few = few_trans old mid new 1 0 c.few (few_same mid new states operations);
+      few = few_trans old mid new 1 0 c.few (few_same mid new states operations count);
     }

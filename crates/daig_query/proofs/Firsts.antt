@@ -55,7 +55,7 @@ module _ {S : Type 0} (dom : Operations S) (plan : Plan) where
   -- A name beside it, of the same path, gets a number.
   pub named_beside : (old : Store S) (later : Known) (x : Name) (cell : ℕ) → IsRight dom plan old → (o : Open) → IsOpen dom plan old o → x.path ≡ o.name.path → Adds old.names.names later.names (name_in old.names.paths x) cell → later.paths ≡ old.names.paths →
       Named old (record old { names = later }) (name_in old.names.paths x) x cell
-  named_beside old later x cell right o opened beside adds paths = named_here old (record old { names = later }) x cell right.once (subst (λ n. n < length old.names.paths) (sym beside) opened.path) adds paths refl refl refl refl refl
+  named_beside old later x cell right o opened beside adds paths = named_here old (record old { names = later }) x cell right.once (subst (λ n. n < length old.names.paths) (sym beside) opened.path) adds paths refl refl refl refl refl refl
 
   -- Its next input gets a number.
   module _ (old new : Store S) (right : IsRight dom plan old) (y : CellName) (x : Name) (cell : ℕ) (named : Named old new y x cell) (o : Open) (opened : IsOpen dom plan old o) (next : next_of dom plan old o ≡ Some y) where

@@ -21,6 +21,8 @@ use Rattle.daig_query.specs.Kept.{Cells, kept, IsValue, AddsFew, AddsNoCell, Gro
 use Rattle.cell_graph.specs.Asked.{inputs}
 use Rattle.daig_query.specs.Right.{found, IsCellOf, IsRight}
 use Rattle.daig_query.specs.Opened.{name_of, IsOpen, next_of}
+use Rattle.daig_query.specs.Stale.{stale_at}
+use Rattle.daig_query.proofs.StaleGrowth.{stale_grows}
 use Rattle.cell_graph.proofs.Numbers.{filled_number, filled_named, numbers_grow}
 use Rattle.base_values.proofs.Lists.{get_some}
 
@@ -68,22 +70,22 @@ module _ {S : Type 0} where
 
   -- so many more, and so many after them
   pub few_trans : (a b c : Store S) (m n : ℕ) → AddsFew m a b → AddsFew n b c → AddsFew (m + n) a c
-  few_trans a b c m n h k = record { states = omega (arith, h.states, k.states); operations = omega (arith, h.operations, k.operations) }
+  few_trans a b c m n h k = record { states = omega (arith, h.states, k.states); operations = omega (arith, h.operations, k.operations); stale = k.stale ∙ h.stale }
 
   pub few_more : (a b : Store S) (m n : ℕ) → m ≤ n → AddsFew m a b → AddsFew n a b
-  few_more a b m n le h = record { states = omega (arith, h.states, le); operations = omega (arith, h.operations, le) }
+  few_more a b m n le h = record { states = omega (arith, h.states, le); operations = omega (arith, h.operations, le); stale = h.stale }
 
-  pub few_same : (a b : Store S) → b.states ≡ a.states → b.operations ≡ a.operations → AddsFew 0 a b
-  few_same a b states operations = let s = ap length states in let o = ap length operations in record { states = omega (arith, s); operations = omega (arith, o) }
+  pub few_same : (a b : Store S) → b.states ≡ a.states → b.operations ≡ a.operations → b.stale.count ≡ a.stale.count → AddsFew 0 a b
+  few_same a b states operations stale = let s = ap length states in let o = ap length operations in record { states = omega (arith, s); operations = omega (arith, o); stale = stale }
 
   pub names_few : (old new : Store S) → Names old new → AddsFew 0 old new
-  names_few old new h = few_same old new h.states h.operations
+  names_few old new h = few_same old new h.states h.operations (ap (λ s. s.count) h.stale)
 
   pub names_no_cell : (old new : Store S) → Names old new → AddsNoCell old new
   names_no_cell old new h = record { cells = ap (λ g. g.cells) h.graph; few = few_more old new 0 1 (omega arith) (names_few old new h) }
 
   pub names_refl : (store : Store S) → Names store store
-  names_refl store = record { paths = keeps_refl store.names.paths; names = keeps_refl store.names.names; states = refl; operations = refl; memo = refl; recent = refl; graph = refl }
+  names_refl store = record { paths = keeps_refl store.names.paths; names = keeps_refl store.names.names; states = refl; operations = refl; memo = refl; recent = refl; stale = refl; graph = refl }
 
   pub names_trans : (a b c : Store S) → Names a b → Names b c → Names a c
   names_trans a b c h k = record {
@@ -93,6 +95,7 @@ module _ {S : Type 0} where
     operations = k.operations ∙ h.operations;
     memo = k.memo ∙ h.memo;
     recent = k.recent ∙ h.recent;
+    stale = k.stale ∙ h.stale;
     graph = k.graph ∙ h.graph;
   }
 
@@ -146,6 +149,7 @@ module _ {S : Type 0} (dom : Operations S) (plan : Plan) where
         subst (λ operations. AreResults dom operations old.states old.recent.entries) (sym more.operations) right.recent
         )
         );
+    stale = stale_grows dom plan old.names.names new.names.names old.states new.states more.names (keeps_same old.states new.states more.states) old.stale new.stale (λ n. ap (λ s. stale_at s n) more.stale) right.stale;
   }
     where
       same : (x : CellName) → kept new x ≡ kept old x

@@ -1,4 +1,8 @@
 pub mod Lists
+pub mod StaleLists
+pub mod StaleGrowth
+pub mod StaleTraces
+pub mod Revalidating
 pub mod Growing
 pub mod Found
 pub mod Stopping

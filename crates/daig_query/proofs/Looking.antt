@@ -44,8 +44,8 @@ pub record Named {S : Type 0} (old new : Store S) (y : CellName) (x : Name) (cel
   pub number : slice_get new.names.names cell ≡ Some y
 
 pub named_by : {S : Type 0} (old new : Store S) (mid : Known) (x : Name) (cell : ℕ) (y : CellName) → IsOnce old.names.names → KeepsNumbers old.names.paths mid.paths → mid.names ≡ old.names.names → name_in mid.paths x ≡ y → x.path < length mid.paths →
-    Adds mid.names new.names.names (name_in mid.paths x) cell → new.names.paths ≡ mid.paths → new.states ≡ old.states → new.operations ≡ old.operations → new.memo ≡ old.memo → new.recent ≡ old.recent → new.graph ≡ old.graph → Named old new y x cell
-named_by old new mid x cell y once keeps same is path adds paths states operations memo recent graph = record {
+    Adds mid.names new.names.names (name_in mid.paths x) cell → new.names.paths ≡ mid.paths → new.states ≡ old.states → new.operations ≡ old.operations → new.memo ≡ old.memo → new.recent ≡ old.recent → new.stale ≡ old.stale → new.graph ≡ old.graph → Named old new y x cell
+named_by old new mid x cell y once keeps same is path adds paths states operations memo recent stale graph = record {
   names = record {
     paths = keeps_trans old.names.paths mid.paths new.names.paths keeps (keeps_same mid.paths new.names.paths paths);
     names = keeps_trans old.names.names mid.names new.names.names (keeps_same old.names.names mid.names same) (adds_keeps mid.names new.names.names (name_in mid.paths x) cell adds);
@@ -53,6 +53,7 @@ named_by old new mid x cell y once keeps same is path adds paths states operatio
     operations = operations;
     memo = memo;
     recent = recent;
+    stale = stale;
     graph = graph;
   };
   once = adds_once mid.names new.names.names (name_in mid.paths x) cell adds (subst IsOnce (sym same) once);

@@ -5,7 +5,6 @@ use Rattle.std.specs.Prelude.{IfSome, IsSome}
 use Rattle.domain_laws.specs.Operations.{Operations}
 use Rattle.cell_names.specs.Known.{KeepsNumbers, IsOnce}
 use Rattle.cell_names.specs.Paths.{CellName}
-use Rattle.cell_rows.specs.Cells.{Cell}
 use Rattle.state_table.specs.Numbers.{AreOnce}
 use Rattle.imp_flow.specs.Plans.{Plan}
 use Rattle.imp_flow_rows.specs.declared.row.Row.{Row}
@@ -13,23 +12,19 @@ use Rattle.memo_table.specs.declared.operation.Operation.{Operation}
 use Rattle.memo_table.specs.declared.memo.Key.{Key}
 use Rattle.memo_table.specs.Results.{AreResults, IsResult, result_of, operand}
 use Rattle.daig_graph.specs.Cells.{Filled}
-use Rattle.daig_graph.specs.declared.value.Value.{Value}
-use Rattle.daig_graph.specs.declared.value.Value.TheVariants.{State, Over}
 use Rattle.daig_query.specs.declared.held.Held.{Held}
 use Rattle.daig_query.specs.declared.store.Store.{Store}
 use Rattle.cell_graph.specs.Named.{AreNumbers}
-use Rattle.daig_query.specs.Kept.{kept, AddsFew, IsValue}
+use Rattle.daig_query.specs.Kept.{kept, AddsFew}
 use Rattle.daig_query.specs.Made.{IsOperationOf, row_result, state_at}
 use Rattle.cell_graph.specs.Asked.{inputs}
 use Rattle.daig_query.specs.Right.{found, IsCellOf, IsRight}
 use Rattle.daig_query.specs.Opened.{Computes}
 use Rattle.daig_query.proofs.Computed.{made, operand_is}
-use Rattle.daig_query.proofs.Growing.{kept_alike}
+use Rattle.daig_query.specs.Stale.{stale_at}
+use Rattle.daig_query.proofs.Growing.{kept_alike, keeps_same}
+use Rattle.daig_query.proofs.StaleGrowth.{stale_grows, value_grows}
 use Rattle.base_values.proofs.Lists.{get_some}
-
-pub value_grows : {S : Type 0} (old new : List S) → KeepsNumbers old new → (u : Value Held) (v : Cell S) → IsValue old u v → IsValue new u v
-value_grows old new keeps (State h) v (s, at, e) = (s, keeps h.state s at, e)
-value_grows old new keeps (Over n chain) v e = e
 
 pub once_by : {A : Type 0} (eq : A → A → Bool) (xs : List A) → ((x : A) → eq x x ≡ true) → AreOnce eq xs → IsOnce xs
 once_by eq xs self once m n x e f = once m n x x e f (self x)
@@ -73,8 +68,8 @@ module _ {S : Type 0} (dom : Operations S) where
   state_grows old new keeps (Some n) h = let p = get_some old n h in keeps n p.0 p.1 ∙ sym p.1
 
   module _ (plan : Plan) where
-    pub right_more : (old new : Store S) → IsRight dom plan old → new.graph.cells ≡ old.graph.cells → new.names ≡ old.names → KeepsNumbers old.states new.states → IsOnce new.states → AreResults dom new.operations new.states new.memo.entries → AreResults dom new.operations new.states new.recent.entries → AddsFew 1 old new → Computes dom plan old new
-    right_more old new right graph names keeps single results recent few = record {
+    pub right_more : (old new : Store S) → IsRight dom plan old → new.graph.cells ≡ old.graph.cells → new.names ≡ old.names → KeepsNumbers old.states new.states → IsOnce new.states → AreResults dom new.operations new.states new.memo.entries → AreResults dom new.operations new.states new.recent.entries → ((n : ℕ) → stale_at new.stale n ≡ stale_at old.stale n) → AddsFew 1 old new → Computes dom plan old new
+    right_more old new right graph names keeps single results recent stale few = record {
       cells = graph;
       names = names;
       states = keeps;
@@ -87,6 +82,7 @@ module _ {S : Type 0} (dom : Operations S) where
         cells = λ n f e. cell_at n f (subst (λ m. get m n ≡ Some f) graph e);
         results = results;
         recent = recent;
+        stale = stale_grows dom plan old.names.names new.names.names old.states new.states (keeps_same old.names.names new.names.names (ap (λ k. k.names) names)) keeps old.stale new.stale stale right.stale;
       };
       few = few;
     }

@@ -21,6 +21,8 @@ use Rattle.daig_query.specs.Kept.{kept, IsValue}
 use Rattle.daig_query.specs.Renamed.{AreNamedAnew, Renames}
 use Rattle.daig_query.specs.Right.{found, IsCellOf, IsRight}
 use Rattle.daig_query.specs.Swept.{held_by, most_held, IsInTables, IsWithin, StaysRight}
+use Rattle.daig_query.specs.Stale.{IsFresh}
+use Rattle.daig_query.proofs.StaleGrowth.{none_stale}
 use Rattle.daig_query.proofs.Stacked.{cell_kept, input_kept}
 use Rattle.daig_query.proofs.Sweeping.{holder}
 
@@ -51,6 +53,7 @@ renames-refl store = record {
   operations = refl;
   memo = refl;
   recent = refl;
+  stale = refl;
 }
 
 -- the cell that a cell was
@@ -95,7 +98,7 @@ numbers-renamed new_of old new (n ∷ ns) (x ∷ xs) e same =
     let more : AreNumbers new (map (renumbered new_of) ns) xs = numbers-renamed new_of old new ns xs rest (λ i m h. same (suc i) m h) in
     cc
 
-module _ {S : Type 0} (dom : Operations S) (plan : Plan) (old new : Store S) (r : Renames old new) (right : IsRight dom plan old) where
+module _ {S : Type 0} (dom : Operations S) (plan : Plan) (old new : Store S) (r : Renames old new) (fresh : IsFresh new.stale) (right : IsRight dom plan old) where
   -- an input of a cell has a cell
   input-there : (n : ℕ) (f : Filled Held) (x : CellName) → get old.graph.cells n ≡ Some f → slice_get old.names.names n ≡ Some x → AreNumbers old.names.names f.inputs (inputs dom plan x) →
       (i m : ℕ) → slice_get f.inputs i ≡ Some m → IsSome (get old.graph.cells m)
@@ -135,11 +138,12 @@ module _ {S : Type 0} (dom : Operations S) (plan : Plan) (old new : Store S) (r 
         subst (λ operations. AreResults dom operations old.states old.recent.entries) (sym r.operations) right.recent
         )
         );
+    stale = none_stale dom plan new.names.names new.states new.stale fresh;
   }
 
--- what is right stays right
-pub renames-right : {S : Type 0} (dom : Operations S) (old new : Store S) → Renames old new → StaysRight dom old new
-renames-right dom old new r plan right = renamed-right dom plan old new r right
+-- what is right stays right where no cell is stale
+pub renames-right : {S : Type 0} (dom : Operations S) (old new : Store S) → Renames old new → IsFresh new.stale → StaysRight dom old new
+renames-right dom old new r fresh plan right = renamed-right dom plan old new r fresh right
 
 -- each cell stands in the tables still, and as many states and operations are kept for as many cells
 module _ {S : Type 0} (old new : Store S) (r : Renames old new) where
@@ -164,7 +168,7 @@ module _ {S : Type 0} (old new : Store S) (r : Renames old new) where
   renames-within spare h =
       let states : length new.states ≡ length old.states = ap length r.states in
       let operations : length new.operations ≡ length old.operations = ap length r.operations in
-      record { states = omega (arith, h.states, states, r.same_len); operations = omega (arith, h.operations, operations, r.same_len) }
+      record { states = omega (arith, h.states, states, r.same_len, r.stale); operations = omega (arith, h.operations, operations, r.same_len, r.stale) }
 
 -- where all names of cells are written anew, the cells may be renumbered
 module _ {S : Type 0} (old : Store S) (held : IsInTables old) (numbers : List ℕ) (later : List CellName) (anew : AreNamedAnew old.graph.cells old.names.names (length old.names.names) numbers later) where
@@ -180,8 +184,8 @@ module _ {S : Type 0} (old : Store S) (held : IsInTables old) (numbers : List �
 -- what the cells have then
 pub renames-all : {S : Type 0} (old new : Store S) (held : IsInTables old) (numbers : List ℕ) → AreNamedAnew old.graph.cells old.names.names (length old.names.names) numbers new.names.names →
     Renumbers numbers old.graph.cells new.graph.cells → len new.graph.cells ≡ len old.graph.cells → slice_get new.names.paths 0 ≡ Some [] → IsOnce old.names.names → IsOnce new.names.names →
-    new.states ≡ old.states → new.operations ≡ old.operations → new.memo ≡ old.memo → new.recent ≡ old.recent → Renames old new
-renames-all old new held numbers anew moves same_len root once later states operations memo recent =
+    new.states ≡ old.states → new.operations ≡ old.operations → new.memo ≡ old.memo → new.recent ≡ old.recent → new.stale.count ≡ old.stale.count → Renames old new
+renames-all old new held numbers anew moves same_len root once later states operations memo recent stale =
     let named = anew-named old held numbers new.names.names anew in
     record {
       new_of = numbers;
@@ -195,4 +199,5 @@ renames-all old new held numbers anew moves same_len root once later states oper
       operations = operations;
       memo = memo;
       recent = recent;
+      stale = stale;
     }

@@ -26,7 +26,9 @@ use Rattle.daig_query.specs.Right.{found, IsCellOf, IsRight}
 use Rattle.daig_query.specs.Filled.{cells_added, Fills}
 use Rattle.daig_query.specs.Claims.{Lessens}
 use Rattle.daig_query.specs.Swept.{held_by, most_held, renumbered, renumbered_value, AreKnown, AreMarked, AreRenumbered, FillsFew, IsBounded, IsInTables, IsWithin, StaysRight, Swept}
+use Rattle.daig_query.specs.Stale.{IsFresh}
 use Rattle.daig_query.proofs.Growing.{few_more, few_same, keeps_same}
+use Rattle.daig_query.proofs.StaleGrowth.{none_stale}
 use Rattle.std.proofs.lemmas.Bool.{cases_lt}
 use Rattle.base_values.proofs.Lists.{get_some}
 use Rattle.std.proofs.lemmas.List.{length-map}
@@ -48,7 +50,7 @@ same-number (Some f) = by f.value refl
 
 module _ {S : Type 0} where
   pub swept-refl : (store : Store S) → Swept store store
-  swept-refl store = record { names = refl; number = λ n. n; cells = λ n. same-number (get store.graph.cells n); same_len = refl; states = λ n h e. refl }
+  swept-refl store = record { names = refl; number = λ n. n; cells = λ n. same-number (get store.graph.cells n); same_len = refl; states = λ n h e. refl; stale = refl }
 
   module _ (old new : Store S) (swept : Swept old new) where
     same_there : (n : ℕ) → is_some (get new.graph.cells n) ≡ is_some (get old.graph.cells n)
@@ -117,8 +119,8 @@ module _ {S : Type 0} (dom : Operations S) (plan : Plan) (old new : Store S) (sw
       )
 
   -- what is right stays right where states have one number and results are right
-  pub swept-right : IsOnce new.states → AreResults dom new.operations new.states new.memo.entries → AreResults dom new.operations new.states new.recent.entries → IsRight dom plan new
-  swept-right single results recent = record {
+  pub swept-right : IsOnce new.states → AreResults dom new.operations new.states new.memo.entries → AreResults dom new.operations new.states new.recent.entries → IsFresh new.stale → IsRight dom plan new
+  swept-right single results recent fresh = record {
     checked = right.checked;
     root = ap (λ k. slice_get k.paths 0) swept.names ∙ right.root;
     once = subst (λ (k : Known). IsOnce k.names) (sym swept.names) right.once;
@@ -127,6 +129,7 @@ module _ {S : Type 0} (dom : Operations S) (plan : Plan) (old new : Store S) (sw
     cells = cell-stays;
     results = results;
     recent = recent;
+    stale = none_stale dom plan new.names.names new.states new.stale fresh;
   }
     where
       same : (x : CellName) → kept new x ≡ kept old x
@@ -149,7 +152,7 @@ no-results dom operations states key n c = absurd (let l : c.0 < 0 = c.1 in omeg
 -- All that a sweep does.
 module _ {S : Type 0} (old new : Store S) (entries : List (S × ℕ)) (count : ℕ) (held : IsInTables old) (size : count ≡ length old.names.names)
     (names : new.names ≡ old.names) (states_are : states_in entries ≡ old.states) (left : new.states ≡ marked_states entries)
-    (marked : AreMarked old.graph.cells count entries) (moves : AreRenumbered (rank entries) count old.graph.cells new.graph.cells) where
+    (marked : AreMarked old.graph.cells count entries) (moves : AreRenumbered (rank entries) count old.graph.cells new.graph.cells) (stale : new.stale.count ≡ old.stale.count) where
   named-below : (n : ℕ) (f : Filled Held) → get old.graph.cells n ≡ Some f → n < count
   named-below n f e = let below = held.named n f e in omega (arith, below, size)
 
@@ -171,14 +174,16 @@ module _ {S : Type 0} (old new : Store S) (entries : List (S × ℕ)) (count : �
         let f = holder old.graph.cells n h e in
         let m = marked n h (named-below n f.0 f.1) e in
         ap (λ l. slice_get l (rank entries h.state)) left ∙ marked-at entries h.state m ∙ ap (λ l. slice_get l h.state) states_are;
+    stale = stale;
   }
 
-  pub sweeps-right : (eq : S → S → Bool) → ((s : S) → eq s s ≡ true) → AreOnce eq new.states → new.memo.entries ≡ [] → new.recent.entries ≡ [] → (dom : Operations S) → StaysRight dom old new
-  sweeps-right eq same once empty none dom plan right =
+  pub sweeps-right : (eq : S → S → Bool) → ((s : S) → eq s s ≡ true) → AreOnce eq new.states → new.memo.entries ≡ [] → new.recent.entries ≡ [] → IsFresh new.stale → (dom : Operations S) → StaysRight dom old new
+  sweeps-right eq same once empty none fresh dom plan right =
       swept-right dom plan old new sweeps right
       (λ m n s e f. once m n s s e f (same s))
       (subst (AreResults dom new.operations new.states) (sym empty) (no-results dom new.operations new.states))
       (subst (AreResults dom new.operations new.states) (sym none) (no-results dom new.operations new.states))
+      fresh
 
 -- What is bounded after a sweep is so after a fill.
 module _ {S : Type 0} where
@@ -193,15 +198,15 @@ module _ {S : Type 0} where
 
   pub filled-bounded : (spare : ℕ) (old new : Store S) → IsWithin (most_held spare old) old → FillsFew old new → IsBounded spare new
   filled-bounded spare old new h f = record {
-    states = omega (arith, h.states, f.more, f.few.states);
-    operations = omega (arith, h.operations, f.more, f.few.operations);
+    states = omega (arith, h.states, f.more, f.few.states, f.few.stale);
+    operations = omega (arith, h.operations, f.more, f.few.operations, f.few.stale);
   }
 
   pub fills-few : (dom : Operations S) (plan : Plan) (ts : List Target) (old new : Store S) → Fills dom plan ts old new (cells_added old new) → FillsFew old new
   fills-few dom plan ts old new fills = record { more = omega (arith, fills.counted); few = fills.few }
 
   pub few-none : (store : Store S) → FillsFew store store
-  few-none store = record { more = omega arith; few = few_more store store 0 (suc (cells_added store store)) (omega arith) (few_same store store refl refl) }
+  few-none store = record { more = omega arith; few = few_more store store 0 (suc (cells_added store store)) (omega arith) (few_same store store refl refl refl) }
 
   -- a store that has fewer cells is still in the tables
   pub lessens-in-tables : (old new : Store S) → Lessens old new → IsInTables old → IsInTables new

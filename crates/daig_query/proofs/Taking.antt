@@ -54,7 +54,7 @@ module _ {S : Type 0} (dom : Operations S) (plan : Plan) (ts : List plain.Target
   asking old w x cell names right placed path asked adds paths =
       let new : Store S = record old { names = names } in
       let y = name_in old.names.paths x in
-      let named : Named old new y x cell = named_here old new x cell right.once path adds paths refl refl refl refl refl in
+      let named : Named old new y x cell = named_here old new x cell right.once path adds paths refl refl refl refl refl refl in
       let right_new = right_later dom plan ts old new right y x cell named w placed asked in
       let placed_new = placed_later dom plan ts old new right y x cell named w placed asked in
       record {
@@ -81,7 +81,7 @@ module _ {S : Type 0} (dom : Operations S) (plan : Plan) (ts : List plain.Target
 
   -- into a frame
   pub entered : (new : Store S) (w after : Walk) (frame : NameFrame) (names : Known) → Enters frame new.names names w after → Names new (record new { names = names })
-  entered new w after frame names e = record { paths = e.kept; names = keeps_same new.names.names names.names e.same; states = refl; operations = refl; memo = refl; recent = refl; graph = refl }
+  entered new w after frame names e = record { paths = e.kept; names = keeps_same new.names.names names.names e.same; states = refl; operations = refl; memo = refl; recent = refl; stale = refl; graph = refl }
 
   pub entered_right : (new : Store S) (w after : Walk) (frame : NameFrame) (names : Known) → Enters frame new.names names w after → IsRight dom plan new → IsRight dom plan (record new { names = names })
   entered_right new w after frame names e right = right_named dom plan new (record new { names = names }) right (entered new w after frame names e) (subst (λ xs. IsOnce xs) (sym e.same) right.once)

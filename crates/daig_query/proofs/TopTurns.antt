@@ -1,11 +1,14 @@
 -- A turn after a look at the name on top of a stack.
-use Rattle.std.proofs.Common.{◌≡◌, ℕ, ◌+◌, ◌<◌, ◌≤◌, Bool, true, false, List, [], ◌∷◌, ◌++◌, length, Option, Some, None, Result, Ok, Err, option_map, IfSome, sym, ap, subst, ◌∙◌, arith, length-append}
+use Rattle.std.proofs.Common.{◌≡◌, ℕ, ◌+◌, ◌<◌, ◌≤◌, Bool, true, false, List, [], ◌∷◌, ◌++◌, length, Option, Some, None, Result, Ok, Err, option_map, IfSome, inl, inr, refl, sym, ap, subst, ◌∙◌, arith, length-append}
 use Rattle.domain_laws.specs.Operations.{Operations}
 use Rattle.cell_rows.specs.Targets.{Target}
 use Rattle.imp_flow.specs.Plans.{Plan}
 use Rattle.imp_flow_rows.specs.declared.row.Row.{Row}
+use Rattle.daig_query.specs.declared.held.Held.{Held}
 use Rattle.daig_query.specs.declared.opening.Absent.{Absent}
 use Rattle.daig_query.specs.declared.opening.Open.{Open}
+use Rattle.daig_query.specs.declared.revalidation.Revalidation.{Revalidation}
+use Rattle.daig_query.specs.declared.revalidation.Revalidation.TheVariants.{Waits as Waiting, Valid}
 use Rattle.daig_query.specs.declared.store.Store.{Store}
 use Rattle.daig_query.specs.declared.turning.TurnOutcome.{TurnOutcome}
 use Rattle.daig_query.specs.declared.turning.TurnOutcome.TheVariants.{Pushed, Filled, Spent}
@@ -14,9 +17,10 @@ use Rattle.daig_query.specs.Kept.{kept, Names}
 use Rattle.daig_query.specs.Right.{IsRight}
 use Rattle.daig_query.specs.Opened.{name_of, next_of, unfound, Computes, IsNext, Puts}
 use Rattle.daig_query.specs.Looked.{HasFurtherTop, HasOpenTop, IsTopOpen, LooksAtFirst, LooksAtTop}
+use Rattle.daig_query.specs.Revalidated.{Finds, FindsOnTop, IsTopValid, IsValid}
 use Rattle.daig_query.specs.Turned.{stacked_names, FillsTop, HandsDown, IsTopAbsent, IsTurn, Pushes, Waits}
 use Rattle.daig_query.specs.Walked.{place_of, AreStacked, IsGood}
-use Rattle.daig_query.proofs.Lists.{same_last}
+use Rattle.daig_query.proofs.Lists.{last_view, same_last}
 use Rattle.daig_query.proofs.Tops.{open_at_end, further_stays, good_rest, good_entry, good_pushed, good_handed, entry_names, pushes_top, waits_top, fills_top, absent_mid}
 use Rattle.daig_query.proofs.Outcomes.{turn_failed, turn_pushed, turn_spent, turn_unfilled, turn_filled, turn_before}
 
@@ -36,6 +40,21 @@ module _ {S : Type 0} {dom : Operations S} {plan : Plan} {store : Store S} where
 
   pub first_found : {old new : List Open} {found : Option Absent} {a : Absent} (k : LooksAtFirst dom plan store old new found) → found ≡ Some a → IsNext dom plan store k.stack.entry (Some (unfound a))
   first_found k e = subst (λ f. IfSome f (λ b. IsNext dom plan store k.stack.entry (Some (unfound b)))) e k.next
+
+  -- what was found of a stale cell
+  module _ {old new : List Open} {end : Revalidation} (k : FindsOnTop dom plan store old new end) where
+    pub top_waits : {a : Absent} → end ≡ Waiting a → IsNext dom plan store k.stack.entry (Some (unfound a))
+    top_waits is = subst (Finds dom plan store k.stack.entry) is k.finds
+
+    pub top_valid : {h : Held} → end ≡ Valid h → IsTopValid dom plan store h new
+    top_valid {h} is rest u e = subst (λ o. IsValid dom plan store o h) (same_last k.stack.rest rest k.stack.entry u (sym k.stack.after ∙ e)).1 (subst (Finds dom plan store k.stack.entry) is k.finds)
+
+  -- the name on top, as it is
+  pub top_there : {ts : List Target} {w : Walk} → IsGood dom plan ts store w → 0 < length w.stack.items → HasOpenTop dom plan store w.stack.items w.stack.items
+  top_there {ts} {w} good some = elim (last_view w.stack.items) [
+    | inl e ↦ (let l = ap length e in absurd (omega (arith, some, l)))
+    | inr p ↦ record { rest = p.0; top = p.1; entry = p.1; before = p.2; after = p.2; stays = record { entry = top_opened good p.0 p.1 p.2; cell = refl; name = refl } }
+  ]
 
 -- A look at the name on top of a walk's stack gave names numbers, and left this stack.
 pub record HasLooked {S : Type 0} (dom : Operations S) (plan : Plan) (ts : List Target) (old mid : Store S) (w : Walk) (stack : List Open) : Type 0 where

@@ -33,10 +33,11 @@ pub record Grows {S : Type 0} (old new : Store S) : Type 0 where
   pub states : KeepsNumbers old.states new.states
   pub cells : (n : ℕ) (f : Filled Held) → get old.graph.cells n ≡ Some f → get new.graph.cells n ≡ Some f
 
--- At most so many states are added, and so many operations.
+-- At most so many states are added, and so many operations, and as many cells may be stale as before.
 pub record AddsFew {S : Type 0} (count : ℕ) (old new : Store S) : Type 0 where
   pub states : length new.states ≤ length old.states + count
   pub operations : length new.operations ≤ length old.operations + count
+  pub stale : new.stale.count ≡ old.stale.count
 
 -- No cell is added, and one state and one operation at most.
 pub record AddsNoCell {S : Type 0} (old new : Store S) : Type 0 where
@@ -57,4 +58,5 @@ pub record Names {S : Type 0} (old new : Store S) : Type 0 where
   pub operations : new.operations ≡ old.operations
   pub memo : new.memo ≡ old.memo
   pub recent : new.recent ≡ old.recent
+  pub stale : new.stale ≡ old.stale
   pub graph : new.graph ≡ old.graph

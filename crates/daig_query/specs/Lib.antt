@@ -1,4 +1,7 @@
 pub mod Kept
+pub mod Dates
+pub mod Stale
+pub mod Traced
 pub mod Right
 pub mod Asked
 pub mod Made
@@ -6,6 +9,7 @@ pub mod Recalled
 pub mod Overs
 pub mod Opened
 pub mod Looked
+pub mod Revalidated
 pub mod Walked
 pub mod Filled
 pub mod Turned

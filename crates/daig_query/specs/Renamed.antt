@@ -43,7 +43,7 @@ module _ {S : Type 0} where
   HasNamesOfCells store made = length made.names.names ≤ len store.graph.cells
 
   -- Each cell has the name, the value and the inputs that it had, under other numbers; the same names have cells, and
-  -- states, operations and what is remembered stay.
+  -- states, operations and what is remembered stay. As many cells may be stale as before.
   pub record Renames (old new : Store S) : Type 0 where
     pub new_of : List ℕ
     pub cells : Renumbers new_of old.graph.cells new.graph.cells
@@ -56,3 +56,4 @@ module _ {S : Type 0} where
     pub operations : new.operations ≡ old.operations
     pub memo : new.memo ≡ old.memo
     pub recent : new.recent ≡ old.recent
+    pub stale : new.stale.count ≡ old.stale.count

@@ -18,6 +18,7 @@ use Rattle.cell_graph.specs.Same.{same_name}
 use Rattle.cell_graph.specs.Named.{AreNumbers}
 use Rattle.cell_graph.specs.Asked.{inputs}
 use Rattle.daig_query.specs.Kept.{kept, IsValue}
+use Rattle.daig_query.specs.Traced.{AreStale}
 
 module _ {S : Type 0} (dom : Operations S) (plan : Plan) where
   -- the value with an index that a name of the program has
@@ -32,7 +33,7 @@ module _ {S : Type 0} (dom : Operations S) (plan : Plan) where
 
   -- The program is checked; the first path is empty; names and states have one number; the names that have cells are
   -- names of the program, and closed under inputs; each cell is that of its number's name; and what is remembered, and
-  -- what was found last, are results of operations.
+  -- what was found last, are results of operations; and each stale cell is that of its number's name.
   pub record IsRight (store : Store S) : Type 0 where
     pub checked : IsChecked plan.program
     pub root : slice_get store.names.paths 0 ≡ Some []
@@ -42,3 +43,4 @@ module _ {S : Type 0} (dom : Operations S) (plan : Plan) where
     pub cells : (n : ℕ) (f : Filled Held) → get store.graph.cells n ≡ Some f → (x : CellName) × (slice_get store.names.names n ≡ Some x) × IsCellOf store x f
     pub results : AreResults dom store.operations store.states store.memo.entries
     pub recent : AreResults dom store.operations store.states store.recent.entries
+    pub stale : AreStale dom plan store.names.names store.states store.stale

@@ -46,13 +46,14 @@ module _ {S : Type 0} where
     pub named : (n : ℕ) (f : Filled Held) → get store.graph.cells n ≡ Some f → n < length store.names.names
     pub known : AreKnown store.graph.cells (length store.states)
 
-  -- The names stay, and so do the cells, each with the state that it held.
+  -- The names stay, and so do the cells, each with the state that it held. As many cells may be stale as before.
   pub record Swept (old new : Store S) : Type 0 where
     pub names : new.names ≡ old.names
     pub number : ℕ → ℕ
     pub cells : (n : ℕ) → get new.graph.cells n ≡ option_map (renumbered number) (get old.graph.cells n)
     pub same_len : len new.graph.cells ≡ len old.graph.cells
     pub states : (n : ℕ) (h : Held) → held_by old.graph.cells n ≡ Some h → slice_get new.states (number h.state) ≡ slice_get old.states h.state
+    pub stale : new.stale.count ≡ old.stale.count
 
   -- what is right for a program stays right for it
   abbrev pub StaysRight : Operations S → (old new : Store S) → Type 0
@@ -63,13 +64,13 @@ module _ {S : Type 0} where
     pub states : length store.states ≤ most
     pub operations : length store.operations ≤ most
 
-  -- how many are kept at most after a sweep
+  -- how many are kept at most after a sweep: four for each cell, each stale one too
   abbrev pub most_held : (spare : ℕ) → Store S → ℕ
-  most_held spare store = 4 * len store.graph.cells + spare
+  most_held spare store = 4 * (len store.graph.cells + store.stale.count) + spare
 
   -- how many after a call of a session: those of each cell that it filled more, and one of a cell that it could not fill
   abbrev pub IsBounded : (spare : ℕ) → Store S → Type 0
-  IsBounded spare store = IsWithin (5 * len store.graph.cells + spare + 1) store
+  IsBounded spare store = IsWithin (5 * len store.graph.cells + 4 * store.stale.count + spare + 1) store
 
   -- Cells are only added, and for each a state and an operation at most, and one for a cell that could not be filled.
   pub record FillsFew (old new : Store S) : Type 0 where

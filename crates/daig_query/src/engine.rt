@@ -8,10 +8,12 @@ ghost use Rattle.imp_flow.specs.Plans.{Plan};
 ghost use Rattle.daig_query.specs.Claims.{Lessens};
 ghost use Rattle.daig_query.specs.Kept.{kept};
 ghost use Rattle.daig_query.specs.Right.{IsRight};
+ghost use Rattle.daig_query.specs.Stale.{AreStaleOf};
 ghost use Rattle.daig_query.specs.Swept.{IsBounded};
 
 use crate::held::Held;
 use crate::operation_table::OperationTable;
+use crate::stale::StaleCells;
 use crate::store::Store;
 use base_values::Memory;
 use cell_names::Names;
@@ -58,6 +60,7 @@ impl<D: Domain + Drop> Engine<D> {
             operations,
             memo,
             recent,
+            stale: StaleCells::new(alloc),
         };
         Ok(Engine {
             domain,
@@ -89,16 +92,23 @@ impl<D: Domain> Engine<D> {
         &self.store.names
     }
 
-    /// Takes planned cells away, as when an edit empties them. It takes as many steps as they have inputs, and no memory.
-    /// Where the cells that are left are those of another program, all is right for that one (`cells_stay_right`).
-    pub fn empty(&mut self, plan: cell_removal::RemovalOrder)
+    /// Takes planned cells away, as when an edit empties them. Those that are not touched, whose own row is not changed, are
+    /// stale from then on, and no others. It takes as many steps as the cells have inputs, and no memory. Where the cells that
+    /// are left, and the stale ones, are those of another program, all is right for that one (`cells_stay_right`).
+    pub fn empty(&mut self, plan: cell_removal::RemovalOrder, touched: &[usize])
         requires order { IsOrder self.old.store.graph.cells plan }
+        ensures stale { AreStaleOf self.old.store.graph.cells plan touched.now
+            self.new.store.stale }
+        ensures few { self.new.store.stale.count ≤ map.len self.old.store.graph.cells }
         ensures removes { self.new.store.graph.cells ≡ without self.old.store.graph.cells plan }
         ensures places { self.new.store.graph.places ≡ self.old.store.graph.places }
         ensures lessens { Lessens self.old.store self.new.store }
         ensures domain { self.new.domain ≡ self.old.domain }
         ensures spare { self.new.spare ≡ self.old.spare }
     {
+        self.store
+            .stale
+            .mark(&self.store.graph, plan.cells(), touched);
         commit(&mut self.store.graph, plan);
     }
 

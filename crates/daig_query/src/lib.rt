@@ -17,6 +17,8 @@ mod names_sweep;
 mod opening;
 mod operation_table;
 mod operations;
+mod revalidation;
+mod stale;
 mod store;
 mod sweep;
 mod turning;

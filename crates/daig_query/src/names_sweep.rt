@@ -80,6 +80,7 @@ fn rename_cells<S: Eq + Hash + Drop>(store: &mut Store<S>, made: NewNames)
     let NewNames { names, numbers } = made;
     store.names.numbers_are_one();
     names.numbers_are_one();
+    store.stale.clear();
     store.graph.renumber(numbers.as_slice());
     store.names = names;
 }

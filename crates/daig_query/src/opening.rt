@@ -202,5 +202,6 @@ pub(crate) fn fill<D: Domain, L: Ledger>(
         name: _,
         inputs,
     } = entry;
+    store.stale.make_place(cell)?;
     store.graph.fill(cell, owner, value, inputs)
 }

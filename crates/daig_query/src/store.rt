@@ -1,6 +1,7 @@
 //! What an engine keeps.
 use crate::held::Held;
 use crate::operation_table::OperationTable;
+use crate::stale::StaleCells;
 use cell_names::Names;
 use daig_graph::Graph;
 use memo_table::{Memo, RecentResults};
@@ -17,4 +18,6 @@ pub(crate) struct Store<S: Eq + Hash> {
     pub(crate) memo: Memo<S>,
     // what the memo gave or kept last
     pub(crate) recent: RecentResults,
+    // what the last edit emptied
+    pub(crate) stale: StaleCells,
 }

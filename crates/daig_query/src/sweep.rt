@@ -3,6 +3,7 @@ ghost use Rattle.std.specs.Prelude.{◌≡◌, ◌+◌, ◌*◌, ◌≤◌, [], 
 ghost use Rattle.std.specs.FinMap.{len};
 ghost use Rattle.domain_laws.specs.Operations.{Operations};
 ghost use Rattle.state_table.specs.Marks.{mark_count, rank, states_in, AreNumbered};
+ghost use Rattle.daig_query.specs.Stale.{IsFresh};
 ghost use Rattle.daig_query.specs.Swept.{most_held, AreKnown, AreMarked, AreRenumbered, IsInTables, IsWithin, StaysRight, Swept};
 
 use crate::engine::Engine;
@@ -28,7 +29,7 @@ impl<D: Domain> Engine<D> {
         ensures right { StaysRight (D.operations self.old.domain) self.old.store self.new.store }
         ensures bounded { IsWithin (most_held self.old.spare self.new.store) self.new.store }
     {
-        let most = most_kept(&self.store.graph, self.spare);
+        let most = most_held(&self.store, self.spare);
         let store = &mut self.store;
         if store.states.len() > most || store.operations.len() > most {
             sweep_all(store);
@@ -37,6 +38,14 @@ impl<D: Domain> Engine<D> {
 }
 
 /// So many states and operations are kept at most.
+fn most_held<S: Eq + Hash>(store: &Store<S>, spare: usize) -> usize
+    ensures most { result ≤ most_held spare store.now }
+{
+    let stale = store.stale.count().saturating_mul(4);
+    most_kept(&store.graph, spare).saturating_add(stale)
+}
+
+/// So many names are kept at most.
 pub(crate) fn most_kept(graph: &Graph<Held>, spare: usize) -> usize
     ensures most { result ≤ 4 * len graph.now.cells + spare }
 {
@@ -50,7 +59,9 @@ pub(crate) fn sweep_all<S: Eq + Hash + Drop>(store: &mut Store<S>)
     ensures right { (dom : Operations S) → StaysRight dom store.old store.new }
     ensures few { length store.new.states ≤ len store.new.graph.cells }
     ensures operations { store.new.operations ≡ [] }
+    ensures fresh { IsFresh store.new.stale }
 {
+    store.stale.clear();
     store.memo.clear();
     store.recent.clear();
     store.operations.clear();

@@ -5,12 +5,15 @@
 ghost use Rattle.std.specs.Prelude.{◌≡◌, ◌<◌, [], ◌∷◌, ◌++◌, map, vec_len, IfOk, OnErr};
 ghost use Rattle.imp_flow.specs.Reached.{target_of};
 ghost use Rattle.daig_query.specs.Kept.{Grows, Names as OnlyNames};
+ghost use Rattle.daig_query.specs.Revalidated.{FindsOnTop, IsTopValid};
 ghost use Rattle.daig_query.specs.Right.{IsRight};
 ghost use Rattle.daig_query.specs.Looked.{HasFurtherTop, HasOpenTop, IsTopAt, IsTopOpen, LooksAtFirst, LooksAtTop};
 ghost use Rattle.daig_query.specs.Walked.{AreTargets, IsGood, IsPlaced};
 ghost use Rattle.daig_query.specs.Turned.{stacked_names, HandsDown, IsTopAbsent, IsTurn, Turns};
 
+use crate::held::Held;
 use crate::opening::{Absent, Open, fill, first_absent, next_absent, opened, row_of};
+use crate::revalidation::{Revalidation, keep_again, revalidate};
 use crate::store::Store;
 use crate::walk::{Walk, next_demanded};
 use base_values::Memory;
@@ -124,6 +127,28 @@ fn first_of_top<D: Domain>(
     }
 }
 
+/// Whether the name on top can be filled with what its stale cell held.
+#[inline(always)]
+fn revalidate_top<D: Domain>(
+    dom: &D,
+    flow: &Flow<'_>,
+    store: &Store<D::State>,
+    stack: &mut Vec<Open>,
+) -> Result<Revalidation, Memory>
+    requires some { 0 < vec_len stack.old }
+    requires right { IsRight (D.operations dom.now) flow.now store.now }
+    requires top { IsTopOpen (D.operations dom.now) flow.now store.now stack.old.items }
+    ensures finds { IfOk result (FindsOnTop (D.operations dom.now) flow.now store.now
+        stack.old.items stack.new.items) }
+    ensures err { OnErr result (HasOpenTop (D.operations dom.now) flow.now store.now
+        stack.old.items stack.new.items) }
+{
+    match stack.last_mut() {
+        Some(top) => revalidate(dom, flow, store, top),
+        None => unreachable!(),
+    }
+}
+
 /// The name on top, which is taken off.
 #[inline]
 fn take_top(stack: &mut Vec<Open>) -> Open
@@ -175,9 +200,71 @@ fn turn_by_row<D: Domain, L: Ledger>(
     Ok(TurnOutcome::Filled)
 }
 
+/// With a name on top of the stack: its first missing input is pushed on it, or it is filled, taken off and handed down. The
+/// row is made only where the first input is not found without it, or has a cell.
+#[inline]
+fn turn_top<D: Domain, L: Ledger>(
+    alloc: Global,
+    dom: &D,
+    flow: &Flow<'_>,
+    store: &mut Store<D::State>,
+    targets: &[Target],
+    walk: &mut Walk,
+    spent: bool,
+    steps: &mut Steps<L>,
+) -> Result<TurnOutcome, Memory>
+    requires right { IsRight (D.operations dom.now) flow.now store.old }
+    requires walk { IsGood (D.operations dom.now) flow.now (map target_of targets.now) store.old
+        walk.old }
+    requires some { 0 < vec_len walk.old.stack }
+    requires absent { IsTopAbsent store.old walk.old.stack.items }
+    ensures turn { IsTurn (D.operations dom.now) flow.now (map target_of targets.now) store.old
+        store.new (stacked_names store.old walk.old.stack.items) walk.new spent
+        (D.counted dom.now) steps.old steps.new result }
+{
+    if let Some(absent) = first_of_top(dom, flow, store, &mut walk.stack)? {
+        walk.stack.push(opened(alloc, absent.cell, &absent.name))?;
+        return Ok(TurnOutcome::Pushed);
+    }
+    turn_by_row(alloc, dom, flow, store, targets, walk, spent, steps)
+}
+
+/// With a name on top of the stack that is valid again: it is filled with what its stale cell held, taken off and handed down.
+#[inline(always)]
+fn turn_valid<D: Domain, L: Ledger>(
+    dom: &D,
+    flow: &Flow<'_>,
+    store: &mut Store<D::State>,
+    targets: &[Target],
+    walk: &mut Walk,
+    spent: bool,
+    held: Held,
+    steps: &mut Steps<L>,
+) -> Result<TurnOutcome, Memory>
+    requires right { IsRight (D.operations dom.now) flow.now store.old }
+    requires walk { IsGood (D.operations dom.now) flow.now (map target_of targets.now) store.old
+        walk.old }
+    requires some { 0 < vec_len walk.old.stack }
+    requires absent { IsTopAbsent store.old walk.old.stack.items }
+    requires valid { IsTopValid (D.operations dom.now) flow.now store.old held
+        walk.old.stack.items }
+    ensures turn { IsTurn (D.operations dom.now) flow.now (map target_of targets.now) store.old
+        store.new (stacked_names store.old walk.old.stack.items) walk.new spent
+        (D.counted dom.now) steps.old steps.new result }
+{
+    if spent {
+        return Ok(TurnOutcome::Spent);
+    }
+    let entry = take_top(&mut walk.stack);
+    let cell = entry.cell;
+    keep_again(dom, flow, store, entry, held)?;
+    hand_down(&mut walk.stack, cell);
+    Ok(TurnOutcome::Filled)
+}
+
 /// A turn of the machine: the next demanded name is pushed on the empty stack; the first missing input of the name on top is
-/// pushed on that; or that is filled, taken off and handed down. Where `spent`, nothing is filled. The row is made only where
-/// the first input is not found without it, or has a cell.
+/// pushed on that; or that is filled, taken off and handed down. Where `spent`, nothing is filled. A name whose stale cell is
+/// valid again is filled with what that held.
 #[inline]
 pub(crate) fn take_turn<D: Domain, L: Ledger>(
     alloc: Global,
@@ -201,9 +288,14 @@ pub(crate) fn take_turn<D: Domain, L: Ledger>(
     if walk.stack.is_empty() {
         return turn_walk(alloc, dom, flow, store, targets, walk);
     }
-    if let Some(absent) = first_of_top(dom, flow, store, &mut walk.stack)? {
-        walk.stack.push(opened(alloc, absent.cell, &absent.name))?;
-        return Ok(TurnOutcome::Pushed);
+    match revalidate_top(dom, flow, store, &mut walk.stack)? {
+        Revalidation::Changed => turn_top(alloc, dom, flow, store, targets, walk, spent, steps),
+        Revalidation::Waits(absent) => {
+            walk.stack.push(opened(alloc, absent.cell, &absent.name))?;
+            Ok(TurnOutcome::Pushed)
+        }
+        Revalidation::Valid(held) => {
+            turn_valid(dom, flow, store, targets, walk, spent, held, steps)
+        }
     }
-    turn_by_row(alloc, dom, flow, store, targets, walk, spent, steps)
 }

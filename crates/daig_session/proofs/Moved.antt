@@ -1,6 +1,7 @@
 -- Moves to other programs.
-use Rattle.std.proofs.Common.{◌≡◌, ℕ, ◌<◌, ◌≤◌, Bool, true, false, Err, IfSome, List, [], ◌∷◌, map, take, filter, length, inl, inr, refl, sym, ap, subst, ◌∙◌, arith}
+use Rattle.std.proofs.Common.{◌≡◌, ℕ, ◌<◌, ◌≤◌, Bool, true, false, Err, Some, IfSome, List, [], ◌∷◌, map, take, filter, length, slice_get, is_some, inl, inr, refl, sym, ap, subst, ◌∙◌, arith}
 use Rattle.std.specs.List.{All}
+use Rattle.std.specs.FinMap.{get}
 use Rattle.imp_syntax.specs.Plain.{Procedure}
 use Rattle.imp_syntax.specs.declared.edit.Edit.{Edit}
 use Rattle.imp_check.specs.Fine.{IsFine}
@@ -26,11 +27,19 @@ use Rattle.edit_history.proofs.AfterLemmas.{after_is}
 use Rattle.edit_keeps.specs.Apart.{AreOneApart, IsEdited, flow_of}
 use Rattle.edit_keeps.proofs.LeaveKept.{leave_kept}
 use Rattle.cell_removal.specs.Removal.{without, IsOrder}
+use Rattle.daig_graph.specs.Cells.{Filled}
+use Rattle.daig_graph.specs.Held.{IsIn}
+use Rattle.edit_invalidate.specs.declared.planning.Emptying.{Emptying}
+use Rattle.edit_invalidate.specs.Touched.{KeepsCell, input_count, inputs_at, name_at, or_start}
+use Rattle.edit_invalidate.proofs.Leaving.{untouched_keep_rows}
+use Rattle.edit_invalidate.proofs.Tracing.{traces_stay}
+use Rattle.daig_query.specs.declared.held.Held.{Held}
 use Rattle.daig_query.specs.declared.store.Store.{Store}
-use Rattle.daig_query.specs.Claims.{Lessens}
+use Rattle.daig_query.specs.Claims.{KeepsTraces, Lessens}
 use Rattle.daig_query.specs.Renamed.{IsRenamingOf}
 use Rattle.daig_query.specs.Kept.{kept}
 use Rattle.daig_query.specs.Right.{found, IsRight}
+use Rattle.daig_query.specs.Stale.{AreStaleOf}
 use Rattle.daig_query.proofs.Holding.{right_holds, rest_is_right}
 use Rattle.daig_tickets.specs.Tickets.{ticket}
 use Rattle.daig_machine.specs.Machine.{Machine}
@@ -69,19 +78,33 @@ leads_first places ps c [] h = absurd h
 leads_first places ps c (qs ∷ more) h = leads_to places ps c qs h.makes h.fine h.there
 
 module _ {S : Type 0} (dom : Operations S) where
-  -- Cells that are planned are taken away.
-  pub leaves : (e : LoopOptions) (old new : List Procedure) (before changed_program : Store S) (plan : List ℕ) → AreOneApart old new → IsRight dom (flow_of e old) before → Empties (flow_of e old) (flow_of e new) before plan → Lessens before changed_program → changed_program.graph.cells ≡ without before.graph.cells plan → Leaves dom (flow_of e old) (flow_of e new) before changed_program
-  unfolding found
-  leaves e old new before changed_program plan apart right empties less gone =
+  -- What the name of an untouched cell asked for and made it asks for and makes again.
+  keeps_traces : (e : LoopOptions) (old new : List Procedure) (before : Store S) (plan : Emptying) → Empties (flow_of e old) (flow_of e new) before plan → HoldsCells dom (flow_of e old) before.names.names before.graph.cells →
+      (n : ℕ) (f : Filled Held) (x : CellName) → get before.graph.cells n ≡ Some f → (IsIn plan.touched n → ⊥) → slice_get before.names.names n ≡ Some x → KeepsTraces dom (flow_of e old) (flow_of e new) x (length f.inputs)
+  keeps_traces e old new before plan empties holds n f x there free number xs vs v many =
       let names = before.names.names in
-      let l = leave_kept dom e old new names before.graph.cells empties.stmts plan apart (right_holds dom (flow_of e old) before right) empties.changed empties.removes in
+      let cells = before.graph.cells in
+      let keeps = untouched_keep_rows dom (flow_of e old) (flow_of e new) names cells empties.stmts n refl holds empties.changed (ap is_some there) (λ t. free ((empties.touched n).1 t)) in
+      let name : name_at names n ≡ x = ap or_start number in
+      let count : inputs_at cells n ≡ length xs = ap input_count there ∙ sym many in
+      traces_stay dom (flow_of e old) (flow_of e new) x xs vs v refl (subst (λ y. KeepsCell (flow_of e old) (flow_of e new) y (length xs)) name (subst (KeepsCell (flow_of e old) (flow_of e new) (name_at names n)) count keeps))
+
+  -- Cells that are planned are taken away.
+  pub leaves : (e : LoopOptions) (old new : List Procedure) (before changed_program : Store S) (plan : Emptying) → AreOneApart old new → IsRight dom (flow_of e old) before → Empties (flow_of e old) (flow_of e new) before plan → Lessens before changed_program → changed_program.graph.cells ≡ without before.graph.cells plan.order →
+      AreStaleOf before.graph.cells plan.order plan.touched changed_program.stale → Leaves dom (flow_of e old) (flow_of e new) before changed_program
+  unfolding found
+  leaves e old new before changed_program plan apart right empties less gone stale =
+      let names = before.names.names in
+      let holds = right_holds dom (flow_of e old) before right in
+      let l = leave_kept dom e old new names before.graph.cells empties.stmts plan.order apart holds empties.changed empties.removes in
       let same_names : changed_program.names.names ≡ names = ap (λ k. k.names) less.names in
-      let kept_is : (x : CellName) → kept changed_program x ≡ named.kept (without before.graph.cells plan) names x = λ x i. named.kept (gone i) (same_names i) x in
+      let kept_is : (x : CellName) → kept changed_program x ≡ named.kept (without before.graph.cells plan.order) names x = λ x i. named.kept (gone i) (same_names i) x in
       record {
         right =
             rest_is_right dom (flow_of e old) (flow_of e new) before changed_program right less
-            (subst (λ cs. HoldsCells dom (flow_of e new) changed_program.names.names cs) (sym gone) (subst (λ ns. HoldsCells dom (flow_of e new) ns (without before.graph.cells plan)) (sym same_names) l.holds))
-            (λ x t. l.found x (sym (kept_is x) ∙ t));
+            (subst (λ cs. HoldsCells dom (flow_of e new) changed_program.names.names cs) (sym gone) (subst (λ ns. HoldsCells dom (flow_of e new) ns (without before.graph.cells plan.order)) (sym same_names) l.holds))
+            (λ x t. l.found x (sym (kept_is x) ∙ t)) plan.order plan.touched stale
+            (λ n f x there planned free number. keeps_traces e old new before plan empties holds n f x there free number);
         names = λ x. (λ t. (l.kept x).0 (sym (kept_is x) ∙ t), λ k. kept_is x ∙ (l.kept x).1 k);
       }
 
@@ -213,7 +236,7 @@ pub moving_some : {S : Type 0} (store : Store S) (e : LoopOptions) (old : List P
 moving_some store e old [] m h = absurd h
 moving_some store e old (p ∷ ps) m h = omega arith
 
-pub moving_order : {S : Type 0} (store : Store S) (e : LoopOptions) (old : List Procedure) (side : List (List Procedure)) (m : Moving) → IsMovingTo store e old side m → IsOrder store.graph.cells m.plan
+pub moving_order : {S : Type 0} (store : Store S) (e : LoopOptions) (old : List Procedure) (side : List (List Procedure)) (m : Moving) → IsMovingTo store e old side m → IsOrder store.graph.cells m.plan.order
 moving_order store e old [] m h = absurd h
 moving_order store e old (p ∷ ps) m h = h.empties.removes.order
 

@@ -1,6 +1,7 @@
 -- What is said of an engine, by the operations of its domain: what its cells are right for, how far questions have come in it,
 -- what it fills for them, and what is counted for that.
 use Rattle.std.specs.Prelude.{◌≡◌, ◌≤◌, ◌+◌, ◌*◌, ℕ, suc, List, length, map, Option, Some, Result, IfOk, IfErr}
+use Rattle.std.specs.FinMap.{len}
 use Rattle.imp_syntax.specs.declared.edit.Location.{Location}
 use Rattle.concrete_sem.specs.Values.{Variables, Heap}
 use Rattle.domain_laws.specs.Operations.{Operations}
@@ -96,6 +97,10 @@ module _ {D S : Type 0} (old new : Engine D S) where
   -- The domain stays, and so does how much may be kept beside what is needed.
   abbrev pub KeepsSetup : Type 0
   KeepsSetup = (new.domain ≡ old.domain) × (new.spare ≡ old.spare)
+
+  -- No more cells are stale than it had.
+  abbrev pub HasFewStale : Type 0
+  HasFewStale = new.store.stale.count ≤ len old.store.graph.cells
 
   -- It has the same names, by the same numbers.
   abbrev pub KeepsNames : Type 0

@@ -17,7 +17,8 @@ use Rattle.imp_flow.specs.Plans.{Plan}
 use Rattle.imp_flow.specs.Changed.{AreChanged}
 use Rattle.cell_graph.specs.Same.{same_name}
 use Rattle.cell_removal.specs.Removal.{Removes}
-use Rattle.edit_invalidate.specs.Touched.{IsTouched}
+use Rattle.edit_invalidate.specs.declared.planning.Emptying.{Emptying}
+use Rattle.edit_invalidate.specs.Touched.{AreTouched, IsTouched}
 use Rattle.edit_invalidate.specs.Claims.{edit_of}
 use Rattle.edit_keeps.specs.Apart.{flow_of, AreOneApart}
 use Rattle.edit_history.specs.After.{changed_program, Leads, LeadsOn}
@@ -36,11 +37,12 @@ use Rattle.daig_session.specs.Books.{AreBelow, IsSame, IsSettingOf}
 use Rattle.daig_session.specs.Engines.{IsRightFor}
 use Rattle.daig_session.specs.Sessions.{StandsFor}
 
--- A plan of removal takes away what the change from one program to the other empties.
-pub record Empties {S : Type 0} (old new : Plan) (store : Store S) (plan : List ℕ) : Type 0 where
+-- A plan takes away what the change from one program to the other empties, and tells those whose own row is changed.
+pub record Empties {S : Type 0} (old new : Plan) (store : Store S) (plan : Emptying) : Type 0 where
   pub stmts : List ℕ
   pub changed : AreChanged old new stmts
-  pub removes : Removes store.graph.cells (IsTouched old new store.names.names store.graph.cells stmts) plan
+  pub removes : Removes store.graph.cells (IsTouched old new store.names.names store.graph.cells stmts) plan.order
+  pub touched : AreTouched old new store.names.names store.graph.cells stmts plan.touched
 
 -- The cells of an engine are right for a table's program.
 abbrev pub IsRightOver : {D S : Type 0} → (D → Operations S) → Engine D S → LoopOptions → Tabled → Type 0
@@ -51,7 +53,7 @@ abbrev pub LeadsIn : Tabled → Change → Type 0
 LeadsIn table change = Leads table.places table.program change
 
 -- A plan takes away what the change empties of an engine.
-abbrev pub EmptiesBy : {D S : Type 0} → Engine D S → Setting → Tabled → Change → (plan : List ℕ) → Type 0
+abbrev pub EmptiesBy : {D S : Type 0} → Engine D S → Setting → Tabled → Change → (plan : Emptying) → Type 0
 EmptiesBy engine setting table change plan =
     Empties (flow_of setting.engine table.program) (flow_of setting.engine (changed_program table.program change)) engine.store plan
 
@@ -84,7 +86,7 @@ pub record Leaves {S : Type 0} (dom : Operations S) (old new : Plan) (before aft
   pub names : (x : CellName) → (kept after x ≡ true) ↔ IsKept dom (edit_of old new) same_name (kept before) x
 
 -- Once a plan has taken away what an edit empties, the kept names are left, and all is right for the new program.
-abbrev pub LeavesBy : {D S : Type 0} → (operations : D → Operations S) → (old new : Engine D S) → (plan : List ℕ) → Type 0
+abbrev pub LeavesBy : {D S : Type 0} → (operations : D → Operations S) → (old new : Engine D S) → (plan : Emptying) → Type 0
 LeavesBy operations old new plan = (e : LoopOptions) (before after : List Procedure) → AreOneApart before after →
     IsRight (operations old.domain) (flow_of e before) old.store → Empties (flow_of e before) (flow_of e after) old.store plan →
     Leaves (operations old.domain) (flow_of e before) (flow_of e after) old.store new.store

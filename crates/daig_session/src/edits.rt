@@ -9,7 +9,7 @@ ghost use Rattle.daig_session.specs.Sessions.{IsReadyBy, StandsFor, OfEachMachin
 ghost use Rattle.daig_session.specs.Sessions.{IsWithinBound};
 ghost use Rattle.daig_session.specs.Moves.{IsPlannedFor, IsAccepted, IsRefusedFor, Commits};
 ghost use Rattle.daig_session.specs.Moves.{IsStill};
-ghost use Rattle.daig_session.specs.Engines.{KeepsSetup, TakesNames};
+ghost use Rattle.daig_session.specs.Engines.{HasFewStale, KeepsSetup, TakesNames};
 
 use crate::moving::{Moving, leave, planned_move};
 use crate::parts::Parts;
@@ -59,6 +59,7 @@ impl<D: Domain> Parts<D> {
         ensures next_ticket { KeepsNextTicket self.old self.new }
         ensures committed { Commits D.operations self.old self.new planned }
         ensures names { TakesNames self.old.engine self.new.engine planned.moving.renaming }
+        ensures stale { HasFewStale self.old.engine self.new.engine }
     {
         let Planned { edited, moving } = planned;
         let Edited { change, next } = edited;
@@ -136,6 +137,7 @@ impl<D: Domain> Prepared<'_, D, Planned> {
             self.entry.planned }
         ensures names { TakesNames self.entry.session.now.engine self.exit.0.now.engine
             self.entry.planned.moving.renaming }
+        ensures stale { HasFewStale self.entry.session.now.engine self.exit.0.now.engine }
     {
         let Prepared { session, planned } = self;
         session.parts.make(planned);

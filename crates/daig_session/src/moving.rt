@@ -4,15 +4,14 @@ ghost use Rattle.cell_removal.specs.Removal.{IsOrder};
 ghost use Rattle.daig_query.specs.Renamed.{IsRenamingOf};
 ghost use Rattle.daig_query.specs.Swept.{IsBounded, IsInTables};
 ghost use Rattle.daig_session.specs.Moves.{IsRightOver, IsSettingAfter, LeadsIn, EmptiesBy, IsMovingBy, LeavesBy};
-ghost use Rattle.daig_session.specs.Engines.{KeepsSetup, TakesNames};
+ghost use Rattle.daig_session.specs.Engines.{HasFewStale, KeepsSetup, TakesNames};
 ghost use Rattle.daig_session.specs.Books.{IsSettingOf};
 
 use base_values::Memory;
 use call_contexts::Setting;
-use cell_removal::RemovalOrder;
 use daig_query::{Engine, NewNames};
 use domain_laws::Domain;
-use edit_invalidate::plan;
+use edit_invalidate::{Emptying, plan};
 use imp_flow::{Flow, points_changed};
 use imp_table::{Change, Table};
 use std::alloc::Global;
@@ -22,7 +21,7 @@ use std::alloc::Global;
 #[derive(Drop)]
 pub(crate) struct Moving {
     pub(crate) setting: Setting,
-    pub(crate) plan: RemovalOrder,
+    pub(crate) plan: Emptying,
     pub(crate) renaming: Option<NewNames>,
 }
 
@@ -34,7 +33,7 @@ fn emptied<D: Domain>(
     change: &Change,
     setting: &Setting,
     other: &Setting,
-) -> Result<RemovalOrder, Memory>
+) -> Result<Emptying, Memory>
     requires right { IsRightOver D.operations engine.now setting.now.engine table.now }
     requires leads { LeadsIn table.now change.now }
     requires set { IsSettingOf setting.now.engine table.now.program setting.now }
@@ -44,15 +43,14 @@ fn emptied<D: Domain>(
     let changed = points_changed(alloc, table, change, setting, other)?;
     let old = Flow::new(table.view(), setting);
     let new = Flow::new(table.changed(change), other);
-    let emptying = plan(
+    plan(
         alloc,
         engine.graph(),
         engine.names(),
         &old,
         &new,
         changed.as_slice(),
-    )?;
-    Ok(emptying.order)
+    )
 }
 
 /// The move to the program that a change makes, with all memory that it needs. Nothing is changed yet. It takes time in
@@ -84,23 +82,21 @@ pub(crate) fn planned_move<D: Domain>(
     })
 }
 
-/// Takes the planned cells away, gives back the states that no cell holds any more, where they are many, and puts the
+/// Takes the planned cells away, and notes what those of them held and read whose own row is not changed; gives back the states that no cell holds any more, where they are many, and puts the
 /// planned names, if there are any, in the place of those that stand: what is left is right for the program that is moved
 /// to. It takes no memory. Cells may get other numbers, which no ticket holds, as each begins anew after a move.
-pub(crate) fn leave<D: Domain>(
-    engine: &mut Engine<D>,
-    plan: RemovalOrder,
-    renaming: Option<NewNames>,
-)
-    requires order { IsOrder engine.old.store.graph.cells plan }
+pub(crate) fn leave<D: Domain>(engine: &mut Engine<D>, plan: Emptying, renaming: Option<NewNames>)
+    requires order { IsOrder engine.old.store.graph.cells plan.order }
     requires held { IsInTables engine.old.store }
     requires renaming { IfSome renaming (IsRenamingOf engine.old.store) }
     ensures leaves { LeavesBy D.operations engine.old engine.new plan }
     ensures setup { KeepsSetup engine.old engine.new }
     ensures bounded { IsBounded engine.new.spare engine.new.store }
     ensures names { TakesNames engine.old engine.new renaming }
+    ensures stale { HasFewStale engine.old engine.new }
 {
-    engine.empty(plan);
+    let Emptying { order, touched } = plan;
+    engine.empty(order, touched.as_slice());
     engine.sweep();
     engine.rename(renaming);
 }

@@ -3,7 +3,7 @@ ghost use Rattle.std.specs.Prelude.{◌≡◌, IfOk, IfErr, OnErr, OnOk};
 ghost use Rattle.daig_session.specs.Sessions.{IsReadyBy, KeepsNextTicket, IsWithinBound};
 ghost use Rattle.daig_session.specs.Sides.{programs_of, IsMovingAlong, GoesAlong};
 ghost use Rattle.daig_session.specs.Turns.{IsStopped};
-ghost use Rattle.daig_session.specs.Engines.{KeepsSetup};
+ghost use Rattle.daig_session.specs.Engines.{HasFewStale, KeepsSetup};
 
 use crate::book::Side;
 use crate::error::UndoError;
@@ -34,6 +34,7 @@ impl<D: Domain> Parts<D> {
         ensures ready { IsReadyBy D.operations self.new }
         ensures setup { KeepsSetup self.old.engine self.new.engine }
         ensures bounded { OnOk result (IsWithinBound self.new) }
+        ensures stale { OnOk result (HasFewStale self.old.engine self.new.engine) }
         ensures unmoved { OnErr result (self.new.engine.store ≡ self.old.engine.store) }
         ensures next_ticket { KeepsNextTicket self.old self.new }
         ensures goes { GoesAlong side D.operations self.old self.new result }
@@ -60,6 +61,7 @@ impl<D: Domain> Session<D> {
     pub fn undo(&mut self, alloc: Global) -> Result<u32, UndoError>
         ensures setup { KeepsSetup self.old.engine self.new.engine }
         ensures bounded { OnOk result (IsWithinBound self.new) }
+        ensures stale { OnOk result (HasFewStale self.old.engine self.new.engine) }
         ensures unmoved { OnErr result (self.new.engine.store ≡ self.old.engine.store) }
         ensures next_ticket { KeepsNextTicket self.old self.new }
         ensures goes { GoesAlong Side.Behind D.operations self.old self.new result }
@@ -76,6 +78,7 @@ impl<D: Domain> Session<D> {
     pub fn redo(&mut self, alloc: Global) -> Result<u32, UndoError>
         ensures setup { KeepsSetup self.old.engine self.new.engine }
         ensures bounded { OnOk result (IsWithinBound self.new) }
+        ensures stale { OnOk result (HasFewStale self.old.engine self.new.engine) }
         ensures unmoved { OnErr result (self.new.engine.store ≡ self.old.engine.store) }
         ensures next_ticket { KeepsNextTicket self.old self.new }
         ensures goes { GoesAlong Side.Ahead D.operations self.old self.new result }

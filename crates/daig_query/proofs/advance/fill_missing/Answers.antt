@@ -20,7 +20,7 @@ turns-init g c =
       within = within_start dom plan ts c.args.limit store;
       least = omega arith;
       most = omega arith;
-      few = few_more store store 0 (cells_added store store) (omega arith) (few_same store store refl refl);
+      few = few_more store store 0 (cells_added store store) (omega arith) (few_same store store refl refl refl);
     }
 
 pub returns-in_err-take_turn : goal.returns-in_err-take_turn

@@ -16,7 +16,7 @@ returns-in_err-operation-clause-computes g c =
     let operations = c.number_of.new.self in
     let results = results-stay g.row.D-State.Denot dom old.operations operations old.states old.states old.memo.entries c.number_of.ensures.kept (keeps_refl old.states) c.requires.right.results in
     let recent = results-stay g.row.D-State.Denot dom old.operations operations old.states old.states old.recent.entries c.number_of.ensures.kept (keeps_refl old.states) c.requires.right.recent in
-    right_more dom c.args.flow.now old (record old { operations = operations }) c.requires.right refl refl (keeps_refl old.states) c.requires.right.single results recent (record { states = as_many (length old.states); operations = c.number_of.ensures.few })
+    right_more dom c.args.flow.now old (record old { operations = operations }) c.requires.right refl refl (keeps_refl old.states) c.requires.right.single results recent (λ n. refl) (record { states = as_many (length old.states); operations = c.number_of.ensures.few; stale = refl })
 
 pub returns-in-Some-clause-is : goal.returns-in-Some-clause-is
 returns-in-Some-clause-is g c =
@@ -35,7 +35,7 @@ returns-in-Some-clause-computes g c =
     let operations = c.number_of.new.self in
     let results = results-stay g.row.D-State.Denot dom old.operations operations old.states old.states old.memo.entries c.number_of.ensures.kept (keeps_refl old.states) c.requires.right.results in
     let recent = results-stay g.row.D-State.Denot dom old.operations operations old.states old.states old.recent.entries c.number_of.ensures.kept (keeps_refl old.states) c.requires.right.recent in
-    right_more dom c.args.flow.now old (record old { operations = operations }) c.requires.right refl refl (keeps_refl old.states) c.requires.right.single results recent (record { states = as_many (length old.states); operations = c.number_of.ensures.few })
+    right_more dom c.args.flow.now old (record old { operations = operations }) c.requires.right refl refl (keeps_refl old.states) c.requires.right.single results recent (λ n. refl) (record { states = as_many (length old.states); operations = c.number_of.ensures.few; stale = refl })
 
 pub returns-in-Some-get-clause-is : goal.returns-in-Some-get-clause-is
 returns-in-Some-get-clause-is g c =
@@ -57,7 +57,7 @@ returns-in-Some-get-clause-computes g c =
     let op = c.in_ok-operation.ensures.is in
     let key : Key = record { operation = c.in_ok-operation.operation; left = c.args.left; right = c.args.right } in
     let kept = results_kept dom operations old.states old.recent.entries c.keep.new.self.entries key c.in-Some-get.state c.keep.ensures.others recent (c.in-Some-get.ensures.found dom operations old.states results) in
-    right_more dom c.args.flow.now old _ c.requires.right refl refl (keeps_refl old.states) c.requires.right.single (c.get-2.ensures.results dom operations old.states results) kept (record { states = as_many (length old.states); operations = c.number_of.ensures.few })
+    right_more dom c.args.flow.now old _ c.requires.right refl refl (keeps_refl old.states) c.requires.right.single (c.get-2.ensures.results dom operations old.states results) kept (λ n. refl) (record { states = as_many (length old.states); operations = c.number_of.ensures.few; stale = refl })
 
 pub returns-in_err-number-clause-computes : goal.returns-in_err-number-clause-computes
 returns-in_err-number-clause-computes g c =
@@ -69,7 +69,7 @@ returns-in_err-number-clause-computes g c =
     let states = c.make_state.new.states in
     let later = results-stay g.row.D-State.Denot dom operations operations old.states states c.get-2.new.self.entries (keeps_refl operations) c.make_state.ensures.kept (c.get-2.ensures.results dom operations old.states results) in
     let recent_later = results-stay g.row.D-State.Denot dom operations operations old.states states old.recent.entries (keeps_refl operations) c.make_state.ensures.kept recent in
-    right_more dom c.args.flow.now old _ c.requires.right refl refl c.make_state.ensures.kept (c.make_state.ensures.once c.requires.right.single) later recent_later (record { states = c.make_state.ensures.few; operations = c.number_of.ensures.few })
+    right_more dom c.args.flow.now old _ c.requires.right refl refl c.make_state.ensures.kept (c.make_state.ensures.once c.requires.right.single) later recent_later (λ n. refl) (record { states = c.make_state.ensures.few; operations = c.number_of.ensures.few; stale = refl })
 
 pub returns-clause-computes : goal.returns-clause-computes
 returns-clause-computes g c =
@@ -86,7 +86,7 @@ returns-clause-computes g c =
     let stays = state_grows dom old.states states c.make_state.ensures.kept in
     let is = makes_result dom operations old.states states key c.in_ok-number.number c.args.row.now op.0 op.2 op.1 (stays c.args.left c.requires.left) (stays c.args.right c.requires.known) c.requires.there c.in_ok-number.ensures.is in
     let kept = results_kept dom operations states old.recent.entries c.keep-2.new.self.entries key c.in_ok-number.number c.keep-2.ensures.others recent_later is in
-    right_more dom c.args.flow.now old _ c.requires.right refl refl c.make_state.ensures.kept (c.make_state.ensures.once c.requires.right.single) (c.keep-3.ensures.results dom operations states later is) kept (record { states = c.make_state.ensures.few; operations = c.number_of.ensures.few })
+    right_more dom c.args.flow.now old _ c.requires.right refl refl c.make_state.ensures.kept (c.make_state.ensures.once c.requires.right.single) (c.keep-3.ensures.results dom operations states later is) kept (λ n. refl) (record { states = c.make_state.ensures.few; operations = c.number_of.ensures.few; stale = refl })
 
 pub returns-in_err-number-clause-remembered : goal.returns-in_err-number-clause-remembered
 returns-in_err-number-clause-remembered g c =

@@ -8,7 +8,7 @@ use Rattle.daig_query.specs.Right.{IsCellOf}
 use Rattle.daig_query.specs.Opened.{name_of}
 use Rattle.daig_query.proofs.Growing.{few_more, few_same, few_trans, keeps_refl}
 use Rattle.daig_query.proofs.Remembered.{right_more}
-use Rattle.daig_query.proofs.Filling.{absent_get, ready_numbers, puts, on_ok, on_err}
+use Rattle.daig_query.proofs.Filling.{absent_get, ready_numbers, puts, err_always, on_ok, on_err}
 use Rattle.daig_query.proofs.opening.fill.Goals as goal
 
 pub fill-requires-clause-absent : goal.fill-requires-clause-absent
@@ -39,7 +39,7 @@ returns-clause-puts g c =
     (ap (λ m. get m entry.cell) computes.cells ∙ absent_get dom plan old ready.at.right entry.cell x ready.at.entry.number c.requires.absent)
     ready.at.entry.named is
     (subst (λ m. AreCells m entry.inputs) (sym computes.cells) ready.at.entry.cells)
-    refl refl refl refl refl e old computes)
+    refl refl refl refl refl c.make_place.ensures.same c.make_place.ensures.count e old computes)
 
 pub returns-clause-err : goal.returns-clause-err
 returns-clause-err g c =
@@ -53,6 +53,22 @@ returns-clause-err g c =
       cells = e ∙ computes.cells;
       names = computes.names;
       states = computes.states;
-      right = (right_more dom plan mid _ computes.right e refl (keeps_refl mid.states) computes.right.single computes.right.results computes.right.recent (few_more mid _ 0 1 (omega arith) (few_same mid _ refl refl))).right;
-      few = few_trans old mid _ 1 0 computes.few (few_same mid _ refl refl);
+      right = (right_more dom plan mid _ computes.right e refl (keeps_refl mid.states) computes.right.single computes.right.results computes.right.recent c.make_place.ensures.same (few_more mid _ 0 1 (omega arith) (few_same mid _ refl refl c.make_place.ensures.count))).right;
+      few = few_trans old mid _ 1 0 computes.few (few_same mid _ refl refl c.make_place.ensures.count);
+    })
+
+pub returns-in_err-make_place-clause-err : goal.returns-in_err-make_place-clause-err
+returns-in_err-make_place-clause-err g c =
+    let dom = g.D.Domain.operations c.args.dom.now in
+    let plan = c.args.flow.now in
+    let old = c.args.store.now in
+    let mid = c.compute.new.store in
+    let new = record mid { stale = c.make_place.new.self } in
+    let computes = c.compute.ensures.computes in
+    err_always c.from_residual-in_err-make_place.result (record {
+      cells = computes.cells;
+      names = computes.names;
+      states = computes.states;
+      right = (right_more dom plan mid new computes.right refl refl (keeps_refl mid.states) computes.right.single computes.right.results computes.right.recent c.make_place.ensures.same (few_more mid new 0 1 (omega arith) (few_same mid new refl refl c.make_place.ensures.count))).right;
+      few = few_trans old mid new 1 0 computes.few (few_same mid new refl refl c.make_place.ensures.count);
     })

@@ -22,6 +22,7 @@ paths_more old mid last keeps same is = record {
   operations = refl;
   memo = refl;
   recent = refl;
+  stale = refl;
   graph = refl;
 }
 
@@ -56,7 +57,7 @@ returns-clause-right g c = c.inputs.invariant.at.right
 pub returns-then-not-there-clause-names : goal.returns-then-not-there-clause-names
 returns-then-not-there-clause-names g c =
     let store = c.inputs.store in
-    let named = named_by store _ c.name.new.names c.in_ok-name.name c.in_ok-cell.cell _ c.inputs.invariant.at.right.once c.name.ensures.kept c.name.ensures.names c.in_ok-name.ensures.is c.in_ok-name.ensures.within c.in_ok-cell.ensures.name c.add_input.ensures.paths refl refl refl refl refl in
+    let named = named_by store _ c.name.new.names c.in_ok-name.name c.in_ok-cell.cell _ c.inputs.invariant.at.right.once c.name.ensures.kept c.name.ensures.names c.in_ok-name.ensures.is c.in_ok-name.ensures.within c.in_ok-cell.ensures.name c.add_input.ensures.paths refl refl refl refl refl refl in
     names_trans c.args.store.now store _ c.inputs.invariant.names named.names
 
 pub returns-then-not-there-clause-right : goal.returns-then-not-there-clause-right
@@ -64,7 +65,7 @@ returns-then-not-there-clause-right g c =
     let dom = g.D.Domain.operations c.args.dom.now in
     let store = c.inputs.store in
     later dom c.args.flow.now store _ c.inputs.invariant.at.right _ c.in_ok-name.name c.in_ok-cell.cell (
-    named_by store _ c.name.new.names c.in_ok-name.name c.in_ok-cell.cell _ c.inputs.invariant.at.right.once c.name.ensures.kept c.name.ensures.names c.in_ok-name.ensures.is c.in_ok-name.ensures.within c.in_ok-cell.ensures.name c.add_input.ensures.paths refl refl refl refl refl
+    named_by store _ c.name.new.names c.in_ok-name.name c.in_ok-cell.cell _ c.inputs.invariant.at.right.once c.name.ensures.kept c.name.ensures.names c.in_ok-name.ensures.is c.in_ok-name.ensures.within c.in_ok-cell.ensures.name c.add_input.ensures.paths refl refl refl refl refl refl
     )
 
 pub returns-then-not-there-clause-further : goal.returns-then-not-there-clause-further
@@ -73,7 +74,7 @@ returns-then-not-there-clause-further g c =
     let plan = c.args.flow.now in
     let store = c.inputs.store in
     let y = input_name (name_of store c.inputs.entry).path c.in-Some.input in
-    let named = named_by store (record store { names = c.add_input.new.self }) c.name.new.names c.in_ok-name.name c.in_ok-cell.cell y c.inputs.invariant.at.right.once c.name.ensures.kept c.name.ensures.names c.in_ok-name.ensures.is c.in_ok-name.ensures.within c.in_ok-cell.ensures.name c.add_input.ensures.paths refl refl refl refl refl in
+    let named = named_by store (record store { names = c.add_input.new.self }) c.name.new.names c.in_ok-name.name c.in_ok-cell.cell y c.inputs.invariant.at.right.once c.name.ensures.kept c.name.ensures.names c.in_ok-name.ensures.is c.in_ok-name.ensures.within c.in_ok-cell.ensures.name c.add_input.ensures.paths refl refl refl refl refl refl in
     further dom plan store (record store { names = c.add_input.new.self }) (later dom plan store _ c.inputs.invariant.at.right y c.in_ok-name.name c.in_ok-cell.cell named) named.names c.args.row.now c.args.entry.now c.inputs.entry c.inputs.invariant.cell c.inputs.invariant.name c.inputs.invariant.at c.inputs.entry.inputs refl
 
 pub returns-then-not-there-clause-next : goal.returns-then-not-there-clause-next
@@ -82,7 +83,7 @@ returns-then-not-there-clause-next g c =
     let plan = c.args.flow.now in
     let store = c.inputs.store in
     let y = input_name (name_of store c.inputs.entry).path c.in-Some.input in
-    let named = named_by store (record store { names = c.add_input.new.self }) c.name.new.names c.in_ok-name.name c.in_ok-cell.cell y c.inputs.invariant.at.right.once c.name.ensures.kept c.name.ensures.names c.in_ok-name.ensures.is c.in_ok-name.ensures.within c.in_ok-cell.ensures.name c.add_input.ensures.paths refl refl refl refl refl in
+    let named = named_by store (record store { names = c.add_input.new.self }) c.name.new.names c.in_ok-name.name c.in_ok-cell.cell y c.inputs.invariant.at.right.once c.name.ensures.kept c.name.ensures.names c.in_ok-name.ensures.is c.in_ok-name.ensures.within c.in_ok-cell.ensures.name c.add_input.ensures.paths refl refl refl refl refl refl in
     subst (λ u. IsNext dom plan (record store { names = c.add_input.new.self }) c.inputs.entry (Some (unfound u))) (sym c.without_cell.ensures.is) (
     finds dom plan store (record store { names = c.add_input.new.self }) c.inputs.invariant.at.right y c.in_ok-name.name c.in_ok-cell.cell named c.args.row.now c.inputs.entry c.inputs.invariant.at (sym c.in-Some.ensures.next) (none_of (get store.graph.cells c.in_ok-cell.cell) (sym c.has_cell-there.ensures.is ∙ c.if-not-there.true))
     )
@@ -109,7 +110,7 @@ returns-in_err-push-clause-further g c =
     let plan = c.args.flow.now in
     let store = c.inputs.store in
     let y = input_name (name_of store c.inputs.entry).path c.in-Some.input in
-    let named = named_by store (record store { names = c.add_input.new.self }) c.name.new.names c.in_ok-name.name c.in_ok-cell.cell y c.inputs.invariant.at.right.once c.name.ensures.kept c.name.ensures.names c.in_ok-name.ensures.is c.in_ok-name.ensures.within c.in_ok-cell.ensures.name c.add_input.ensures.paths refl refl refl refl refl in
+    let named = named_by store (record store { names = c.add_input.new.self }) c.name.new.names c.in_ok-name.name c.in_ok-cell.cell y c.inputs.invariant.at.right.once c.name.ensures.kept c.name.ensures.names c.in_ok-name.ensures.is c.in_ok-name.ensures.within c.in_ok-cell.ensures.name c.add_input.ensures.paths refl refl refl refl refl refl in
     further dom plan store (record store { names = c.add_input.new.self }) (later dom plan store _ c.inputs.invariant.at.right y c.in_ok-name.name c.in_ok-cell.cell named) named.names c.args.row.now c.args.entry.now c.inputs.entry c.inputs.invariant.cell c.inputs.invariant.name c.inputs.invariant.at c.push.new.self c.in_err-push.ensures.err
 
 pub returns-clause-further : goal.returns-clause-further
@@ -121,7 +122,7 @@ inputs-smaller g c =
     let store = c.inputs.store in
     let y = input_name (name_of store c.inputs.entry).path c.in-Some.input in
     fewer dom c.args.flow.now store _ c.inputs.invariant.at.right y c.in_ok-name.name c.in_ok-cell.cell (
-    named_by store _ c.name.new.names c.in_ok-name.name c.in_ok-cell.cell y c.inputs.invariant.at.right.once c.name.ensures.kept c.name.ensures.names c.in_ok-name.ensures.is c.in_ok-name.ensures.within c.in_ok-cell.ensures.name c.add_input.ensures.paths refl refl refl refl refl
+    named_by store _ c.name.new.names c.in_ok-name.name c.in_ok-cell.cell y c.inputs.invariant.at.right.once c.name.ensures.kept c.name.ensures.names c.in_ok-name.ensures.is c.in_ok-name.ensures.within c.in_ok-cell.ensures.name c.add_input.ensures.paths refl refl refl refl refl refl
     ) c.args.row.now c.inputs.entry c.inputs.invariant.at (sym c.in-Some.ensures.next) (record { cell = c.inputs.entry.cell; name = c.inputs.entry.name; inputs = c.push.new.self }) refl c.in_ok-push.ensures.added
 
 pub inputs-preserved : goal.inputs-preserved
@@ -129,7 +130,7 @@ inputs-preserved g c =
     let dom = g.D.Domain.operations c.args.dom.now in
     let store = c.inputs.store in
     let y = input_name (name_of store c.inputs.entry).path c.in-Some.input in
-    let named = named_by store (record store { names = c.add_input.new.self }) c.name.new.names c.in_ok-name.name c.in_ok-cell.cell y c.inputs.invariant.at.right.once c.name.ensures.kept c.name.ensures.names c.in_ok-name.ensures.is c.in_ok-name.ensures.within c.in_ok-cell.ensures.name c.add_input.ensures.paths refl refl refl refl refl in
+    let named = named_by store (record store { names = c.add_input.new.self }) c.name.new.names c.in_ok-name.name c.in_ok-cell.cell y c.inputs.invariant.at.right.once c.name.ensures.kept c.name.ensures.names c.in_ok-name.ensures.is c.in_ok-name.ensures.within c.in_ok-cell.ensures.name c.add_input.ensures.paths refl refl refl refl refl refl in
     record {
       names = names_trans c.args.store.now store _ c.inputs.invariant.names named.names;
       at = more dom c.args.flow.now store _ c.inputs.invariant.at.right y c.in_ok-name.name c.in_ok-cell.cell named c.args.row.now c.inputs.entry c.inputs.invariant.at (sym c.in-Some.ensures.next) (record { cell = c.inputs.entry.cell; name = c.inputs.entry.name; inputs = c.push.new.self }) refl refl c.in_ok-push.ensures.added (sym c.has_cell-there.ensures.is ∙ c.if-not-there.false);
@@ -140,7 +141,7 @@ inputs-preserved g c =
 pub returns-in_err-push-clause-names : goal.returns-in_err-push-clause-names
 returns-in_err-push-clause-names g c =
     let store = c.inputs.store in
-    let named = named_by store _ c.name.new.names c.in_ok-name.name c.in_ok-cell.cell _ c.inputs.invariant.at.right.once c.name.ensures.kept c.name.ensures.names c.in_ok-name.ensures.is c.in_ok-name.ensures.within c.in_ok-cell.ensures.name c.add_input.ensures.paths refl refl refl refl refl in
+    let named = named_by store _ c.name.new.names c.in_ok-name.name c.in_ok-cell.cell _ c.inputs.invariant.at.right.once c.name.ensures.kept c.name.ensures.names c.in_ok-name.ensures.is c.in_ok-name.ensures.within c.in_ok-cell.ensures.name c.add_input.ensures.paths refl refl refl refl refl refl in
     names_trans c.args.store.now store _ c.inputs.invariant.names named.names
 
 pub returns-in_err-push-clause-right : goal.returns-in_err-push-clause-right
@@ -148,5 +149,5 @@ returns-in_err-push-clause-right g c =
     let dom = g.D.Domain.operations c.args.dom.now in
     let store = c.inputs.store in
     later dom c.args.flow.now store _ c.inputs.invariant.at.right _ c.in_ok-name.name c.in_ok-cell.cell (
-    named_by store _ c.name.new.names c.in_ok-name.name c.in_ok-cell.cell _ c.inputs.invariant.at.right.once c.name.ensures.kept c.name.ensures.names c.in_ok-name.ensures.is c.in_ok-name.ensures.within c.in_ok-cell.ensures.name c.add_input.ensures.paths refl refl refl refl refl
+    named_by store _ c.name.new.names c.in_ok-name.name c.in_ok-cell.cell _ c.inputs.invariant.at.right.once c.name.ensures.kept c.name.ensures.names c.in_ok-name.ensures.is c.in_ok-name.ensures.within c.in_ok-cell.ensures.name c.add_input.ensures.paths refl refl refl refl refl refl
     )

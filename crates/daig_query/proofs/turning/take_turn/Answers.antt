@@ -15,8 +15,8 @@ use Rattle.daig_query.specs.Kept.{Grows, Names}
 use Rattle.daig_query.specs.Right.{IsRight}
 use Rattle.daig_query.specs.Turned.{fills_of, stacked_names, IsTurn, Obeys, Turns}
 use Rattle.daig_query.specs.Walked.{IsGood}
-use Rattle.daig_query.proofs.Growing.{names_no_cell}
-use Rattle.daig_query.proofs.TopTurns.{first_found, looked, looked_absent, looked_fails, looked_good, looked_pushes, looked_some, looked_turns, top_opened}
+use Rattle.daig_query.proofs.Growing.{names_no_cell, names_refl}
+use Rattle.daig_query.proofs.TopTurns.{looked, looked_absent, looked_fails, looked_good, looked_pushes, looked_some, looked_turns, top_opened, top_valid, top_waits}
 use Rattle.daig_query.proofs.turning.take_turn.Goals as goal
 
 -- a turn with no name on the stack fills nothing
@@ -50,12 +50,6 @@ turn_walk-requires-clause-empty g c =
     let n : vec_len stack ≡ 0 = grind (arith, nat_tests) in
     nil_from_length stack.items (omega (arith, stack.ok, n))
 
-pub first_of_top-requires-clause-some : goal.first_of_top-requires-clause-some
-first_of_top-requires-clause-some g c =
-    let stack = c.args.walk.now.stack in
-    let b : eqb (vec_len stack) 0 ≡ false = sym c.is_empty.ensures ∙ c.if-is_empty.false in
-    grind (arith, nat_tests)
-
 pub returns-then-is_empty : goal.returns-then-is_empty
 returns-then-is_empty g c =
     let stack = c.args.walk.now.stack in
@@ -71,37 +65,61 @@ returns-then-is_empty g c =
           by_walk walk.ensures.right walk.ensures.grows walk.ensures.walk walk.ensures.only c.args.spent each c.args.steps.now walk.result walk.ensures.turns);
     }
 
-pub first_of_top-requires-clause-top : goal.first_of_top-requires-clause-top
-first_of_top-requires-clause-top g c = top_opened c.requires.walk
+pub revalidate_top-requires-clause-some : goal.revalidate_top-requires-clause-some
+revalidate_top-requires-clause-some g c =
+    let stack = c.args.walk.now.stack in
+    let b : eqb (vec_len stack) 0 ≡ false = sym c.is_empty.ensures ∙ c.if-is_empty.false in
+    grind (arith, nat_tests)
 
-pub returns-in_err-absent : goal.returns-in_err-absent
-returns-in_err-absent g c =
-    let l = looked c.requires.right c.requires.walk c.first_of_top.ensures.right c.first_of_top.ensures.names c.in_err-absent.ensures.err in
+pub revalidate_top-requires-clause-top : goal.revalidate_top-requires-clause-top
+revalidate_top-requires-clause-top g c = top_opened c.requires.walk
+
+pub returns-in_err-revalidate_top : goal.returns-in_err-revalidate_top
+returns-in_err-revalidate_top g c =
+    let l = looked c.requires.right c.requires.walk c.requires.right (names_refl c.args.store.now) c.in_err-revalidate_top.ensures.err in
     let e = err_from_is_err_and c.from_residual.result c.from_residual.ensures.1 in
-    record { turn = looked_fails l (record c.args.walk.now { stack = c.first_of_top.new.stack }) refl refl e.0 e.1 }
+    record { turn = looked_fails l (record c.args.walk.now { stack = c.revalidate_top.new.stack }) refl refl e.0 e.1 }
 
-pub returns-in_err-push : goal.returns-in_err-push
-returns-in_err-push g c =
-    let l = looked c.requires.right c.requires.walk c.first_of_top.ensures.right c.first_of_top.ensures.names c.in_ok-absent.ensures.looks.stack in
-    let e = err_from_is_err_and c.from_residual-in_err-push.result c.from_residual-in_err-push.ensures.1 in
-    record { turn = looked_fails l (record c.args.walk.now { stack = c.push.new.self }) refl c.in_err-push.ensures.items e.0 e.1 }
-
-pub returns-in-Some : goal.returns-in-Some
-returns-in-Some g c =
-    let l = looked c.requires.right c.requires.walk c.first_of_top.ensures.right c.first_of_top.ensures.names c.in_ok-absent.ensures.looks.stack in
-    record { turn = looked_pushes l (record c.args.walk.now { stack = c.push.new.self }) refl c.in_ok-push.ensures.items c.opened.ensures.is (first_found c.in_ok-absent.ensures.looks c.in-Some.is) }
-
-pub turn_by_row-requires : goal.turn_by_row-requires
-turn_by_row-requires g c =
-    let l = looked c.requires.right c.requires.walk c.first_of_top.ensures.right c.first_of_top.ensures.names c.in_ok-absent.ensures.looks.stack in
+pub turn_top-requires : goal.turn_top-requires
+turn_top-requires g c =
+    let l = looked c.requires.right c.requires.walk c.requires.right (names_refl c.args.store.now) c.in_ok-revalidate_top.ensures.finds.stack in
     record {
       right = l.later;
-      walk = looked_good l (record c.args.walk.now { stack = c.first_of_top.new.stack }) refl refl;
-      some = omega (arith, c.first_of_top.new.stack.ok, looked_some l);
+      walk = looked_good l (record c.args.walk.now { stack = c.revalidate_top.new.stack }) refl refl;
+      some = omega (arith, c.revalidate_top.new.stack.ok, looked_some l);
       absent = looked_absent l c.requires.absent;
     }
 
-pub returns : goal.returns
-returns g c =
-    let l = looked c.requires.right c.requires.walk c.first_of_top.ensures.right c.first_of_top.ensures.names c.in_ok-absent.ensures.looks.stack in
-    record { turn = looked_turns l c.turn_by_row.ensures.turn }
+pub returns-in-Changed : goal.returns-in-Changed
+returns-in-Changed g c =
+    let l = looked c.requires.right c.requires.walk c.requires.right (names_refl c.args.store.now) c.in_ok-revalidate_top.ensures.finds.stack in
+    record { turn = looked_turns l c.turn_top.ensures.turn }
+
+pub returns-in_err-push-in-Waits : goal.returns-in_err-push-in-Waits
+returns-in_err-push-in-Waits g c =
+    let l = looked c.requires.right c.requires.walk c.requires.right (names_refl c.args.store.now) c.in_ok-revalidate_top.ensures.finds.stack in
+    let e = err_from_is_err_and c.from_residual-in_err-push-in-Waits.result c.from_residual-in_err-push-in-Waits.ensures.1 in
+    record { turn = looked_fails l (record c.args.walk.now { stack = c.push.new.self }) refl c.in_err-push-in-Waits.ensures.items e.0 e.1 }
+
+pub returns-in_ok-push-in-Waits : goal.returns-in_ok-push-in-Waits
+returns-in_ok-push-in-Waits g c =
+    let finds = c.in_ok-revalidate_top.ensures.finds in
+    let l = looked c.requires.right c.requires.walk c.requires.right (names_refl c.args.store.now) finds.stack in
+    record { turn = looked_pushes l (record c.args.walk.now { stack = c.push.new.self }) refl c.in_ok-push-in-Waits.ensures.items c.opened.ensures.is (top_waits finds c.in-Waits.is) }
+
+pub turn_valid-requires : goal.turn_valid-requires
+turn_valid-requires g c =
+    let finds = c.in_ok-revalidate_top.ensures.finds in
+    let l = looked c.requires.right c.requires.walk c.requires.right (names_refl c.args.store.now) finds.stack in
+    record {
+      right = l.later;
+      walk = looked_good l (record c.args.walk.now { stack = c.revalidate_top.new.stack }) refl refl;
+      some = omega (arith, c.revalidate_top.new.stack.ok, looked_some l);
+      absent = looked_absent l c.requires.absent;
+      valid = top_valid finds c.in-Valid.is;
+    }
+
+pub returns-in-Valid : goal.returns-in-Valid
+returns-in-Valid g c =
+    let l = looked c.requires.right c.requires.walk c.requires.right (names_refl c.args.store.now) c.in_ok-revalidate_top.ensures.finds.stack in
+    record { turn = looked_turns l c.turn_valid.ensures.turn }

@@ -18,8 +18,8 @@ returns-in_ok-enter-in-Some-Go-clause-placed g c =
     let t = target_of c.args.target.now in
     let here : slice_get ts w.target ≡ Some t = slice_get-map target_of c.args.targets.now w.target ∙ ap (option_map target_of) c.requires.here in
     let e = c.in_ok-enter-in-Some-Go.ensures.enters in
-    let new : Store g.row.D-State.Denot = record { graph = old.graph; names = c.enter.new.names; states = old.states; operations = old.operations; memo = old.memo; recent = old.recent } in
-    let more : Names old new = record { paths = e.kept; names = keeps_same old.names.names new.names.names e.same; states = refl; operations = refl; memo = refl; recent = refl; graph = refl } in
+    let new : Store g.row.D-State.Denot = record { graph = old.graph; names = c.enter.new.names; states = old.states; operations = old.operations; memo = old.memo; recent = old.recent; stale = old.stale } in
+    let more : Names old new = record { paths = e.kept; names = keeps_same old.names.names new.names.names e.same; states = refl; operations = refl; memo = refl; recent = refl; stale = refl; graph = refl } in
     placed_call dom plan ts old new (right_named dom plan old new c.requires.right more (subst (λ xs. IsOnce xs) (sym e.same) c.requires.right.once)) more w c.enter.new.self _ t here
     (slice_get-map step_of c.args.target.now.steps w.step ∙ ap (option_map step_of) (sym c.in-Some-Go.ensures.item) ∙ ap (λ z. Some (step_of z)) c.in-Some-Go.field-0-is) e c.requires.placed
 

@@ -1,6 +1,7 @@
-use Rattle.std.proofs.Common.{ap, sym, subst, ◌∙◌}
+use Rattle.std.proofs.Common.{arith, ap, sym, subst, ◌∙◌}
 use Rattle.edit_keeps.specs.Apart.{flow_of}
 use Rattle.daig_query.specs.Renamed.{names_after}
+use Rattle.daig_query.specs.Stale.{AreStaleOf}
 use Rattle.daig_query.specs.Swept.{most_held, IsWithin, StaysRight}
 use Rattle.daig_query.proofs.Fewer.{lessens-there, made-fewer, swept-there}
 use Rattle.daig_query.proofs.Renames.{renames-within}
@@ -34,7 +35,8 @@ returns-clause-leaves g c = λ e old new apart right empties.
     let named = c.rename.new.self.store in
     let from = flow_of e old in
     let to = flow_of e new in
-    let left = leaves dom e old new before mid c.args.plan apart right empties c.empty.ensures.lessens c.empty.ensures.removes in
+    let stale = subst (λ touched. AreStaleOf before.graph.cells c.args.plan.order touched mid.stale) c.as_slice.ensures.same c.empty.ensures.stale in
+    let left = leaves dom e old new before mid c.args.plan apart right empties c.empty.ensures.lessens c.empty.ensures.removes stale in
     let stays = subst (λ d. StaysRight (ops d) mid swept) c.empty.ensures.domain c.sweep.ensures.right in
     let stays_named = subst (λ d. StaysRight (ops d) swept named) (c.sweep.ensures.domain ∙ c.empty.ensures.domain) c.rename.ensures.right in
     renamed-leaves dom swept named c.rename.ensures.renames before from to stays_named (swept-leaves dom mid swept c.sweep.ensures.swept before from to stays left)
@@ -49,3 +51,9 @@ returns-clause-bounded g c =
 
 pub returns-clause-names : goal.returns-clause-names
 returns-clause-names g c = c.rename.ensures.names ∙ ap (λ names. names_after names c.args.renaming) (c.sweep.ensures.swept.names ∙ c.empty.ensures.lessens.names)
+
+pub returns-clause-stale : goal.returns-clause-stale
+returns-clause-stale g c =
+    let swept = c.sweep.ensures.swept.stale in
+    let named = c.rename.ensures.renames.stale in
+    omega (arith, c.empty.ensures.few, swept, named)
