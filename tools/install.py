@@ -3,8 +3,9 @@
 
 PREFIX is ~/.local where it is not said. What is put there needs the repository no longer: the program that is built
 (the proved one where it is fresh, else the quick one, which is built where it is not there), the editor's language
-server, the command that checks files where the repository has it, and their manual pages. A list of the files stands in
-PREFIX/lib/daig/installed; `--remove` takes away what it lists, and nothing else.
+server, the command that checks files where the repository has it, and their manual pages. The program stands in
+PREFIX/lib/daig; `daig` of PREFIX/bin answers `--help` and `--version` as the launcher does, and starts it. A list of the
+files stands in PREFIX/lib/daig/installed; `--remove` takes away what it lists, and nothing else.
 """
 from __future__ import annotations
 
@@ -23,9 +24,20 @@ from progress import say
 
 LIST = "lib/daig/installed"
 
+LAUNCHER = """#!/bin/sh
+here=$(readlink -f "$0") && prefix=${here%/bin/*} || exit 1
+. "$prefix/lib/daig/tools/words.sh"
+
+tell_build() {
+    cat "$prefix/lib/daig/build"
+}
+
+answer "$@"
+exec "$prefix/lib/daig/daig" "$@"
+"""
 WRAPPER = """#!/bin/sh
 here=$(readlink -f "$0") && prefix=${{here%/bin/*}} || exit 2
-DAIG_PROGRAM=${{DAIG_PROGRAM:-$prefix/bin/daig}}
+DAIG_PROGRAM=${{DAIG_PROGRAM:-$prefix/lib/daig/daig}}
 export DAIG_PROGRAM
 exec python3 "$prefix/lib/daig/{script}" "$@"
 """
@@ -125,12 +137,22 @@ def built_program() -> tuple[str, str]:
     return made, "the program that was compiled without proofs (after ./prove, install once more)"
 
 
+def build() -> str:
+    """The commit, and what kind of program is built, as the launcher tells them."""
+    words = [f"{ROOT}/daig", "--version"]
+    told = subprocess.run(words, stdin=subprocess.DEVNULL, stdout=subprocess.PIPE, text=True).stdout
+    return told.strip().partition("(")[2].removesuffix(")")
+
+
 def install(prefix: str) -> int:
     program, words = built_program()
     if not program:
         return 1
     put = Installation(prefix)
-    put.copy(program, "bin/daig", 0o755)
+    put.copy(program, "lib/daig/daig", 0o755)
+    put.copy(f"{places.TOOLS}/words.sh", "lib/daig/tools/words.sh")
+    put.write(build(), "lib/daig/build")
+    put.write(LAUNCHER, "bin/daig", 0o755)
     put.page("daig")
     put.copy_editor()
     put.command("daig-lsp", "editors/daig_lsp.py")

@@ -17,7 +17,11 @@ def test_what_is_installed_stands_alone() -> None:
         for words in ("compiled without proofs", "not on the PATH"):
             assert words in ran.written, ran.written
         shutil.rmtree(it.checkout)
-        it.run(f"{prefix}/bin/daig", "x").expect(0, "quick version 1 x\n")
+        it.run(f"{prefix}/bin/daig", "x").expect(0, "quick version 1 x\n", "there is no command `x`")
+        it.run(f"{prefix}/bin/daig", "serve", "no file").expect(0, "quick version 1 serve no file\n", "there is no such file")
+        build = "(commit unknown, quick: compiled without proofs)\n"
+        assert it.run(f"{prefix}/bin/daig", "--version").written.endswith(build)
+        assert it.run(f"{prefix}/bin/daig", "--help").written.startswith("usage: daig serve")
         files = files_below(prefix)
         pages = ("share/man/man1/daig.1", "share/man/man1/daig-lsp.1")
         for name in ("bin/daig-lsp", "lib/daig/editors/daig_lsp.py", *pages):
@@ -30,6 +34,9 @@ def test_what_is_installed_stands_alone() -> None:
             assert "bin/daig-check" in files and "share/man/man1/daig-check.1" in files, files
             ran = it.run(f"{prefix}/bin/daig-check", "--help")
             assert ran.status == 0 and "daig-check" in ran.written, ran.said
+            ran = it.run(f"{prefix}/bin/daig-check", "--version")
+            whole = it.run(f"{prefix}/bin/daig", "--version").written
+            assert (ran.status, ran.written) == (0, f"daig-check{whole.removeprefix('daig')}"), ran.written
         ran = it.run(f"{prefix}/bin/daig-lsp", given=given)
         assert ran.status == 0 and '"capabilities"' in ran.written, (ran.status, ran.written, ran.said)
 

@@ -7,6 +7,7 @@ from pathlib import Path
 
 from daig_editor.protocol.settings import found_program
 
+# The checkout, or the folder of an installation, which has a line on what was built in the file `build`.
 CHECKOUT = Path(__file__).resolve().parents[3]
 BUILT = ("proved", "quick")
 
@@ -37,6 +38,24 @@ def launched_program(checkout: Path) -> str:
     if built is None:
         raise NoProgramFound(f"{launcher} has not built the program")
     return built
+
+
+def build_words(checkout: Path = CHECKOUT) -> str:
+    """The commit, and what kind of program is built, in brackets; with the program that is asked, if it is another."""
+    build = checkout / "build"
+    told = f"({build.read_text()})" if build.is_file() else _words_of_launcher(checkout / "daig")
+    found = found_program()
+    return told if found in (None, str(checkout / "daig")) else f"{told}, asks {found}"
+
+
+def _words_of_launcher(launcher: Path) -> str:
+    """What a checkout's launcher tells of its build."""
+    with suppress(OSError):
+        words = [str(launcher), "--version"]
+        done = subprocess.run(words, stdin=subprocess.DEVNULL, capture_output=True, text=True)
+        if done.returncode == 0 and "(" in done.stdout:
+            return done.stdout[done.stdout.index("(") :].strip()
+    return "(of no known build)"
 
 
 def _built(checkout: Path) -> str | None:

@@ -5,6 +5,7 @@ import argparse
 import os
 from typing import Callable
 
+from daig_editor.checking.program import build_words
 from daig_editor.protocol.settings import DOMAIN, DOMAINS, WIDENINGS
 from daig_editor.reports.tool import NAME, RULES, VERSION, explained
 
@@ -45,7 +46,7 @@ def _said(parser: argparse.ArgumentParser, args: argparse.Namespace) -> str:
     if args.help:
         return parser.format_help()
     if args.version:
-        return f"{NAME} {VERSION}\n"
+        return f"{NAME} {VERSION} {build_words()}\n"
     return explained(args.explain) if args.explain else ""
 
 
