@@ -49,9 +49,17 @@ complain() {
     printf 'daig: %s\n' "$*" >&2
 }
 
+# Whether a word is UTF-8: is_utf8 WORD
+is_utf8() {
+    ! printf '%s\n' "$1" | LC_ALL=C.UTF-8 grep -qavx '.*'
+}
+
 # Says what is wrong with a file that is to be read, if anything is: look_at FILE
 look_at() {
-    if [ -d "$1" ]; then
+    if ! is_utf8 "$1"; then
+        complain "$(printf '%s' "$1" | LC_ALL=C sed -n 'l 0' | sed 's/\$$//'): its name is not UTF-8"
+        exit 2
+    elif [ -d "$1" ]; then
         complain "$1: it is a folder; daig-check checks all files below one"
     elif [ ! -e "$1" ]; then
         complain "$1: there is no such file"
@@ -96,6 +104,7 @@ look_at_words() {
 }
 
 # Answers words that ask about the command itself, and ends then: answer WORD ..
+# The program shall see a write that fails, and not be ended by a signal of it.
 # `tell_build` is a function of the caller, which writes the commit and what kind of program it is.
 answer() {
     if [ "$1" = --version ] || [ "$1" = -V ]; then
@@ -109,4 +118,5 @@ answer() {
         fi
     done
     look_at_words "$@"
+    trap '' PIPE XFSZ
 }

@@ -1,6 +1,7 @@
 """What daig-check's status says, and that nothing that goes wrong leaves a file looking clean."""
 from __future__ import annotations
 
+import asyncio
 import os
 import resource
 import signal
@@ -9,6 +10,7 @@ import sys
 import time
 from pathlib import Path
 
+from daig_editor.server.child import started
 from tests.check_tool import DEAD, LOOPS, NO_PROGRAM, SAFE, TOOL, UNSAFE, check, check_process, dying, folder, script
 from tests.random_sources import slow_source
 
@@ -40,7 +42,7 @@ def test_files() -> None:
         found = check("--format", "brief", "a.imp", "none.imp", where=here)
         assert found.status == 2 and "none.imp:1:1: error: No such file or directory [run]" in found.out, found
         found = check("empty", where=here)
-        assert found.status == 2 and "there is no *.imp file below this folder" in found.out, found
+        assert found.status == 2 and "there is no file to check below this folder" in found.out, found
         (here / "below/gone.imp").symlink_to("nowhere")
         found = check("--format", "brief", "below", where=here)
         assert found.status == 2 and "below/gone.imp:1:1: error" in found.out, found
@@ -54,7 +56,8 @@ def test_hostile_files() -> None:
         for name in ("a.imp", "b.imp", "c.imp", "d.imp", "/dev/zero", "/dev/null"):
             began = time.monotonic()
             found = check("--quiet", name, where=here)
-            assert found.status == 2 and "[source]" in found.out and "\x1b" not in found.out, (name, found.out[:500])
+            rule = "[run]" if name.startswith("/dev/") else "[source]"
+            assert found.status == 2 and rule in found.out and "\x1b" not in found.out, (name, found.out[:500])
             assert time.monotonic() - began < 60, name
         (here / "e.imp").write_bytes(SAFE.encode() + b"// \xff\xfe\x00\n")
         assert check("e.imp", where=here).status == 0
@@ -161,6 +164,19 @@ def test_one_job_and_eight() -> None:
         for form in ("text", "sarif"):
             one, eight = (check("--format", form, "--jobs", jobs, ".", where=here) for jobs in (1, 8))
             assert one == eight and one.status == 2 and one.out, (form, one, eight)
+
+
+def test_signals_of_writes() -> None:
+    """A server sees a write that fails, and is not ended by a signal of it."""
+
+    async def told() -> bytes:
+        """What a program says of its signals."""
+        words = ["grep", "SigIgn", "/proc/self/status"]
+        process = await started(words, asyncio.subprocess.DEVNULL, asyncio.subprocess.PIPE)
+        return (await process.communicate())[0]
+
+    ignored = int(asyncio.run(told()).split()[1], 16)
+    assert all(ignored >> (it - 1) & 1 for it in (signal.SIGPIPE, signal.SIGXFSZ)), ignored
 
 
 def test_memory() -> None:

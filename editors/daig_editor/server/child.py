@@ -71,5 +71,6 @@ async def _started(words: list[str], stdin: int, stdout: int, longest_line: int)
         stdout=stdout,
         stderr=asyncio.subprocess.DEVNULL,
         start_new_session=True,
+        restore_signals=False,  # a write that fails is to be seen by the program, and not to end it by a signal
     )
     return Child(transport, protocol)
