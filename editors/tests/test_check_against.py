@@ -5,7 +5,8 @@ import asyncio
 from random import Random
 
 from daig_editor.checking.analysis import Wanted, analyse
-from daig_editor.checking.comparison import OldText, analyse_against
+from daig_editor.checking.comparison import analyse_against
+from daig_editor.checking.revisions import OldText
 from daig_editor.reports.finding import CheckedFile, Finding
 from daig_editor.server.process import Settings
 from tests.check_tool import EXAMPLES, LOOPS, NO_PROGRAM, SAFE, UNSAFE, check, folder
@@ -49,7 +50,6 @@ def test_against_cells() -> None:
     arrays = (EXAMPLES / "arrays.imp").read_text()
     with folder(old_imp=arrays) as here:
         for new, wanted in (
-            (arrays, "0 of 18 cells computed again"),
             ("// more\n" + arrays.replace("  i =", "\n   i  =   "), "0 of 18 cells computed again"),
             (arrays.replace("i = a[i]", "i = a[n]"), "1 of 18 cells computed again"),
             (arrays.replace("n: int;", "n: int; var m: list;"), "18 of 18 cells computed again"),
@@ -58,6 +58,8 @@ def test_against_cells() -> None:
             (here / "new.imp").write_text(new)
             found = check("--against", "old.imp", "new.imp", where=here)
             assert f"new.imp:1:1: note: {wanted} [change]\n" in found.out or wanted in found.out, (wanted, found.out)
+        (here / "new.imp").write_text(arrays)
+        assert "[change]" not in check("--against", "old.imp", "new.imp", where=here).out, "nothing changed"
 
 
 def test_against_words() -> None:

@@ -64,6 +64,7 @@ def test_fingerprints() -> None:
     def found(text: str) -> list[dict[str, object]]:
         """The findings of two files with a text."""
         with folder(a_imp=text, b_imp=text) as here:
+            (here / "daig.toml").write_text("")
             return check("--format", "json", "a.imp", f"{here}/b.imp", where=here).objects
 
     before, after, first_mended = found(ALIKE), found(moved), found(mended)
@@ -176,6 +177,7 @@ def fits(value: object, shape: object, where: str = "log") -> None:
 def test_sarif() -> None:
     """Reports have the structure of SARIF 2.1.0: members, rules, places from 1 on, fingerprints that differ."""
     with folder(a_imp=TWICE, b_imp=NO_PROGRAM, c_imp=DEAD, d_imp="", e_imp=LOOPS) as here:
+        (here / "daig.toml").write_text("")
         (here / "a b#é.imp").write_text(UNSAFE)
         words = ["--budget", 1, "--domain", "interval", ".", "none.imp", "/dev/null"]
         found = check("--format", "sarif", *words, where=here)

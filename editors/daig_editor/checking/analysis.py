@@ -32,12 +32,15 @@ OldVerdicts = Mapping[int, tuple[str, str]]
 
 @dataclass(frozen=True)
 class Wanted:
-    """What is asked of each file. `dead`: checks that are never reached count too; `states`: all states are asked."""
+    """What is asked of each file. `dead`: checks that are never reached count too; `states`: all states are asked;
+    `causes`: what a finding hangs on is asked; `new`: of a change, what the old text has too does not count."""
 
     settings: Settings
     dead: bool = False
     tries: int = 0
     states: bool = False
+    causes: bool = True
+    new: bool = False
 
 
 async def analyse(name: str, data: bytes, wanted: Wanted) -> CheckedFile:
@@ -147,8 +150,9 @@ class _Analysis:
         key = Key(place.proc.name, place.stmt.text, verdict.check, ordinal)
         if verdict.verdict == "dead":
             level = Level.WARNING if self._wanted.dead else Level.NOTE
-            notes = self._old_notes(verdict)
-            self._checked.findings.append(Finding(verdict.check, level, place.placed.head, DEAD, key, notes=notes))
+            notes, number = self._old_notes(verdict), verdict.number
+            dead = Finding(verdict.check, level, place.placed.head, DEAD, key, notes=notes, number=number)
+            self._checked.findings.append(dead)
             return
         known = await self._served.state(f"before {verdict.number}")
         if isinstance(known, Over) and verdict.number not in self._fails:
@@ -162,7 +166,8 @@ class _Analysis:
         """The finding of a check that may fail, or that fails in a run."""
         number, places = verdict.number, self._served.places
         self._asked_why += 1
-        why = await self._served.why(f"before {number}") if self._asked_why <= MOST_WHY else []
+        asked = self._wanted.causes and self._asked_why <= MOST_WHY
+        why = await self._served.why(f"before {number}") if asked else []
         after = await self._served.state(f"after {number}")
         inputs = self._fails.get(number)
         return Finding(
@@ -175,6 +180,7 @@ class _Analysis:
             causes=tuple(sorted(places[it].placed.head for it in why if it != number)),
             notes=((FAILS_ALWAYS,) if after == NEVER_REACHED else ()) + self._old_notes(verdict),
             inputs=inputs,
+            number=number,
         )
 
     def _old_notes(self, verdict: Verdict) -> tuple[str, ...]:
@@ -195,7 +201,7 @@ class _Analysis:
             unknown = {it: many for it, many in self._unknown.items() if it.loop == loop}
             key = Key(place.proc.name, place.stmt.text, "budget", which[loop])
             words, notes = over_words(self._wanted.settings.budget), over_notes(unknown, self._line)
-            finding = Finding("budget", Level.WARNING, place.placed.head, words, key, notes=notes)
+            finding = Finding("budget", Level.WARNING, place.placed.head, words, key, notes=notes, number=loop)
             self._checked.findings.append(finding)
 
     def _loops(self) -> list[int]:

@@ -3,8 +3,7 @@ from __future__ import annotations
 
 import json
 
-from daig_editor.reports.finding import TROUBLE, CheckedFile, fingerprint
-from daig_editor.reports.sarif import PRINT
+from daig_editor.reports.tool import PRINT
 
 
 class BadBaseline(Exception):
@@ -12,9 +11,18 @@ class BadBaseline(Exception):
 
 
 def read_baseline(path: str) -> frozenset[str]:
-    """The fingerprints of a report in SARIF; raises `BadBaseline` or `OSError`."""
-    with open(path, "rb") as file:
-        data = file.read()
+    """The fingerprints of a report in SARIF; raises `BadBaseline`."""
+    try:
+        with open(path, "rb") as file:
+            return _prints(file.read())
+    except OSError as error:
+        raise BadBaseline(f"{path}: {error.strerror or error}") from None
+    except BadBaseline as why:
+        raise BadBaseline(f"{path}: {why}") from None
+
+
+def _prints(data: bytes) -> frozenset[str]:
+    """The fingerprints of a log."""
     try:
         log = json.loads(data)
     except (ValueError, RecursionError):
@@ -26,11 +34,3 @@ def read_baseline(path: str) -> frozenset[str]:
         return frozenset(it["partialFingerprints"][PRINT] for it in results)
     except (KeyError, TypeError):
         raise BadBaseline("it is no report of daig-check in SARIF") from None
-
-
-def leave_out(checked: CheckedFile, known: frozenset[str]) -> None:
-    """Leaves out the findings that are known. What changed, and why a file could not be checked, is always told."""
-    always = [it for it in checked.findings if it.status == TROUBLE or it.rule == "change"]
-    new = [it for it in checked.findings if it in always or fingerprint(checked.name, it.key) not in known]
-    checked.known_before = len(checked.findings) - len(new)
-    checked.findings = new

@@ -16,7 +16,7 @@ from typing import Iterator
 from daig_editor.checking.single_run import run_once
 from daig_editor.language.text import TextReader
 from daig_editor.language.tree import number_from_one
-from daig_editor.reports.finding import TROUBLE, WHOLE_FILE, CheckedFile, Finding, Key, Level, file_key, trouble
+from daig_editor.reports.finding import TROUBLE, WHOLE_FILE, CheckedFile, Finding, Key, Level, trouble
 from daig_editor.server.process import STATUS_WORDS, NotStarted, Settings
 
 Json = dict[str, object]
@@ -47,9 +47,10 @@ async def certify(checked: CheckedFile, folder: str, settings: Settings) -> None
 
 def certificate_path(folder: str, name: str, domain: str) -> str:
     """Where a file's certificate stands: by its path from where the tool was started, or by its whole path."""
-    path = file_key(name)
+    real = os.path.realpath(name)
+    path = os.path.relpath(real)
     if path.startswith(".."):
-        path = os.path.abspath(name).lstrip(os.sep)
+        path = real.lstrip(os.sep)
     return os.path.join(folder, f"{path.removesuffix('.imp')}.{domain}.cert")
 
 

@@ -1,19 +1,20 @@
 """What a change does: the old text is served, the change sent as edits, and what is known before and after compared."""
 from __future__ import annotations
 
-from dataclasses import dataclass
-from typing import NamedTuple
+from dataclasses import dataclass, field, replace
 
 from daig_editor.checking.analysis import Wanted, add_findings, analyse, served, told_in
 from daig_editor.checking.asking import Served, State, Verdict, ordinals
 from daig_editor.checking.matching import Matches, Spot
 from daig_editor.checking.refused import read_program
+from daig_editor.checking.revisions import OldText
 from daig_editor.checking.words import state_words, verdict_words
 from daig_editor.language.edits import NoPlan, plan
 from daig_editor.language.places import SourceText
 from daig_editor.language.tree import Program, Span, number_from_one
 from daig_editor.reports.finding import WHOLE_FILE, CheckedFile, Finding, Key, Level, trouble
 from daig_editor.reports.shown import plural
+from daig_editor.reports.tool import CHECK_RULES
 
 SPOTS = {
     "head": "the state at the head of this loop changed",
@@ -23,23 +24,24 @@ SPOTS = {
 }
 
 
-class OldText(NamedTuple):
-    """The file before the change."""
-
-    name: str
-    data: bytes
+# How bad a finding is: a lower number is worse.
+BADNESS = {Level.ERROR: 0, Level.WARNING: 1, Level.NOTE: 2}
 
 
 @dataclass(frozen=True)
 class _Known:
-    """What is known of a program: the verdicts by their statements, the states by their locations."""
+    """What is known of a program: the verdicts by their statements, the states by their locations, and the levels of
+    findings by their statements and rules, where new ones are to be told from them."""
 
     verdicts: dict[int, Verdict]
     states: dict[str, State]
+    levels: dict[tuple[int, str], Level] = field(default_factory=dict)
 
 
 async def analyse_against(name: str, data: bytes, old: OldText, wanted: Wanted, by_edits: bool = True) -> CheckedFile:
     """Checks a file and tells what changed in it. Without `by_edits` both texts are analysed as a whole."""
+    if data == old.data:
+        return _unchanged(await analyse(name, data, wanted), wanted)
     program, _ = read_program(data)
     if program is None:
         return await analyse(name, data, wanted)
@@ -47,7 +49,7 @@ async def analyse_against(name: str, data: bytes, old: OldText, wanted: Wanted, 
     without_old = CheckedFile(old.name, SourceText.of(b"", True))
     with told_in(without_old):
         async with served(old.data, wanted.settings) as server:
-            comparison = await _Comparison.begun(checked, program, wanted, server)
+            comparison = await _Comparison.begun(checked, program, wanted, server, old.data)
             with told_in(checked):
                 await comparison.ask_new(server if by_edits else None)
     if without_old.findings:
@@ -69,10 +71,16 @@ class _Comparison:
     old: _Known
 
     @staticmethod
-    async def begun(checked: CheckedFile, program: Program, wanted: Wanted, server: Served) -> _Comparison:
-        """A comparison, for which all is asked before the change."""
+    async def begun(
+        checked: CheckedFile, program: Program, wanted: Wanted, server: Served, source: bytes
+    ) -> _Comparison:
+        """A comparison, for which all is asked before the change; `source` is the text then."""
         matches = Matches(server.program, program)
         old = await _known(server, [it.old for it in matches.told()])
+        if wanted.new:
+            before = CheckedFile(checked.name, SourceText.of(source, True))
+            await add_findings(before, server, replace(wanted, states=False, causes=False))
+            old = replace(old, levels={(it.number, it.rule): it.level for it in before.findings})
         return _Comparison(checked, program, wanted, matches, old)
 
     async def ask_new(self, server: Served | None) -> None:
@@ -109,6 +117,8 @@ class _Comparison:
         await add_findings(
             self.checked, server, self.wanted, {it: (was.check, was.verdict) for it, was in same.items()}
         )
+        if self.wanted.new:
+            self._leave_out_old()
         which = ordinals(self.program, ((it.number, it.check) for it in new.verdicts.values()))
         for it in new.verdicts.values():
             was = same.get(it.number)
@@ -118,6 +128,19 @@ class _Comparison:
             await self._add_state(server, spot)
         self.checked.findings.sort(key=lambda it: it.span)
         self.checked.findings.append(_cells(all_cells - kept, all_cells))
+
+    def _leave_out_old(self) -> None:
+        """Leaves out the findings that were there before the change, at least as bad as they are now."""
+        before = {it.new.number: it.old.number for it in self.matches.pairs}
+
+        def is_new(finding: Finding) -> bool:
+            """Whether a finding was not there before."""
+            was = self.old.levels.get((before.get(finding.number, 0), finding.rule))
+            return was is None or BADNESS[was] > BADNESS[finding.level]
+
+        new = [it for it in self.checked.findings if it.rule not in CHECK_RULES or is_new(it)]
+        self.checked.known_before += len(self.checked.findings) - len(new)
+        self.checked.findings = new
 
     def _add_safe(self, server: Served, now: Verdict, was: Verdict, ordinal: int) -> None:
         """Adds that a check is safe now."""
@@ -155,6 +178,15 @@ async def _known(server: Served, locations: list[str]) -> _Known:
     await server.state("end main")
     verdicts = {it.number: it for it in await server.report()}
     return _Known(verdicts, {it: await server.state(it) for it in locations})
+
+
+def _unchanged(checked: CheckedFile, wanted: Wanted) -> CheckedFile:
+    """A file that did not change: none of its findings is new."""
+    if wanted.new:
+        always = [it for it in checked.findings if it.rule not in CHECK_RULES]
+        checked.known_before += len(checked.findings) - len(always)
+        checked.findings = always
+    return checked
 
 
 def new_file(checked: CheckedFile, old: str) -> None:

@@ -3,13 +3,14 @@ from __future__ import annotations
 
 import hashlib
 import json
-import os
 from dataclasses import dataclass, field, fields
 from enum import Enum
+from functools import cached_property
 from typing import NamedTuple
 
 from daig_editor.language.places import SourceText
 from daig_editor.language.tree import Span
+from daig_editor.reports.project import ProjectPath, project_path
 
 CLEAN, FINDINGS, TROUBLE = 0, 1, 2
 # Where a finding stands that is of no place of the text.
@@ -38,7 +39,8 @@ class Key(NamedTuple):
 class Finding:
     """One finding. `known` are the states before it, `causes` what they hang on, `inputs` those of a run that fails.
 
-    `related` are other places, each with what it is.
+    `related` are other places, each with what it is. `number` is that of the statement in the program that was asked, 0
+    of none.
     """
 
     rule: str
@@ -51,6 +53,7 @@ class Finding:
     notes: tuple[str, ...] = ()
     related: tuple[tuple[Span, str], ...] = ()
     inputs: tuple[int, ...] | None = None
+    number: int = field(default=0, compare=False)
 
     @property
     def status(self) -> int:
@@ -90,7 +93,11 @@ class StateLine(NamedTuple):
 
 @dataclass
 class CheckedFile:
-    """A file and what is told of it. `known_before` counts the findings that a baseline has."""
+    """A file and what is told of it, and why other findings are not told.
+
+    `known_before` counts those that a baseline or the old text has, `ignored` those that a comment ignores, `unselected`
+    those of rules that are not wanted, `untold` those beyond the most that are told.
+    """
 
     name: str
     source: SourceText
@@ -98,16 +105,25 @@ class CheckedFile:
     tally: Tally = field(default_factory=Tally)
     states: list[StateLine] = field(default_factory=list)
     known_before: int = 0
+    ignored: int = 0
+    unselected: int = 0
+    untold: int = 0
+    untold_status: int = CLEAN
 
     @property
     def status(self) -> int:
         """The status of this file alone."""
-        return max((it.status for it in self.findings), default=CLEAN)
+        return max([self.untold_status, *(it.status for it in self.findings)])
 
-    @property
-    def prints(self) -> list[str]:
-        """The fingerprints of the findings, in their order."""
-        return [fingerprint(self.name, it.key) for it in self.findings]
+    @cached_property
+    def path(self) -> ProjectPath:
+        """Where the file really is."""
+        return project_path(self.name)
+
+    def fingerprint(self, finding: Finding) -> str:
+        """By what a finding of this file is known again: of file, procedure, printed statement, check and ordinal."""
+        words = json.dumps([self.path.path, *finding.key])
+        return hashlib.sha256(words.encode()).hexdigest()[:32]
 
 
 def troubled(name: str, words: str) -> CheckedFile:
@@ -118,14 +134,3 @@ def troubled(name: str, words: str) -> CheckedFile:
 def trouble(words: str, part: str = "") -> Finding:
     """Why a file, or a part of what is asked of it, could not be checked."""
     return Finding("run", Level.ERROR, WHOLE_FILE, words, Key("", part, "run"))
-
-
-def file_key(name: str) -> str:
-    """A file's name as a fingerprint has it: the same from wherever within its folder it is named."""
-    return os.path.relpath(name) if os.path.isabs(name) else os.path.normpath(name)
-
-
-def fingerprint(name: str, key: Key) -> str:
-    """By what a finding of a file is known again: of file, procedure, printed statement, check and ordinal."""
-    words = json.dumps([file_key(name), *key])
-    return hashlib.sha256(words.encode()).hexdigest()[:32]

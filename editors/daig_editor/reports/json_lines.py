@@ -4,7 +4,7 @@ from __future__ import annotations
 import json
 import os
 
-from daig_editor.reports.finding import CheckedFile, Finding, fingerprint
+from daig_editor.reports.finding import CheckedFile, Finding
 from daig_editor.reports.regions import byte_region, lines_of
 
 
@@ -39,7 +39,7 @@ def _fields(checked: CheckedFile, finding: Finding) -> dict[str, object]:
         "related": [{"line": checked.source.line_of(span.start) + 1, "message": it} for span, it in finding.related],
         "notes": list(finding.notes),
         "inputs": None if finding.inputs is None else list(finding.inputs),
-        "fingerprint": fingerprint(checked.name, finding.key),
+        "fingerprint": checked.fingerprint(finding),
     }
 
 

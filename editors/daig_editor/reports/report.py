@@ -20,11 +20,15 @@ class Report(Protocol):
 
 @dataclass
 class Totals:
-    """The counts over all files, and the highest status of one."""
+    """The counts over all files, and the highest status of one. `left_out` counts named files that are excluded."""
 
     files: int = 0
     bad: int = 0
     known_before: int = 0
+    ignored: int = 0
+    unselected: int = 0
+    untold: int = 0
+    left_out: int = 0
     status: int = CLEAN
     tally: Tally = field(default_factory=Tally)
 
@@ -33,6 +37,9 @@ class Totals:
         self.files += 1
         self.bad += checked.status == TROUBLE
         self.known_before += checked.known_before
+        self.ignored += checked.ignored
+        self.unselected += checked.unselected
+        self.untold += checked.untold
         self.status = max(self.status, checked.status)
         self.tally.add(checked.tally)
 
@@ -44,5 +51,12 @@ class Totals:
         line += f", {tally.unknown} not known" if tally.unknown else ""
         if tally.certified or tally.rewritten:
             line += f"; certificates: {tally.certified} hold, {tally.rewritten} written"
-        line += f"; {plural(self.known_before, 'finding')} known from before" if self.known_before else ""
+        for many, words in (
+            (self.known_before, "known from before"),
+            (self.ignored, "ignored by comments"),
+            (self.unselected, "of other rules"),
+            (self.untold, "more, not told"),
+        ):
+            line += f"; {plural(many, 'finding')} {words}" if many else ""
+        line += f"; {plural(self.left_out, 'file')} excluded" if self.left_out else ""
         return line + (f"; {plural(self.bad, 'file')} could not be checked" if self.bad else "")

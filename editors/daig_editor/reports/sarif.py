@@ -7,13 +7,13 @@ from urllib.parse import quote
 
 from daig_editor.language.places import SourceText
 from daig_editor.language.tree import Span
-from daig_editor.reports.finding import TROUBLE, CheckedFile, Finding, file_key, fingerprint
+from daig_editor.reports.finding import TROUBLE, CheckedFile, Finding
+from daig_editor.reports.project import ProjectPath
 from daig_editor.reports.regions import utf16_region
-from daig_editor.reports.tool import NAME, RULES, VERSION, Rule
+from daig_editor.reports.tool import NAME, PRINT, RULES, VERSION, Rule
 
 Json = dict[str, object]
 SCHEMA = "https://json.schemastore.org/sarif-2.1.0.json"
-PRINT = "daig/v1"
 # Code hosts take so many places of a result.
 MOST_RELATED = 100
 
@@ -58,7 +58,7 @@ def _result(checked: CheckedFile, finding: Finding) -> Json:
         "message": {"text": _words(finding)},
         "locations": [_location(checked, finding.span)],
         "relatedLocations": [_related(checked, number, *it) for number, it in enumerate(related)],
-        "partialFingerprints": {PRINT: fingerprint(checked.name, finding.key)},
+        "partialFingerprints": {PRINT: checked.fingerprint(finding)},
     }
 
 
@@ -71,7 +71,7 @@ def _words(finding: Finding) -> str:
 
 def _location(checked: CheckedFile, span: Span) -> Json:
     """A place in a file."""
-    return {"physicalLocation": {"artifactLocation": _artifact(checked.name), "region": _region(checked.source, span)}}
+    return {"physicalLocation": {"artifactLocation": _artifact(checked.path), "region": _region(checked.source, span)}}
 
 
 def _related(checked: CheckedFile, number: int, span: Span, words: str) -> Json:
@@ -79,12 +79,11 @@ def _related(checked: CheckedFile, number: int, span: Span, words: str) -> Json:
     return {"id": number, "message": {"text": words}, **_location(checked, span)}
 
 
-def _artifact(name: str) -> Json:
-    """A file: by its path from where the tool was started, or by its whole path where it is not below."""
-    path = file_key(name)
-    if path.startswith(".."):
-        return {"uri": "file://" + quote(os.fsencode(os.path.abspath(name)))}
-    return {"uri": quote(os.fsencode(path.replace(os.sep, "/"))), "uriBaseId": "SRCROOT"}
+def _artifact(path: ProjectPath) -> Json:
+    """A file: by its path below the folder of its project, or by its whole path where it is in none."""
+    if not path.project:
+        return {"uri": "file://" + quote(os.fsencode(path.path))}
+    return {"uri": quote(os.fsencode(path.path)), "uriBaseId": "SRCROOT"}
 
 
 def _region(source: SourceText, span: Span) -> Json:

@@ -5,6 +5,7 @@ from typing import Iterator
 
 from daig_editor.language.places import SourceText
 from daig_editor.reports.finding import WHOLE_FILE, CheckedFile, Finding, Level
+from daig_editor.reports.folding import folded
 from daig_editor.reports.regions import byte_region, lines_of
 from daig_editor.reports.shown import shown, width
 
@@ -19,7 +20,7 @@ class BriefReport:
 
     def file(self, checked: CheckedFile) -> str:
         """The lines of a file."""
-        return "".join(f"{heading(checked, it)}\n" for it in checked.findings)
+        return "".join(f"{heading(checked, it)}\n" for it in folded(checked))
 
     def end(self) -> str:
         """Nothing."""
@@ -34,7 +35,7 @@ class TextReport:
 
     def file(self, checked: CheckedFile) -> str:
         """The blocks of a file."""
-        lines = [line for it in checked.findings for line in self._block(checked, it)]
+        lines = [line for it in folded(checked) for line in self._block(checked, it)]
         return "".join(f"{it}\n" for it in lines)
 
     def end(self) -> str:

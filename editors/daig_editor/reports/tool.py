@@ -5,6 +5,8 @@ from dataclasses import dataclass
 
 NAME = "daig-check"
 VERSION = "1.0"
+# The name of the fingerprint in SARIF.
+PRINT = "daig/v1"
 
 
 @dataclass(frozen=True)
@@ -66,6 +68,13 @@ _RULES = (
         "not hold. The finding says why none holds.",
     ),
     Rule(
+        "ignore",
+        "A comment ignores nothing, or names no rule.",
+        "`// daig: ignore[RULE] reason` leaves out the findings of the rule, or of several with commas between them, that\n"
+        "stand on the line of the comment, or on the next line with code where the comment stands alone. One that\n"
+        "leaves out nothing is told by a note, one that cannot be read or names no rule by a warning.",
+    ),
+    Rule(
         "change",
         "A change makes this different.",
         "With `--against OLD` a note stands where a verdict, or the state at a loop or after a changed statement, is\n"
@@ -73,6 +82,9 @@ _RULES = (
     ),
 )
 RULES = {it.name: it for it in _RULES}
+# The rules of findings on a statement, which a comment may ignore.
+CHECK_RULES = ("bounds", "null", "assert", "budget")
+IGNORE_RULE = "ignore"
 
 
 def explained(name: str) -> str:

@@ -5,6 +5,7 @@ from dataclasses import replace
 from typing import Callable
 
 from daig_editor.language.checks import check_of
+from daig_editor.language.ignores import ignored_rules, lines_of_span
 from daig_editor.language.tree import Placed, Program, Stmt, StmtKind
 from daig_editor.language.words import is_never, over_words
 from daig_editor.server.asking import Asker, TookLong
@@ -54,7 +55,7 @@ class Judge:
         if "over" in answer:
             findings, unknown = await self._known(findings)
             over = Over(places[int(str(answer["over"]))], self.over_text(answer, unknown))
-        return Report(good.text, findings, over, _tallies(good.program, said))
+        return _without_ignored(Report(good.text, findings, over, _tallies(good.program, said)))
 
     def over_text(self, reply: Reply, unknown: int = 0) -> str:
         """What an Over says, in words."""
@@ -96,8 +97,9 @@ class Judge:
         inputs = await failing_checks(self._ask, good.text.data, checks, runs)
         places = sorted(good.program.find_all(set(inputs)).values(), key=lambda it: it.head.start)
         found = [Finding(it, checks[it.stmt.number], "may", inputs=inputs[it.stmt.number]) for it in places]
-        if found:
-            self._partly(Report(good.text, found, None, partial=True))
+        partly = _without_ignored(Report(good.text, found, None, partial=True))
+        if partly.findings:
+            self._partly(partly)
 
     def _enter(self, place: Placed | None, percent: int) -> None:
         """A stage begins."""
@@ -135,6 +137,21 @@ class Judge:
         after = await self._state(f"after {number}")
         always = is_never(str(after["state"])) if "state" in after else False
         return replace(finding, always=always, inputs=inputs.get(number), causes=tuple(causes))
+
+
+def _without_ignored(report: Report) -> Report:
+    """A report without what comments of its text ignore."""
+    rules = ignored_rules(report.text)
+    if not rules:
+        return report
+
+    def is_told(place: Placed, rule: str) -> bool:
+        """Whether no comment ignores a rule's finding at a place."""
+        return not any(rule in rules.get(it, ()) for it in lines_of_span(report.text, place.head))
+
+    found = [it for it in report.findings if is_told(it.place, it.check)]
+    over = report.over if report.over and is_told(report.over.loop, "budget") else None
+    return replace(report, findings=found, over=over)
 
 
 async def causes_of(ask: Ask, good: Good, number: int) -> list[Placed]:

@@ -1,0 +1,156 @@
+"""One run of daig-check: the files that its words name are checked, and the report is written."""
+from __future__ import annotations
+
+import argparse
+import contextlib
+import os
+import sys
+from dataclasses import replace
+from importlib import import_module
+
+from daig_editor.checking.analysis import Wanted, analyse
+from daig_editor.checking.baseline import read_baseline
+from daig_editor.checking.configuration import Configuration, Configurations
+from daig_editor.checking.patterns import Patterns
+from daig_editor.checking.program import program_to_ask
+from daig_editor.checking.revisions import NoOldText, NotComparable, OldFile, against
+from daig_editor.checking.selection import Limit, Selection
+from daig_editor.checking.sources import Source, bytes_of, sources_of, standard_input
+from daig_editor.checking.sources import Wanted as WantedFiles
+from daig_editor.checking.work import in_order
+from daig_editor.protocol.settings import DOMAIN
+from daig_editor.reports.finding import CheckedFile, troubled
+from daig_editor.reports.output import Output, output_to
+from daig_editor.reports.progress import Progress
+from daig_editor.reports.project import STANDARD_INPUT, STANDARD_INPUT_NAME
+from daig_editor.reports.report import Report, Totals
+from daig_editor.server.process import Settings
+
+BUDGET = 100
+# The module and the class of each format, which are loaded where it is wanted.
+FORMATS = {
+    "brief": ("text", "BriefReport"),
+    "json": ("json_lines", "JsonReport"),
+    "sarif": ("sarif", "SarifReport"),
+    "html": ("html", "HtmlReport"),
+    "github": ("github", "GithubReport"),
+    "junit": ("junit", "JunitReport"),
+}
+
+
+class Wrong(Exception):
+    """Why nothing can be checked, in words."""
+
+
+class Run:
+    """What the words ask for. What may wait for others is read here, before signals are handled."""
+
+    def __init__(self, args: argparse.Namespace) -> None:
+        """Raises `Wrong`, `BadBaseline`, `BadConfiguration` or `NoProgramFound`."""
+        self._args = args
+        self._configurations = Configurations(args.isolated, args.config)
+        self._known = read_baseline(args.baseline) if args.baseline else frozenset()
+        exclude = Patterns(os.getcwd(), tuple(it for words in args.exclude for it in words))
+        files = WantedFiles(self._configurations, exclude, args.force_exclude)
+        self._sources = sources_of(args.files, files)
+        self._left_out = files.left_out
+        for source in self._sources:
+            self._configurations.of(os.path.dirname(source.name) or ".")
+        self._input = standard_input() if STANDARD_INPUT in args.files else b""
+        self._against = against(args.against)
+        if isinstance(self._against, OldFile) and len(self._sources) > 1:
+            raise Wrong(f"--against {args.against}: a folder is wanted where several files are checked")
+        settings = Settings(program_to_ask(args.program), widening=args.widening, delay=args.delay, memory=args.memory)
+        self._wanted = Wanted(settings, args.dead, args.tries, args.format == "html", new=args.new)
+        self._test_output()
+
+    async def run(self) -> int:
+        """Checks all files and writes the report; answers the highest status."""
+        output = output_to(self._args.output)
+        try:
+            totals = await self._report(output)
+            output.keep()
+        except BaseException:
+            output.drop()
+            raise
+        return totals.status
+
+    async def _report(self, output: Output) -> Totals:
+        """Writes what is told of all files."""
+        args, limit = self._args, Limit(self._args.max_findings)
+        report, totals, progress = self._format(), Totals(left_out=self._left_out), Progress(len(self._sources), args.quiet)
+        files = in_order(self._sources, args.jobs, self._check, progress.done)
+        async with contextlib.aclosing(files):
+            async for checked in files:
+                limit.apply(checked)
+                totals.add(checked)
+                text = report.file(checked)
+                if text:
+                    progress.clear()
+                    output.write(text)
+        output.write(report.end())
+        progress.end(totals.summary())
+        return totals
+
+    async def _check(self, source: Source) -> CheckedFile:
+        """All that is told of one file."""
+        configuration = self._configurations.of(os.path.dirname(source.name) or ".")
+        wanted = replace(self._wanted, settings=self._settings(configuration))
+        checked = await self._analysed(source, wanted)
+        if self._args.cert:
+            from daig_editor.checking.certificates import certify
+
+            await certify(checked, self._args.cert, wanted.settings)
+        Selection(self._args.select or configuration.select, self._known).apply(checked)
+        return checked
+
+    def _settings(self, configuration: Configuration) -> Settings:
+        """What a file is served with: by the command line, else by its configuration."""
+        domain = self._args.domain or configuration.domain or DOMAIN
+        budget = self._args.budget or configuration.budget or BUDGET
+        return replace(self._wanted.settings, domain=domain, budget=budget)
+
+    async def _analysed(self, source: Source, wanted: Wanted) -> CheckedFile:
+        """Checks one file."""
+        data = self._bytes(source)
+        if self._against is None:
+            return await analyse(source.name, data, wanted)
+        from daig_editor.checking.comparison import analyse_against, new_file
+
+        try:
+            old = await self._against.old(source)
+        except NotComparable as why:
+            return troubled(source.name, str(why))
+        except NoOldText as missing:
+            checked = await analyse(source.name, data, wanted)
+            new_file(checked, str(missing))
+            return checked
+        return await analyse_against(source.name, data, old, wanted)
+
+    def _bytes(self, source: Source) -> bytes:
+        """The bytes of a file; raises `OSError`."""
+        if source.name != STANDARD_INPUT_NAME:
+            return bytes_of(source.name)
+        if isinstance(self._input, OSError):
+            raise self._input
+        return self._input
+
+    def _format(self) -> Report:
+        """The format that is asked for."""
+        if self._args.format == "text":
+            from daig_editor.reports.text import TextReport
+
+            return TextReport(not self._args.output and sys.stdout.isatty() and "NO_COLOR" not in os.environ)
+        module, name = FORMATS[self._args.format]
+        report: Report = getattr(import_module(f"daig_editor.reports.{module}"), name)()
+        return report
+
+    def _test_output(self) -> None:
+        """A report does not take the place of a file that is checked."""
+        path = self._args.output
+        if path is None or not os.path.isfile(path):
+            return
+        for source in self._sources:
+            with contextlib.suppress(OSError):
+                if os.path.samefile(path, source.name):
+                    raise Wrong(f"{path} is a file to be checked, so the report is not written there")
