@@ -46,7 +46,11 @@ def test_broken() -> None:
     assert [(it["severity"], it["range"]["start"]) for it in told] == [(1, {"line": 4, "character": 11})], told
     assert hover(client, 4, 6) == "" and hover(client, 0, 0) == ""
     client.change(URI, 3, [{"text": COUNTING.replace("i + 1", "i +")}])
-    assert len(client.diagnostics(3)) == 1 and hover(client, 2, 3) == words
+    assert len(client.diagnostics(3)) == 1
+    assert hover(client, 2, 3) == f"as it was before the text was broken:\n\n{words}"
+    where = {"start": {"line": 0, "character": 0}, "end": {"line": 6, "character": 0}}
+    hints = client.request("textDocument/inlayHint", {"textDocument": {"uri": URI}, "range": where})
+    assert [it["label"] for it in hints] == ["before: 0 ≤ i ≤ 10"], hints
     client.change(URI, 4, [{"text": COUNTING.replace("i == 10", "i == 11")}])
     assert [(it["severity"], it["code"]) for it in client.diagnostics(4)] == [(2, "assert")]
     result = client.command("daig.serverProgram", URI)

@@ -9,10 +9,21 @@ import subprocess
 import sys
 import time
 from pathlib import Path
+from typing import Callable
 
 from daig_editor.server.child import started
 from tests.check_tool import DEAD, LOOPS, NO_PROGRAM, SAFE, TOOL, UNSAFE, check, check_process, dying, folder, script
+from tests.program import program
 from tests.random_sources import slow_source
+
+# Answers once, and never again.
+HANGING = """
+import os, sys, time
+open('started', 'w').write(str(os.getpid()))
+sys.stdin.readline()
+print('{"cost":0,"kept":0}', flush=True)
+time.sleep(300)
+"""
 
 
 def test_statuses() -> None:
@@ -164,6 +175,106 @@ def test_one_job_and_eight() -> None:
         for form in ("text", "sarif"):
             one, eight = (check("--format", form, "--jobs", jobs, ".", where=here) for jobs in (1, 8))
             assert one == eight and one.status == 2 and one.out, (form, one, eight)
+
+
+def test_one_file_by_many_names() -> None:
+    """A file is known by what it is: no link and no `..` makes another one pass for it, and none is checked twice."""
+    with folder(x_imp=SAFE) as here:
+        (here / "o/d").mkdir(parents=True)
+        (here / "o/x.imp").write_text(UNSAFE)
+        (here / "link").symlink_to("o/d")
+        (here / "again.imp").symlink_to("x.imp")
+        (here / "hard.imp").hardlink_to(here / "x.imp")
+        found = check("--format", "brief", "x.imp", "link/../x.imp", "again.imp", "./x.imp", "hard.imp", where=here)
+        assert found.status == 1 and "2 files, 2 checks" in found.err, found
+        assert found.out == "link/../x.imp:4:3: warning: the assertion may fail [assert]\n", found
+        # A baseline of the one hides nothing of the other.
+        assert check("--format", "sarif", "--output", "old.sarif", "link/../x.imp", where=here).status == 1
+        (here / "x.imp").write_text(UNSAFE)
+        assert check("--baseline", "old.sarif", "x.imp", where=here).status == 1
+        assert check("--baseline", "old.sarif", "o/x.imp", where=here).status == 0
+
+
+def test_linked_folders() -> None:
+    """A folder that a link leads to is checked too, once; one that leads back ends."""
+    with folder() as here:
+        (here / "top/below").mkdir(parents=True)
+        (here / "other").mkdir()
+        (here / "other/a.imp").write_text(UNSAFE)
+        (here / "top/below/b.imp").write_text(UNSAFE)
+        (here / "top/link").symlink_to("../other")
+        (here / "top/same").symlink_to("below")
+        (here / "top/below/back").symlink_to("..")
+        found = check("--format", "brief", "top", where=here)
+        names = [it.partition(":")[0] for it in found.out.splitlines()]
+        assert found.status == 1 and names == ["top/below/b.imp", "top/link/a.imp"], found
+
+
+def test_a_file_that_is_called_as_standard_input() -> None:
+    """A file of the name `<stdin>` is read, and standard input is not."""
+    with folder() as here:
+        (here / "<stdin>").write_text(UNSAFE)
+        found = check("--format", "brief", "<stdin>", where=here, text=SAFE)
+        assert found.status == 1 and found.out.startswith("./<stdin>:4:3: warning"), found
+        found = check("--format", "json", "<stdin>", "-", where=here, text=UNSAFE)
+        assert len({it["fingerprint"] for it in found.objects}) == 2, found
+
+
+def test_what_is_no_file() -> None:
+    """Pipes and devices are refused at once, by whatever name and wherever they stand."""
+    with folder(a_imp=SAFE) as here:
+        os.mkfifo(here / "b.imp")
+        (here / "c.imp").symlink_to("/dev/zero")
+        for words in ("b.imp", "c.imp", "/dev/tty", ".", "--against b.imp a.imp"):
+            began = time.monotonic()
+            found = check(*words.split(), where=here)
+            assert found.status == 2 and "[run]" in found.out and time.monotonic() - began < 20, (words, found)
+
+
+def test_a_program_that_hangs() -> None:
+    """A program that does not answer is ended after a time, which is said, and the file does not look clean."""
+    with folder(a_imp=SAFE, b_imp=SAFE) as here:
+        stub = script(here, HANGING)
+        found = check("--program", stub, "--timeout", 1, "--format", "brief", "a.imp", "b.imp", where=here)
+        why = "it was not checked within 1 seconds; --timeout gives it more [run]"
+        assert found.status == 2 and found.out.splitlines() == [f"{it}.imp:1:1: error: {why}" for it in "ab"], found
+        pid = int((here / "started").read_text())
+        assert not Path(f"/proc/{pid}").exists(), "the program runs on"
+
+
+def test_stopped_while_it_waits() -> None:
+    """A signal ends a run that waits for standard input, or for a reader of its report."""
+    with folder(a_imp=UNSAFE) as here:
+        os.mkfifo(here / "report")
+        for words in (["-"], ["--output", "report", "a.imp"]):
+            for number in (signal.SIGTERM, signal.SIGINT):
+                command = [sys.executable, str(TOOL), *words]
+                environment = {**os.environ, "DAIG_PROGRAM": program()}
+                with subprocess.Popen(
+                    command, cwd=here, env=environment, stdin=subprocess.PIPE, stderr=subprocess.PIPE
+                ) as process:
+                    assert process.stderr
+                    wait_for(lambda: sleeps(process.pid))
+                    process.send_signal(number)
+                    assert process.wait(60) == -number, (words, number, process.returncode)
+                    assert b"Traceback" not in process.stderr.read()
+
+
+def sleeps(pid: int) -> bool:
+    """Whether a process waits in a call of the system, some time after its start."""
+    fields = Path(f"/proc/{pid}/stat").read_text().rpartition(")")[2].split()
+    used = int(fields[11]) + int(fields[12])
+    time.sleep(0.5)
+    again = Path(f"/proc/{pid}/stat").read_text().rpartition(")")[2].split()
+    return used > 5 and used == int(again[11]) + int(again[12]) and again[0] == "S"
+
+
+def wait_for(holds: Callable[[], bool]) -> None:
+    """Waits until something holds, for a minute at most."""
+    until = time.monotonic() + 60
+    while not holds():
+        assert time.monotonic() < until, "it does not come to that"
+        time.sleep(0.05)
 
 
 def test_signals_of_writes() -> None:

@@ -57,6 +57,27 @@ def test_lost_for_good() -> None:
         client.close()
 
 
+def test_incomplete_report() -> None:
+    """A report that leaves checks out makes no text look safe."""
+    with tempfile.TemporaryDirectory() as folder:
+        for report in ("[]", '[{"check":"assert","id":1,"verdict":"safe"},{"check":"assert","id":1,"verdict":"safe"}]'):
+            stub = script(folder, f"while read line; do echo '{{\"report\":{report},\"state\":\"any\",\"cost\":0,\"kept\":0}}'; done\n")
+            text = FAILING.replace("assert", "assert i < 9;\n  assert")
+            client, told = opened({"daig": stub}, text)
+            assert [it["severity"] for it in told] == [1] and "report is not of this program" in told[0]["message"], told
+            client.close()
+
+
+def test_server_that_hangs() -> None:
+    """A server that does not answer is ended after a time, and started anew; the text does not look safe meanwhile."""
+    with tempfile.TemporaryDirectory() as folder:
+        stub = script(folder, 'read line; echo \'{"cost":0,"kept":0}\'; sleep 300\n')
+        client, told = opened({"daig": stub, "patience": 1}, FAILING)
+        assert [it["severity"] for it in told] == [1], told
+        assert "it did not answer within 1 seconds" in told[0]["message"] and not servers(client), told
+        client.close()
+
+
 def test_lost_program() -> None:
     """Where the program itself is gone, a server that dies leaves an error."""
     with tempfile.TemporaryDirectory() as folder:

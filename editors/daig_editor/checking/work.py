@@ -14,14 +14,17 @@ Check = Callable[[Source], Awaitable[CheckedFile]]
 
 
 async def in_order(
-    sources: list[Source], jobs: int, check: Check, done: Callable[[str], None]
+    sources: list[Source], jobs: int, check: Check, done: Callable[[str], None], seconds: float
 ) -> AsyncGenerator[CheckedFile, None]:
-    """Each file as soon as it and those before it are checked; `done` is told of each as it is checked."""
+    """Each file as soon as it and those before it are checked; `done` is told of each as it is checked.
+
+    A check that takes longer than so many seconds is ended.
+    """
     turn = asyncio.Semaphore(jobs)
 
     async def one(source: Source) -> CheckedFile:
         async with turn:
-            checked = await _checked(source, check)
+            checked = await _checked(source, check, seconds)
         done(source.name)
         return checked
 
@@ -33,13 +36,25 @@ async def in_order(
         await undisturbed(cancelled(tasks, LONGEST_END))
 
 
-async def _checked(source: Source, check: Check) -> CheckedFile:
+async def _checked(source: Source, check: Check, seconds: float) -> CheckedFile:
     """A file with what is told of it. Whatever happens, a file that could not be checked says so."""
     if source.trouble:
         return troubled(source.name, source.trouble)
     try:
-        return await check(source)
+        return await _in_time(source, check, seconds)
     except OSError as error:
         return troubled(source.name, error.strerror or str(error))
     except Exception as error:  # a fault of this program must not end the others' checks, nor look like a clean file
         return troubled(source.name, f"a fault of daig-check itself: {type(error).__name__}: {error}")
+
+
+async def _in_time(source: Source, check: Check, seconds: float) -> CheckedFile:
+    """A file that is checked within a time, or that says that it was not."""
+    task = asyncio.ensure_future(check(source))
+    try:
+        done, _ = await asyncio.wait([task], timeout=seconds)
+        if done:
+            return task.result()
+    finally:
+        await undisturbed(cancelled([task], LONGEST_END))
+    return troubled(source.name, f"it was not checked within {seconds:g} seconds; --timeout gives it more")

@@ -78,8 +78,9 @@ class Run:
     async def _report(self, output: Output) -> Totals:
         """Writes what is told of all files."""
         args, limit = self._args, Limit(self._args.max_findings)
-        report, totals, progress = self._format(), Totals(left_out=self._left_out), Progress(len(self._sources), args.quiet)
-        files = in_order(self._sources, args.jobs, self._check, progress.done)
+        report, totals = self._format(), Totals(left_out=self._left_out)
+        progress = Progress(len(self._sources), args.quiet)
+        files = in_order(self._sources, args.jobs, self._check, progress.done, args.timeout)
         async with contextlib.aclosing(files):
             async for checked in files:
                 limit.apply(checked)

@@ -188,6 +188,13 @@ def _add_analysis(group: argparse._ArgumentGroup) -> None:
         metavar="MIB",
         help="memory of each server at most, in MiB (default 2048)",
     )
+    group.add_argument(
+        "--timeout",
+        type=_number(1, 1_000_000),
+        default=600,
+        metavar="S",
+        help="seconds for a file at most, after which it counts as not checked (default 600)",
+    )
     group.add_argument("--program", metavar="PATH", help=PROGRAM_HELP)
 
 

@@ -41,7 +41,8 @@ class Stmt:
 
     `text` is the statement as the server prints it, or the condition of an `if` or a loop. `head` is the span up to
     the `{` of an `if` or a loop, and the whole span of a simple statement; both spans count from the start of the
-    outermost statement around. `key` is equal exactly where the trees are.
+    outermost statement around. `key` is equal exactly where the trees are. `checks` is how many checks there are in it, -1
+    where they were not counted.
     """
 
     kind: StmtKind
@@ -53,6 +54,7 @@ class Stmt:
     other: list[Stmt] = field(default_factory=list)
     key: object = None
     number: int = 0
+    checks: int = field(default=-1, compare=False)
 
     def within(self) -> Iterator[Stmt]:
         """This statement and all inside it, in the order of the text."""

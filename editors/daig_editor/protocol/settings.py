@@ -11,7 +11,7 @@ from daig_editor.server.watching import Options
 DOMAINS = ("interval", "octagon", "listseg", "interval+listseg", "octagon+listseg")
 WIDENINGS = ("plain", "thresholds")
 DOMAIN = "octagon+listseg"
-NAMES = ("daig", "domain", "widening", "delay", "budget", "memory", "runs", "compareEvery")
+NAMES = ("daig", "domain", "widening", "delay", "budget", "memory", "patience", "runs", "compareEvery")
 MOST_MEMORY = 2**20
 
 
@@ -32,6 +32,7 @@ class GivenSettings:
             delay=self._number("delay", 0, 100, 0),
             budget=self._number("budget", 1, 10_000, 100),
             memory=self._number("memory", 0, MOST_MEMORY, 2048),
+            patience=self._number("patience", 1, 86_400, 120),
         )
         compare_every = self._number("compareEvery", 1, 1_000_000, 100)
         self.options = Options(settings, compare_every, self._number("runs", 0, 1000, 32))

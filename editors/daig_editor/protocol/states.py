@@ -8,6 +8,8 @@ from daig_editor.server.document import Document
 from daig_editor.server.process import Reply
 
 LONGEST_HINT = 80
+# What stands before states while the text is no program.
+OF_LAST_PROGRAM, BEFORE = "as it was before the text was broken:", "before: "
 Asked = list[tuple[str, str]]
 
 
@@ -27,7 +29,8 @@ async def hover(document: Document, place: int) -> Json | None:
     if not asked:
         return None
     string = document.calls.within(proc)
-    lines = [_call_line(document, string)] if string else []
+    lines = [OF_LAST_PROGRAM + "\n"] if document.refusal else []
+    lines += [_call_line(document, string)] if string else []
     for words, at in asked:
         lines += _told(document, words, await document.state(at, string))
     shift = document.shift()
@@ -129,7 +132,7 @@ async def inlay_hints(document: Document, start: int, end: int) -> list[Json]:
 def _hint(document: Document, span: Span, reply: Reply) -> Json:
     """The hint of one loop; a long one is cut, and whole in its tooltip."""
     tooltip = "; ".join(reply_lines(document, reply))
-    whole = tooltip if "over" not in reply else "budget used up"
+    whole = (BEFORE if document.refusal else "") + (tooltip if "over" not in reply else "budget used up")
     label = whole if len(whole) <= LONGEST_HINT else whole[: LONGEST_HINT - 1] + "…"
     return {"position": document.text.position(span.end), "label": label, "tooltip": tooltip, "paddingLeft": True}
 

@@ -4,13 +4,13 @@ from __future__ import annotations
 from dataclasses import replace
 from typing import Callable
 
-from daig_editor.language.checks import check_of
+from daig_editor.language.checks import check_of, many_checks
 from daig_editor.language.ignores import ignored_rules, lines_of_span
 from daig_editor.language.tree import Placed, Program, Stmt, StmtKind
 from daig_editor.language.words import is_never, over_words
 from daig_editor.server.asking import Asker, TookLong
 from daig_editor.server.findings import Finding, Over, Report, Tally
-from daig_editor.server.process import Reply
+from daig_editor.server.process import Gone, Reply
 from daig_editor.server.session import Good, Session
 from daig_editor.server.trying import Ask, failing_checks
 
@@ -47,6 +47,8 @@ class Judge:
         answer = await self._whole(good, runs)
         found = (await self._ask(do="report")).get("report", [])
         said = [it for it in found if isinstance(it, dict)] if isinstance(found, list) else []
+        if len({str(it.get("id")) for it in said}) != many_checks(good.program):
+            raise Gone("its report is not of this program")
         told = [it for it in said if it["verdict"] != "safe"]
         numbers = {it["id"] for it in told} | {it for it in [answer.get("over")] if isinstance(it, int)}
         places = good.program.find_all(numbers)

@@ -7,6 +7,7 @@ import os
 import resource
 import signal
 import tempfile
+import time
 from collections import deque
 from dataclasses import dataclass
 
@@ -33,7 +34,8 @@ STATUS_WORDS = {
 
 @dataclass(frozen=True)
 class Settings:
-    """What `daig serve` is started with. `memory` is how many MiB of it may take, 0 for any number."""
+    """What `daig serve` is started with. `memory` is how many MiB of it may take, 0 for any number; `patience` after how
+    many seconds without a reply it is ended, 0 for never."""
 
     daig: str
     domain: str = "octagon+listseg"
@@ -41,6 +43,7 @@ class Settings:
     delay: int = 0
     budget: int = 100
     memory: int = 2048
+    patience: int = 0
 
     def words(self, file: str) -> list[str]:
         """The command for a file."""
@@ -76,6 +79,8 @@ class DaigProcess:
         self._settings = settings
         self._waiting: deque[asyncio.Future[Reply]] = deque()
         self._gone: Gone | None = None
+        self._heard = 0.0
+        self._watch: asyncio.TimerHandle | None = None
         self._reader = asyncio.ensure_future(self._read_replies())
 
     @staticmethod
@@ -138,14 +143,36 @@ class DaigProcess:
         if self._gone:
             raise Gone(str(self._gone), self._gone.of_memory)
         assert self._process.stdin
+        if not self._waiting:
+            self._heard = time.monotonic()
+            if self._settings.patience and self._watch is None:
+                self._look_after(self._settings.patience)
         self._waiting.append(reply)
         self._process.stdin.write(json.dumps(request).encode() + b"\n")
+
+    def _look_after(self, seconds: float) -> None:
+        """Looks after a while whether the server still answers."""
+        self._watch = asyncio.get_running_loop().call_later(seconds, self._look)
+
+    def _look(self) -> None:
+        """Gives a server up that has not answered for too long."""
+        self._watch = None
+        left = self._heard + self._settings.patience - time.monotonic()
+        if not self._waiting:
+            return
+        if left > 0:
+            self._look_after(left)
+            return
+        self._end(Gone(f"it did not answer within {self._settings.patience} seconds"))
+        self._reader.cancel()
+        self._stopping = asyncio.ensure_future(self.stop())
 
     async def _read_replies(self) -> None:
         """Hands each reply to who waits for it, until the server ends."""
         try:
             while True:
                 reply = await self._next_reply()
+                self._heard = time.monotonic()
                 waiting = self._waiting.popleft()
                 if not waiting.done():
                     waiting.set_result(reply)
