@@ -155,6 +155,9 @@ def install(prefix: str) -> int:
     put.write(LAUNCHER, "bin/daig", 0o755)
     put.page("daig")
     put.copy_editor()
+    for name in sorted(os.listdir(f"{ROOT}/docs")):
+        if name.endswith((".md", ".png", ".svg")):
+            put.copy(f"{ROOT}/docs/{name}", f"lib/daig/docs/{name}")
     put.command("daig-lsp", "editors/daig_lsp.py")
     commands = ["daig", "daig-lsp"]
     if os.path.isfile(f"{ROOT}/daig-check"):

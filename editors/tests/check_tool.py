@@ -50,7 +50,7 @@ def folder(**files: str) -> Iterator[Path]:
 
 
 def check(*words: object, where: Path, text: str = "") -> Ran:
-    """Runs the tool within this process, in a folder, with a text as its standard input."""
+    """Runs the tool within this process, in a folder, with a text as its standard input; with no runs by default."""
     streams = sys.stdin, sys.stdout, sys.stderr
     before, environment = os.getcwd(), os.environ.copy()
     out, err = io.BytesIO(), io.StringIO()
@@ -59,7 +59,7 @@ def check(*words: object, where: Path, text: str = "") -> Ran:
     sys.stdin = io.TextIOWrapper(io.BytesIO(text.encode()))
     sys.stdout, sys.stderr = io.TextIOWrapper(out), err
     try:
-        status = main([str(it) for it in words])
+        status = main(["--try", "0", *(str(it) for it in words)])
     except SystemExit as ended:
         status = int(ended.code or 0)
     finally:

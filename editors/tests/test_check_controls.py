@@ -254,7 +254,7 @@ def test_github() -> None:
         found = check("--format", "github", ".", "none.imp", where=here)
         lines = found.out.splitlines()
         place = "file=a%2C b%25%3Ac.imp,line=4,col=3,endLine=4,endColumn=17,title=daig-check%3A assert"
-        assert lines[0].startswith(f"::warning {place}::the assertion may fail%0Ahangs on line"), lines
+        assert lines[0].startswith(f"::warning {place}::the assertion may fail%0Adepends on line"), lines
         assert lines[1].startswith("::error file=b.imp,line=2,col=3,"), lines
         assert lines[2] == "::error file=none.imp,line=1,title=daig-check%3A run::No such file or directory", lines
 

@@ -3,15 +3,17 @@ from __future__ import annotations
 
 import json
 import os
+import re
 import subprocess
 from html.parser import HTMLParser
 from pathlib import Path
+from typing import Any
 
 from tests.check_tool import DEAD, EXAMPLES, LOOPS, NO_PROGRAM, SAFE, TOP, UNSAFE, check, folder
 from tests.program import program
 
 GOLDEN = Path(__file__).resolve().parent / "golden"
-FORMATS = ("text", "brief", "json", "sarif", "html")
+FORMATS = ("text", "brief", "json", "sarif", "html", "github", "junit")
 TWICE = (
     "proc f(x: int) {\n  assert x == 1;\n  assert x == 1;\n}\n"
     "proc main() {\n  var x: int;\n  x = input;\n  call f(x);\n  assert x == 1;\n}\n"
@@ -23,11 +25,12 @@ ALIKE = "proc main() {\n  var x: int;\n  x = input;\n  assert x == 1;\n  x = inp
 def test_golden() -> None:
     """Each format of the examples is as it is kept. DAIG_GOLDEN=write keeps what comes out."""
     for form in FORMATS:
-        found = check("--format", form, "--try", 8, EXAMPLES.relative_to(TOP), where=TOP)
+        found = check("--format", form, "--try", 32, EXAMPLES.relative_to(TOP), where=TOP)
+        told = found.out.replace(TOP.as_uri(), "file:///checkout")
         path = GOLDEN / f"examples.{form}"
         if os.environ.get("DAIG_GOLDEN") == "write":
-            path.write_text(found.out)
-        assert found.status == 1 and found.out == path.read_text(), f"{form}: see {path}"
+            path.write_text(told)
+        assert found.status == 1 and told == path.read_text(), f"{form}: see {path}"
         assert found.err == "14 files, 22 checks: 20 safe, 2 may fail, 0 never reached\n", found.err
 
 
@@ -51,7 +54,7 @@ def test_json() -> None:
         places = [(it["line"], it["column"], it["endLine"], it["endColumn"]) for it in found]
         assert places == [(2, 3, 2, 17), (9, 3, 9, 17)], found
         assert (
-            found[0]["statement"] == "assert x == 1;" and found[0]["procedure"] == "f" and found[0]["hangsOn"] == [7, 8]
+            found[0]["statement"] == "assert x == 1;" and found[0]["procedure"] == "f" and found[0]["dependsOn"] == [7, 8]
         )
         assert check("--format", "json", "--try", 3, "a.imp", where=here).objects[0]["inputs"] == [0]
 
@@ -75,20 +78,20 @@ def test_fingerprints() -> None:
 
 
 def test_bounds() -> None:
-    """A finding that hangs on much tells so many places, and how many there are; of many findings the first tell any."""
+    """A finding that depends on much tells so many places, and how many there are; of many findings the first tell any."""
     begin = "proc main() {\n  var x: int;\n  var s: int;\n"
     long = begin + "  x = input;\n" + "  s = s + x;\n" * 150 + "  assert s == 1;\n}\n"
     many = begin + "  x = input;\n  s = s + x;\n  assert s < 1 || x < 1;\n" * 205 + "}\n"
     with folder(long_imp=long, many_imp=many) as here:
-        assert " 41, 42, 43 and 111 more\n" in check("long.imp", where=here).out
-        assert len(check("long.imp", "--format", "json", where=here).objects[0]["hangsOn"]) == 151  # type: ignore[arg-type]
+        assert " depends on lines 154, 153, 152, 151, 150, 149, 148, 147, 146, 145, 144, 143 and 139 more\n" in check("long.imp", where=here).out
+        assert len(check("long.imp", "--format", "json", where=here).objects[0]["dependsOn"]) == 151  # type: ignore[arg-type]
         result = json.loads(check("--format", "sarif", "long.imp", where=here).out)["runs"][0]["results"][0]
         assert (
             len(result["relatedLocations"]) == 100
             and "; of 151 related places 100 are told" in result["message"]["text"]
         )
         found = check("many.imp", "--format", "json", where=here).objects
-        assert len(found) == 205 and found[199]["hangsOn"] and not found[200]["hangsOn"], found[199:201]
+        assert len(found) == 205 and found[199]["dependsOn"] and not found[200]["dependsOn"], found[199:201]
 
 
 def test_baseline() -> None:
@@ -124,29 +127,66 @@ def test_words() -> None:
 # ---------------------------------------------------------------------------------------------------------------------
 # SARIF: the parts of its schema that the reports have. Each object has its required members, and no others than these.
 
-TEXT = {"text": str}
+
+class Form:
+    """A text of a form."""
+
+    def __init__(self, pattern: str) -> None:
+        self.pattern = re.compile(pattern)
+
+
+WORDS = Form(r"(?s).+")
+URI = Form(r"(https?|file)://[!-~]+")
+REFERENCE = Form(r"[!-~]+")
+# What GitHub takes: of each text so many characters, and no more results, rules and places.
+SHORT = Form(r"(?s).{1,1024}")
+MOST = {"results": 25_000, "rules": 25_000, "relatedLocations": 1_000, "tags": 20, "locations": 1_000}
+TEXT = {"text": WORDS}
 REGION = {"startLine": int, "startColumn": int, "endLine": int, "endColumn": int}
 LOCATION = {
     "id?": int,
     "message?": TEXT,
-    "physicalLocation": {"artifactLocation": {"uri": str, "uriBaseId?": str}, "region": REGION},
+    "physicalLocation": {"artifactLocation": {"uri": REFERENCE, "uriBaseId?": ("SRCROOT",)}, "region": REGION},
 }
 RESULT = {
-    "ruleId": str,
+    "ruleId": WORDS,
     "ruleIndex": int,
     "level": ("none", "note", "warning", "error"),
     "message": TEXT,
     "locations": [LOCATION],
     "relatedLocations": [LOCATION],
-    "partialFingerprints": {"daig/v1": str},
+    "partialFingerprints": {"daig/v1": Form("[0-9a-f]{32}"), "primaryLocationLineHash": Form("[0-9a-f]{16}:1")},
+    "baselineState?": ("new", "unchanged", "updated", "absent"),
 }
-RULE = {"id": str, "shortDescription": TEXT, "fullDescription": TEXT}
+RULE = {
+    "id": Form(r"\w+"),
+    "shortDescription": {"text": SHORT},
+    "fullDescription": {"text": SHORT},
+    "help": {"text": WORDS, "markdown": WORDS},
+    "helpUri": URI,
+    "defaultConfiguration": {"level": ("none", "note", "warning", "error")},
+    "properties": {
+        "precision": ("very-high", "high", "medium", "low"),
+        "problem.severity": ("error", "warning", "recommendation"),
+        "tags": [WORDS],
+    },
+}
 LOG = {
-    "$schema": str,
+    "$schema": URI,
     "version": ("2.1.0",),
     "runs": [
         {
-            "tool": {"driver": {"name": str, "version": str, "rules": [RULE]}},
+            "tool": {
+                "driver": {
+                    "name": WORDS,
+                    "version": WORDS,
+                    "semanticVersion": Form(r"\d+\.\d+\.\d+"),
+                    "informationUri": URI,
+                    "rules": [RULE],
+                }
+            },
+            "automationDetails": {"id": Form(r".+/")},
+            "originalUriBaseIds?": {"SRCROOT": {"uri": Form(r"file:///.*/")}},
             "columnKind": ("utf16CodeUnits", "unicodeCodePoints"),
             "invocations": [{"executionSuccessful": bool}],
             "results": [RESULT],
@@ -165,13 +205,39 @@ def fits(value: object, shape: object, where: str = "log") -> None:
             if name.removesuffix("?") in value:
                 fits(value[name.removesuffix("?")], inner, f"{where}.{name}")
     elif isinstance(shape, list):
-        assert isinstance(value, list), where
+        assert isinstance(value, list) and len(value) <= MOST.get(where.rpartition(".")[2], 100), where
         for it in value:
             fits(it, shape[0], where)
     elif isinstance(shape, tuple):
         assert value in shape, (where, value)
+    elif isinstance(shape, Form):
+        assert isinstance(value, str) and shape.pattern.fullmatch(value), (where, value)
     else:
         assert isinstance(shape, type) and type(value) is shape, (where, value)
+
+
+def fits_together(run: dict[str, Any]) -> None:
+    """Fails where the parts of a run do not fit each other, as the text of the standard says."""
+    rules = run["tool"]["driver"]["rules"]
+    assert len({it["id"] for it in rules}) == len(rules)
+    prints = [it["partialFingerprints"] for it in run["results"]]
+    for name in ("daig/v1", "primaryLocationLineHash"):
+        assert len({it[name] for it in prints}) == len(prints), name
+    for it in run["results"]:
+        assert rules[it["ruleIndex"]]["id"] == it["ruleId"] and len(it["locations"]) == 1
+        numbers = [place["id"] for place in it["relatedLocations"]]
+        assert len(set(numbers)) == len(numbers) and all(number >= 0 for number in numbers)
+        links = re.findall(r"(?<!\\)\[[^\]]*\]\(([^)]*)\)", it["message"]["text"])
+        assert {int(link) for link in links} <= set(numbers), it["message"]
+        for place in [*it["locations"], *it["relatedLocations"]]:
+            region, file = (place["physicalLocation"][name] for name in ("region", "artifactLocation"))
+            first, last = ((region[f"{end}Line"], region[f"{end}Column"]) for end in ("start", "end"))
+            assert (1, 1) <= first <= last, region
+            if "uriBaseId" in file:
+                assert file["uriBaseId"] in run["originalUriBaseIds"], "a base is defined"
+                assert not file["uri"].startswith(("/", "file:", "../")), file
+            else:
+                fits(file["uri"], URI)
 
 
 def test_sarif() -> None:
@@ -184,21 +250,34 @@ def test_sarif() -> None:
         log = json.loads(found.out)
         fits(log, LOG)
         run = log["runs"][0]
+        fits_together(run)
         assert found.status == 2 and run["invocations"] == [{"executionSuccessful": False}]
-        for it in run["results"]:
-            assert run["tool"]["driver"]["rules"][it["ruleIndex"]]["id"] == it["ruleId"]
-            assert it["message"]["text"] and len(it["locations"]) == 1
-            for place in [*it["locations"], *it["relatedLocations"]]:
-                region = place["physicalLocation"]["region"]
-                assert (
-                    (1, 1) <= (region["startLine"], region["startColumn"]) <= (region["endLine"], region["endColumn"])
-                )
-        prints = [it["partialFingerprints"]["daig/v1"] for it in run["results"]]
-        assert len(prints) == len(set(prints)) == 9, prints
+        assert len(run["results"]) == 9 and run["originalUriBaseIds"]["SRCROOT"]["uri"] == f"file://{here.resolve()}/"
         places = [it["locations"][0]["physicalLocation"]["artifactLocation"] for it in run["results"]]
         assert {"uri": "a%20b%23%C3%A9.imp", "uriBaseId": "SRCROOT"} in places and {
             "uri": "file:///dev/null"
         } in places, places
+        (here / "old.sarif").write_text(found.out)
+        (here / "a.imp").write_text(TWICE.replace("}\n", "  assert x == 4;\n}\n", 1))
+        log = json.loads(check("--format", "sarif", "--baseline", "old.sarif", "a.imp", where=here).out)
+        fits(log, LOG)
+        assert [it["baselineState"] for it in log["runs"][0]["results"]] == ["new"], log
+    with folder(a_imp=TWICE) as here:
+        log = json.loads(check("--format", "sarif", "a.imp", where=here).out)
+        fits(log, LOG)
+        fits_together(log["runs"][0])
+        assert "[line 8](" in log["runs"][0]["results"][0]["message"]["text"]
+
+
+def test_fingerprints_from_anywhere() -> None:
+    """A report is the same wherever in its project the tool is run."""
+    with folder() as here:
+        (here / ".git").mkdir()
+        (here / "a/b").mkdir(parents=True)
+        (here / "a/b/c.imp").write_text(TWICE)
+        places = (("", "a/b/c.imp"), ("a", "b"), ("a/b", "."), ("a/b", here / "a/b/c.imp"))
+        logs = [check("--format", "sarif", words, where=here / where).out for where, words in places]
+        assert len(set(logs)) == 1, logs
 
 
 def test_sarif_columns() -> None:

@@ -9,7 +9,7 @@ from pathlib import Path
 from random import Random
 
 from daig_editor.checking.program import NoProgramFound, launched_program
-from tests.check_tool import EXAMPLES, LOOPS, NO_PROGRAM, SAFE, TOP, UNSAFE, check, dying, folder
+from tests.check_tool import EXAMPLES, LOOPS, NO_PROGRAM, SAFE, TOP, UNSAFE, check, check_process, dying, folder
 from tests.client import Client
 from tests.program import changes, program
 from tests.random_sources import SourceMaker
@@ -31,10 +31,11 @@ def test_try() -> None:
         ], found
         assert check("--try", 4, "--format", "json", "a.imp", where=here).objects[0]["inputs"] == [0]
         assert " warning: " in check("--try", 0, "a.imp", where=here).out
-        # Of the runs that end at this statement some end by an overflow: that is no failed check.
+        # Of the runs that end at this statement some end by an overflow: that is no failed check, and told apart.
         found = check("--try", 8, "--format", "json", "b.imp", where=here)
-        inputs = found.objects[0]["inputs"]
-        assert inputs == [-1], found.out
+        told = {str(it["rule"]): it["inputs"] for it in found.objects}
+        inputs = told["bounds"]
+        assert told == {"bounds": [-1], "overflow": [0]}, found.out
         request = f'{{"do":"run","inputs":{inputs},"fuel":100}}\n'.encode()
         answer = subprocess.run(
             [program(), "serve", "b.imp"], input=request, cwd=here, capture_output=True, check=True
@@ -51,6 +52,41 @@ def test_try() -> None:
         assert (
             "error: the assertion fails in each run" in over.out and "1 check after it is not known" in over.out
         ), over
+
+
+def test_runs_by_default() -> None:
+    """Runs are tried where nothing is said; a program that always fails never passes, whatever the fault."""
+    begin = "proc main() {\n  var x: int;\n  var a: array;\n"
+    with folder(a_imp=UNSAFE) as here:
+        found = check_process("--format brief a.imp", here)
+        assert found.out == "a.imp:4:3: error: the assertion fails with input 0 [assert]\n", found
+        for line, rule, words in (
+            ("x = 10 / x;", "zero", "a number is divided by zero in each run"),
+            ("x = 1 % x;", "zero", "a number is divided by zero in each run"),
+            ("x = 9223372036854775807 + 1;", "overflow", "a number passes the limits of 64 bits in each run"),
+            ("a = array 0 - 1;", "length", "the length of the array is below 0 or above 1,000,000 in each run"),
+            ("a = array 3; x = 10 / x; a[7] = 1; assert 1 == 2;", "zero", "a number is divided by zero in each run"),
+        ):
+            (here / "b.imp").write_text(f"{begin}  {line}\n}}\n")
+            found = check_process("--format brief b.imp", here)
+            assert found.status == 1 and f": error: {words} [{rule}]\n" in found.out, (line, found)
+            assert check_process("--try 0 b.imp", here).status == 0, "the analysis alone does not tell it"
+        ignored = f"{begin}  x = 10 / x; // daig: ignore[zero] as it is to be\n}}\n"
+        assert check("--try", 1, "-", where=here, text=ignored).status == 0
+        found = check("--format", "json", "-", where=here, text=UNSAFE.replace("i = input", "i = 4"))
+        assert found.objects[0]["notes"] == ["certain: no run that comes here goes on"], found.out
+
+
+def test_inputs() -> None:
+    """A run of one's own inputs is tried first."""
+    text = "proc main() {\n  var i: int;\n  i = input;\n  i = input;\n  assert i * i != 1522756;\n}\n"
+    with folder(a_imp=text) as here:
+        assert " warning: " in check("--try", 32, "a.imp", where=here).out
+        found = check("--inputs", "7,-1234,9", "--format", "json", "a.imp", where=here)
+        assert found.status == 1 and found.objects[0]["inputs"] == [7, -1234], found
+        assert " warning: " in check("--inputs", "", "a.imp", where=here).out
+        for words in ("a", "1,,2", "9223372036854775808"):
+            assert check("--inputs", words, "a.imp", where=here).status == 2, words
 
 
 def test_certificates() -> None:

@@ -197,13 +197,13 @@ def test_causes_and_runs() -> None:
     found = client.published(1, lambda told: told[0]["severity"] == 1)[0]
     assert "the assertion fails with input" in found["message"], found
     hung = [it["location"]["range"]["start"]["line"] for it in found["relatedInformation"]]
-    assert hung == [3, 7, 13, 14, 15, 18, 19], hung
+    assert hung == [19, 18, 15, 14, 13, 7, 3], "the nearest come first"
     where = {"textDocument": {"uri": URI}, "range": found["range"]}
     actions = client.request("textDocument/codeAction", where)
     show = next(it for it in actions if it["command"] == "daig.showCauses")
     client.command(show["command"], *show["arguments"])
     told = client.last_published()
-    assert [it["range"]["start"]["line"] for it in told if it["code"] == "why"] == hung
+    assert [it["range"]["start"]["line"] for it in told if it["code"] == "why"] == hung[::-1]
     assert any(it["command"] == "daig.hideCauses" for it in client.request("textDocument/codeAction", where))
     client.command("daig.hideCauses", URI)
     assert len(client.last_published()) == 1

@@ -34,6 +34,7 @@ def test_what_is_installed_stands_alone() -> None:
             assert "bin/daig-check" in files and "share/man/man1/daig-check.1" in files, files
             ran = it.run(f"{prefix}/bin/daig-check", "--help")
             assert ran.status == 0 and "daig-check" in ran.written, ran.said
+            assert "lib/daig/docs/LANGUAGE.md" in files, "a page that daig-check names is there"
             ran = it.run(f"{prefix}/bin/daig-check", "--version")
             whole = it.run(f"{prefix}/bin/daig", "--version").written
             assert (ran.status, ran.written) == (0, f"daig-check{whole.removeprefix('daig')}"), ran.written

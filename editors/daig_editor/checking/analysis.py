@@ -1,4 +1,4 @@
-"""Checks a file: a server is started on it and asked for what may fail, what is known there, and what it hangs on."""
+"""Checks a file: a server is started on it and asked for what may fail, what is known there, and what it depends on."""
 from __future__ import annotations
 
 from contextlib import asynccontextmanager, contextmanager
@@ -7,10 +7,12 @@ from typing import AsyncIterator, Iterator, Mapping
 
 from daig_editor.checking.asking import NEVER_REACHED, BadReply, Over, Served, Verdict, ordinals
 from daig_editor.checking.refused import read_program, refused, too_long
+from daig_editor.checking.relevance import Relevance
 from daig_editor.checking.words import (
     DEAD,
     FAILS_ALWAYS,
     check_words,
+    fault_words,
     over_notes,
     over_words,
     state_words,
@@ -19,13 +21,16 @@ from daig_editor.checking.words import (
 )
 from daig_editor.language.places import SourceText
 from daig_editor.language.refusals import GREATEST_SOURCE
-from daig_editor.language.tree import StmtKind, number_from_one
+from daig_editor.language.tree import Program, StmtKind, number_from_one
 from daig_editor.reports.finding import CheckedFile, Finding, Key, Level, StateLine, Tally, trouble
+from daig_editor.reports.tool import RULES
 from daig_editor.server.process import DaigProcess, Gone, NotStarted, Refused, Settings
-from daig_editor.server.trying import failing_checks
+from daig_editor.server.trying import FAULTS, FUEL, Failure, failing_runs, input_lists
 
-# What a finding hangs on is asked for so many findings of a file: each may hang on all before it.
+# What a finding depends on is asked for so many findings of a file: each may depend on all before it.
 MOST_WHY = 200
+# A run has so many steps at most where arrays are made again and again, each of which may take as long as a thousand.
+FUEL_OF_ARRAYS = 2_000
 # The check and the verdict that each statement had, by its number now.
 OldVerdicts = Mapping[int, tuple[str, str]]
 
@@ -33,11 +38,13 @@ OldVerdicts = Mapping[int, tuple[str, str]]
 @dataclass(frozen=True)
 class Wanted:
     """What is asked of each file. `dead`: checks that are never reached count too; `states`: all states are asked;
-    `causes`: what a finding hangs on is asked; `new`: of a change, what the old text has too does not count."""
+    `causes`: what a finding depends on is asked; `new`: of a change, what the old text has too does not count; `inputs`:
+    those of a run that is tried before the others."""
 
     settings: Settings
     dead: bool = False
     tries: int = 0
+    inputs: tuple[int, ...] | None = None
     states: bool = False
     causes: bool = True
     new: bool = False
@@ -124,6 +131,7 @@ class _Analysis:
         self._unknown: dict[Over, int] = {}
         self._fails: dict[int, tuple[int, ...]] = {}
         self._asked_why = 0
+        self._relevance = Relevance(served.places)
 
     async def run(self) -> None:
         """Asks for all."""
@@ -133,22 +141,51 @@ class _Analysis:
         report = await self._served.report()
         which = ordinals(self._served.program, ((it.number, it.check) for it in report))
         self._checked.tally = _tally(report)
-        may = {it.number: it.check for it in report if it.verdict == "may"}
-        text, tries = self._checked.source.data, self._wanted.tries
-        self._fails = await failing_checks(self._served.server.ask, text, may, tries)
+        others = await self._try_runs({it.number: it.check for it in report})
         for it in report:
-            if it.verdict != "safe":
+            if it.verdict != "safe" or it.number in self._fails:
                 await self._add(it, which[it.number])
+        await self._add_others(others)
         self._add_overs()
         self._checked.findings.sort(key=lambda it: it.span)
         if self._wanted.states:
             await self._add_states()
 
+    async def _try_runs(self, checks: dict[int, str]) -> list[Failure]:
+        """Tries runs; answers those that fail by a fault that is none of a check."""
+        given, text = self._wanted.inputs, self._checked.source.data
+        lists = [list(given)] if given is not None else []
+        lists += input_lists(text, self._wanted.tries) if self._wanted.tries else []
+        fuel = FUEL_OF_ARRAYS if _makes_arrays_often(self._served.program) else FUEL
+        failures = await failing_runs(self._served.server.ask, lists, lambda _number, _fault: True, fuel)
+        if any(it.number not in self._served.places for it in failures):
+            raise BadReply("its run ends at no statement")
+        self._fails = {it.number: it.inputs for it in failures if FAULTS.get(checks.get(it.number, "")) == it.fault}
+        return [it for it in failures if FAULTS.get(checks.get(it.number, "")) != it.fault]
+
+    async def _add_others(self, failures: list[Failure]) -> None:
+        """Adds the findings of runs that fail by a fault that is none of a check."""
+        which = ordinals(self._served.program, sorted((it.number, it.fault) for it in failures))
+        for it in failures:
+            place = self._served.places[it.number]
+            state = await self._served.state(f"before {it.number}")
+            finding = Finding(
+                it.fault if it.fault in RULES else "run",
+                Level.ERROR,
+                place.placed.head,
+                fault_words(it.fault, it.inputs),
+                Key(place.proc.name, place.stmt.text, it.fault, which[it.number]),
+                told_states(state),
+                inputs=it.inputs,
+                number=it.number,
+            )
+            self._checked.findings.append(finding)
+
     async def _add(self, verdict: Verdict, ordinal: int) -> None:
-        """Adds the finding of a check that is not safe."""
+        """Adds the finding of a check that is not safe, or that fails in a run."""
         place = self._served.places[verdict.number]
         key = Key(place.proc.name, place.stmt.text, verdict.check, ordinal)
-        if verdict.verdict == "dead":
+        if verdict.verdict == "dead" and verdict.number not in self._fails:
             level = Level.WARNING if self._wanted.dead else Level.NOTE
             notes, number = self._old_notes(verdict), verdict.number
             dead = Finding(verdict.check, level, place.placed.head, DEAD, key, notes=notes, number=number)
@@ -177,7 +214,7 @@ class _Analysis:
             check_words(verdict.check, inputs),
             key,
             known,
-            causes=tuple(sorted(places[it].placed.head for it in why if it != number)),
+            causes=tuple(places[it].placed.head for it in self._relevance.ordered(number, set(why) - {number})),
             notes=((FAILS_ALWAYS,) if after == NEVER_REACHED else ()) + self._old_notes(verdict),
             inputs=inputs,
             number=number,
@@ -225,3 +262,12 @@ def _tally(report: list[Verdict]) -> Tally:
     """How many checks have each verdict."""
     verdicts = [it.verdict for it in report]
     return Tally(len(verdicts), verdicts.count("safe"), verdicts.count("may"), verdicts.count("dead"))
+
+
+def _makes_arrays_often(program: Program) -> bool:
+    """Whether arrays are made in loops, or in procedures, which loops may call."""
+    for proc in program.procs:
+        roots = [it for it in proc.body if proc.name != "main" or it.kind is not StmtKind.SIMPLE]
+        if any(" = array " in inner.text for it in roots for inner in it.within()):
+            return True
+    return False

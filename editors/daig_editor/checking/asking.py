@@ -2,7 +2,7 @@
 from __future__ import annotations
 
 from dataclasses import dataclass
-from typing import Iterator, NamedTuple
+from typing import Iterable, NamedTuple
 
 from daig_editor.language.checks import check_of
 from daig_editor.language.tree import Placed, Proc, Program, Stmt
@@ -105,7 +105,7 @@ class Served:
         return kept
 
 
-def ordinals(program: Program, told: Iterator[tuple[int, str]]) -> dict[int, int]:
+def ordinals(program: Program, told: Iterable[tuple[int, str]]) -> dict[int, int]:
     """The number of each told statement, from 0, among those of its procedure that print alike and have its check."""
     procs = {it.number: (proc.name, it.text) for proc in program.procs for it in proc.statements()}
     many: dict[tuple[str, str, str], int] = {}

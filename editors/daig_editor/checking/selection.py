@@ -13,10 +13,10 @@ _LEVELS = (Level.ERROR, Level.WARNING, Level.NOTE)
 
 @dataclass(frozen=True)
 class Selection:
-    """The rules that are told, all where it is None, and the fingerprints of findings that do not count again."""
+    """The rules that are told, all where it is None, and the fingerprints of a baseline's findings, if there is one."""
 
     rules: frozenset[str] | None = None
-    known: frozenset[str] = frozenset()
+    known: frozenset[str] | None = None
 
     def tells(self, rule: str) -> bool:
         """Whether findings of a rule are told. Why a file is not checked is always told."""
@@ -30,11 +30,11 @@ class Selection:
         # What changed, and why a file could not be checked, is always told.
         new = [it for it in told if it.status == TROUBLE or it.rule == "change" or not self._knows(checked, it)]
         checked.known_before += len(told) - len(new)
-        checked.findings = new
+        checked.findings, checked.has_baseline = new, self.known is not None
 
     def _knows(self, checked: CheckedFile, finding: Finding) -> bool:
         """Whether a finding is a known one."""
-        return bool(self.known) and checked.fingerprint(finding) in self.known
+        return self.known is not None and checked.fingerprint(finding) in self.known
 
 
 class Limit:

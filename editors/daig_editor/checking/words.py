@@ -8,13 +8,18 @@ from daig_editor.language.words import ANYTHING, CHECKS, FAILS, NO_VARIABLES, in
 from daig_editor.reports.shown import plural
 
 DEAD = "never reached"
-FAILS_ALWAYS = "no run that comes here goes on"
+FAILS_ALWAYS = "certain: no run that comes here goes on"
 TELLS_NOTHING = (NO_VARIABLES, ANYTHING)
 
 
 def check_words(check: str, inputs: tuple[int, ...] | None = None) -> str:
     """What a check says that may fail, or that fails in a run with these inputs and no further ones."""
     return CHECKS[check] if inputs is None else f"{FAILS[check]} {inputs_words(inputs)}"
+
+
+def fault_words(fault: str, inputs: tuple[int, ...]) -> str:
+    """What a run says that fails by a fault which is none of a check."""
+    return f"{FAILS.get(fault, f'a run ends by the fault {fault}')} {inputs_words(inputs)}"
 
 
 def verdict_words(check: str, verdict: str) -> str:

@@ -49,7 +49,7 @@ class Run:
         """Raises `Wrong`, `BadBaseline`, `BadConfiguration` or `NoProgramFound`."""
         self._args = args
         self._configurations = Configurations(args.isolated, args.config)
-        self._known = read_baseline(args.baseline) if args.baseline else frozenset()
+        self._known = read_baseline(args.baseline) if args.baseline else None
         exclude = Patterns(os.getcwd(), tuple(it for words in args.exclude for it in words))
         files = WantedFiles(self._configurations, exclude, args.force_exclude)
         self._sources = sources_of(args.files, files)
@@ -61,7 +61,8 @@ class Run:
         if isinstance(self._against, OldFile) and len(self._sources) > 1:
             raise Wrong(f"--against {args.against}: a folder is wanted where several files are checked")
         settings = Settings(program_to_ask(args.program), widening=args.widening, delay=args.delay, memory=args.memory)
-        self._wanted = Wanted(settings, args.dead, args.tries, args.format == "html", new=args.new)
+        states = args.format == "html"
+        self._wanted = Wanted(settings, args.dead, args.tries, args.inputs, states, new=args.new)
         self._test_output()
 
     async def run(self) -> int:

@@ -19,7 +19,7 @@ FORMAT_HELP = (
 )
 PROGRAM_HELP = "the program daig (default: $DAIG_PROGRAM, else the one beside daig-check, else that on the PATH)"
 USAGE = f"{NAME} [OPTIONS] FILE|FOLDER|- .."
-DESCRIPTION = "Checks .imp files: says which checks may fail, what is known there, and what that hangs on."
+DESCRIPTION = "Checks .imp files: says which checks may fail, what is known there, and what that depends on."
 EPILOG = """\
 status:
   0  no check may fail
@@ -146,10 +146,13 @@ def _add_report(group: argparse._ArgumentGroup) -> None:
         "--try",
         "-t",
         type=_number(0, 1_000_000),
-        default=0,
+        default=32,
         metavar="N",
         dest="tries",
-        help="run each program with N lists of inputs; a check that fails in a run is an error",
+        help="run each program with N lists of inputs (default 32); what fails in a run is an error",
+    )
+    group.add_argument(
+        "--inputs", "-i", type=_inputs, metavar="N,..", help="run each program with these inputs first, as 3,-1,0"
     )
     group.add_argument(
         "--cert", metavar="FOLDER", help="keep certificates there: verify them, and write those anew that do not hold"
@@ -235,6 +238,17 @@ def _known(word: str, words: Iterable[str]) -> str:
     if word in words:
         return word
     raise argparse.ArgumentTypeError(f"`{word}` is none of {', '.join(words)}{meant(word, words)}")
+
+
+def _inputs(word: str) -> tuple[int, ...]:
+    """Numbers of 64 bits with commas between them; an empty word is of none."""
+    try:
+        found = tuple(int(it) for it in word.split(",") if word)
+    except ValueError:
+        found = (2**63,)
+    if all(-(2**63) <= it < 2**63 for it in found):
+        return found
+    raise argparse.ArgumentTypeError(f"numbers of 64 bits with commas between them are wanted, and not `{word}`")
 
 
 def _list_of_words(word: str) -> list[str]:

@@ -40,6 +40,9 @@ FAILS = {
     "bounds": "the index is outside the array",
     "null": "the list is null",
     "assert": "the assertion fails",
+    "overflow": "a number passes the limits of 64 bits",
+    "zero": "a number is divided by zero",
+    "length": "the length of the array is below 0 or above 1,000,000",
 }
 
 

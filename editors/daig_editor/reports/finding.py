@@ -37,7 +37,7 @@ class Key(NamedTuple):
 
 @dataclass(frozen=True)
 class Finding:
-    """One finding. `known` are the states before it, `causes` what they hang on, `inputs` those of a run that fails.
+    """One finding. `known` are the states before it, `causes` what they depend on, what matters most first, `inputs` those of a run that fails.
 
     `related` are other places, each with what it is. `number` is that of the statement in the program that was asked, 0
     of none.
@@ -96,7 +96,8 @@ class CheckedFile:
     """A file and what is told of it, and why other findings are not told.
 
     `known_before` counts those that a baseline or the old text has, `ignored` those that a comment ignores, `unselected`
-    those of rules that are not wanted, `untold` those beyond the most that are told.
+    those of rules that are not wanted, `untold` those beyond the most that are told. `has_baseline`: those that are told
+    are in no baseline.
     """
 
     name: str
@@ -109,6 +110,7 @@ class CheckedFile:
     unselected: int = 0
     untold: int = 0
     untold_status: int = CLEAN
+    has_baseline: bool = False
 
     @property
     def status(self) -> int:

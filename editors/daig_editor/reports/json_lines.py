@@ -35,7 +35,7 @@ def _fields(checked: CheckedFile, finding: Finding) -> dict[str, object]:
         "procedure": finding.key.procedure,
         "statement": finding.key.statement,
         "known": list(finding.known),
-        "hangsOn": lines_of(checked.source, finding.causes),
+        "dependsOn": lines_of(checked.source, finding.causes),
         "related": [{"line": checked.source.line_of(span.start) + 1, "message": it} for span, it in finding.related],
         "notes": list(finding.notes),
         "inputs": None if finding.inputs is None else list(finding.inputs),

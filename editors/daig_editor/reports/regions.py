@@ -27,8 +27,8 @@ def utf16_region(source: SourceText, span: Span) -> Region:
 
 
 def lines_of(source: SourceText, spans: tuple[Span, ...]) -> list[int]:
-    """The lines where spans begin, rising, each once."""
-    return sorted({source.line_of(it.start) + 1 for it in spans})
+    """The lines where spans begin, in their order, each once."""
+    return list(dict.fromkeys(source.line_of(it.start) + 1 for it in spans))
 
 
 def _byte_place(source: SourceText, place: int) -> tuple[int, int]:

@@ -3,6 +3,7 @@ from __future__ import annotations
 
 import json
 import os
+from pathlib import Path
 from urllib.parse import quote
 
 from daig_editor.language.places import SourceText
@@ -14,8 +15,12 @@ from daig_editor.reports.tool import NAME, PRINT, RULES, VERSION, Rule
 
 Json = dict[str, object]
 SCHEMA = "https://json.schemastore.org/sarif-2.1.0.json"
-# Code hosts take so many places of a result.
-MOST_RELATED = 100
+# The fingerprint by which GitHub knows a result again; it takes no other.
+LINE_PRINT = "primaryLocationLineHash"
+BASE = "SRCROOT"
+# Code hosts take so many places of a result; of these so many are linked in its message.
+MOST_RELATED, MOST_LINKED = 100, 5
+DOCUMENTS = Path(__file__).resolve().parents[3] / "docs"
 
 
 class SarifReport:
@@ -24,66 +29,121 @@ class SarifReport:
     def __init__(self) -> None:
         self._results: list[Json] = []
         self._status = 0
+        self._project = ""
 
     def file(self, checked: CheckedFile) -> str:
         """Keeps a file's results."""
-        self._results += [_result(checked, it) for it in checked.findings]
+        self._project = self._project or checked.path.project
+        self._results += [_Result(checked, it, self._project).result() for it in checked.findings]
         self._status = max(self._status, checked.status)
         return ""
 
     def end(self) -> str:
         """The whole log."""
-        run = {
-            "tool": {"driver": {"name": NAME, "version": VERSION, "rules": [_rule(it) for it in RULES.values()]}},
+        driver: Json = {"name": NAME, "version": VERSION, "semanticVersion": f"{VERSION}.0"}
+        driver |= {"informationUri": _document(""), "rules": [_rule(it) for it in RULES.values()]}
+        run: Json = {
+            "tool": {"driver": driver},
+            "automationDetails": {"id": f"{NAME}/"},
             "columnKind": "utf16CodeUnits",
             "invocations": [{"executionSuccessful": self._status != TROUBLE}],
-            "results": self._results,
         }
+        if self._project:
+            run["originalUriBaseIds"] = {BASE: {"uri": _file_uri(self._project.rstrip("/")) + "/"}}
+        run["results"] = self._results
         return json.dumps({"$schema": SCHEMA, "version": "2.1.0", "runs": [run]}, indent=1, ensure_ascii=False) + "\n"
 
 
 def _rule(rule: Rule) -> Json:
     """A rule as the driver lists it."""
     text = " ".join(rule.text.split())
-    return {"id": rule.name, "shortDescription": {"text": rule.short}, "fullDescription": {"text": text}}
-
-
-def _result(checked: CheckedFile, finding: Finding) -> Json:
-    """A finding as a result."""
-    related = [*finding.related, *((it, "hangs on this") for it in finding.causes)][:MOST_RELATED]
     return {
-        "ruleId": finding.rule,
-        "ruleIndex": list(RULES).index(finding.rule),
-        "level": finding.level.value,
-        "message": {"text": _words(finding)},
-        "locations": [_location(checked, finding.span)],
-        "relatedLocations": [_related(checked, number, *it) for number, it in enumerate(related)],
-        "partialFingerprints": {PRINT: checked.fingerprint(finding)},
+        "id": rule.name,
+        "shortDescription": {"text": rule.short},
+        "fullDescription": {"text": text},
+        "help": {"text": f"{rule.short} {text}", "markdown": f"**{rule.short}** {text}"},
+        "helpUri": _document("#findings"),
+        "defaultConfiguration": {"level": rule.level},
+        "properties": {
+            "precision": rule.precision,
+            "problem.severity": "recommendation" if rule.level == "note" else rule.level,
+            "tags": ["correctness"],
+        },
     }
 
 
-def _words(finding: Finding) -> str:
-    """A finding's words with what is known there."""
-    many = len(finding.causes) + len(finding.related)
-    more = [f"of {many} related places {MOST_RELATED} are told"] if many > MOST_RELATED else []
-    return "; ".join([finding.message, *(f"known here: {it}" for it in finding.known), *finding.notes, *more])
+def _document(anchor: str) -> str:
+    """The page that tells of the findings."""
+    return _file_uri(str(DOCUMENTS / "CHECK.md")) + anchor
 
 
-def _location(checked: CheckedFile, span: Span) -> Json:
-    """A place in a file."""
-    return {"physicalLocation": {"artifactLocation": _artifact(checked.path), "region": _region(checked.source, span)}}
+def _file_uri(path: str) -> str:
+    """A whole path as a URI."""
+    return "file://" + quote(os.fsencode(path))
 
 
-def _related(checked: CheckedFile, number: int, span: Span, words: str) -> Json:
-    """Another place, with what it is."""
-    return {"id": number, "message": {"text": words}, **_location(checked, span)}
+class _Result:
+    """The result of a finding. Places below the project have relative paths."""
+
+    def __init__(self, checked: CheckedFile, finding: Finding, project: str) -> None:
+        self._checked = checked
+        self._finding = finding
+        self._project = project
+
+    def result(self) -> Json:
+        """All of it."""
+        it, checked = self._finding, self._checked
+        related = [*it.related, *((span, "it depends on this") for span in it.causes)][:MOST_RELATED]
+        printed = checked.fingerprint(it)
+        result: Json = {
+            "ruleId": it.rule,
+            "ruleIndex": list(RULES).index(it.rule),
+            "level": it.level.value,
+            "message": {"text": self._words(related)},
+            "locations": [self._location(it.span)],
+            "relatedLocations": [self._related(number, *place) for number, place in enumerate(related)],
+            "partialFingerprints": {PRINT: printed, LINE_PRINT: f"{printed[:16]}:1"},
+        }
+        if checked.has_baseline:
+            result["baselineState"] = "new"
+        return result
+
+    def _words(self, related: list[tuple[Span, str]]) -> str:
+        """A finding's words with what is known there, and links to the first related places."""
+        it = self._finding
+        told = [it.message, *(f"known here: {state}" for state in it.known), *it.notes]
+        links = [f"[line {self._line(span)}]({number})" for number, (span, _) in enumerate(related[:MOST_LINKED])]
+        words = "; ".join(map(_plain, told))
+        more = len(it.causes) + len(it.related)
+        words += f"; see {', '.join(links)}" if links else ""
+        return words + (f"; of {more} related places {MOST_RELATED} are told" if more > MOST_RELATED else "")
+
+    def _line(self, span: Span) -> int:
+        """The line where a span begins."""
+        return self._checked.source.line_of(span.start) + 1
+
+    def _location(self, span: Span) -> Json:
+        """A place in the file."""
+        artifact = _artifact(self._checked.path, self._project)
+        return {"physicalLocation": {"artifactLocation": artifact, "region": _region(self._checked.source, span)}}
+
+    def _related(self, number: int, span: Span, words: str) -> Json:
+        """Another place, with what it is."""
+        return {"id": number, "message": {"text": words}, **self._location(span)}
 
 
-def _artifact(path: ProjectPath) -> Json:
-    """A file: by its path below the folder of its project, or by its whole path where it is in none."""
+def _plain(text: str) -> str:
+    """Text of a message that has no links."""
+    return text.replace("\\", "\\\\").replace("[", "\\[").replace("]", "\\]") if "](" in text else text
+
+
+def _artifact(path: ProjectPath, project: str) -> Json:
+    """A file: by its path below the folder of the project, or by its whole path where it is in another one or in none."""
     if not path.project:
-        return {"uri": "file://" + quote(os.fsencode(path.path))}
-    return {"uri": quote(os.fsencode(path.path)), "uriBaseId": "SRCROOT"}
+        return {"uri": _file_uri(path.path)}
+    if path.project != project:
+        return {"uri": _file_uri(os.path.join(path.project, path.path))}
+    return {"uri": quote(os.fsencode(path.path)), "uriBaseId": BASE}
 
 
 def _region(source: SourceText, span: Span) -> Json:

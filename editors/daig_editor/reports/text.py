@@ -10,8 +10,8 @@ from daig_editor.reports.regions import byte_region, lines_of
 from daig_editor.reports.shown import shown, width
 
 COLOURS = {Level.ERROR: "1;31", Level.WARNING: "1;35", Level.NOTE: "1;36"}
-# So many lines that a finding hangs on are told; JSON has all.
-MOST_LINES = 40
+# So many lines that a finding depends on are told; JSON has all.
+MOST_LINES = 12
 BOLD, GREEN = "1", "1;32"
 
 
@@ -71,7 +71,7 @@ def details(source: SourceText, finding: Finding) -> Iterator[str]:
     lines = lines_of(source, finding.causes)
     if lines:
         more = f" and {len(lines) - MOST_LINES} more" if len(lines) > MOST_LINES else ""
-        yield f"hangs on line{'s' if len(lines) > 1 else ''} {', '.join(map(str, lines[:MOST_LINES]))}{more}"
+        yield f"depends on line{'s' if len(lines) > 1 else ''} {', '.join(map(str, lines[:MOST_LINES]))}{more}"
     yield from (f"{words}: line {source.line_of(span.start) + 1}" for span, words in finding.related)
     yield from finding.notes
 

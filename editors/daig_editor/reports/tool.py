@@ -11,11 +11,14 @@ PRINT = "daig/v1"
 
 @dataclass(frozen=True)
 class Rule:
-    """A rule: its name, what a finding of it says in a sentence, and what to know of it."""
+    """A rule: its name, what a finding of it says in a sentence, what to know of it, how bad a finding mostly is, and how
+    often one is right, both in the words of code hosts."""
 
     name: str
     short: str
     text: str
+    level: str = "warning"
+    precision: str = "medium"
 
 
 _RULES = (
@@ -26,20 +29,45 @@ _RULES = (
         "0 <= e && e < len a holds in every run. A run where it does not hold ends there with the fault `index`.\n"
         "What is known there stands in the finding. Often a relation between the index and the length is lost:\n"
         "octagons keep those of the form x - y <= c and x + y <= c. A test before the access,\n"
-        "`if (0 <= e && e < len a) {`, always helps.",
+        "`if (0 <= i && i < len a) {`, helps where the index i is a variable; assign another index to one first.",
     ),
     Rule(
         "null",
         "A list that is followed may be null.",
         "A cell of a list is read or written, `q.next` or `p.item`, and nothing shows that the variable is not null\n"
         "in every run. A run where it is null ends there with the fault `null`. List segments know the shape of\n"
-        "lists; the other domains know nothing of them. A test before it, `if (p != null) {`, always helps.",
+        "lists, of at most 64 shapes at a place; the other domains know nothing of them. A test before it,\n"
+        "`if (p != null) {`, helps where the shapes are known.",
     ),
     Rule(
         "assert",
         "An assertion may fail.",
         "Nothing shows that the condition of an `assert` holds in every run. A run where it does not hold ends there\n"
-        "with the fault `assert`. What is known there stands in the finding, and the lines that this hangs on.",
+        "with the fault `assert`. What is known there stands in the finding, and the lines that this depends on.",
+    ),
+    Rule(
+        "overflow",
+        "A number passes the limits of 64 bits in a run.",
+        "A run that was tried ends at the statement with the fault `overflow`. Its inputs stand in the finding. That no\n"
+        "such finding is there says nothing: only what happens in a run is told.",
+        "error",
+        "very-high",
+    ),
+    Rule(
+        "zero",
+        "A number is divided by zero in a run.",
+        "A run that was tried ends at the statement with the fault `zero`: a division, or a remainder, by 0. Its inputs\n"
+        "stand in the finding. That no such finding is there says nothing: only what happens in a run is told.",
+        "error",
+        "very-high",
+    ),
+    Rule(
+        "length",
+        "The length of a new array is out of range in a run.",
+        "A run that was tried ends at the statement with the fault `length`: an array of fewer than 0 or more than\n"
+        "1,000,000 elements. That no such finding is there says nothing: only what happens in a run is told.",
+        "error",
+        "very-high",
     ),
     Rule(
         "budget",
@@ -54,18 +82,24 @@ _RULES = (
         "The file is no program.",
         "The text has a fault, which the finding names, so nothing is known of the program. The language is told in\n"
         "docs/LANGUAGE.md. The status is 2.",
+        "error",
+        "very-high",
     ),
     Rule(
         "run",
         "The file could not be checked.",
         "The file could not be read, or the program `daig` is not there, ended, or answered what is no reply.\n"
         "Nothing is known of the file, so it counts as one that may fail everywhere. The status is 2.",
+        "error",
+        "very-high",
     ),
     Rule(
         "certificate",
         "No certificate holds of the file.",
         "With `--cert FOLDER` a certificate of each file is checked by `daig verify`, and written anew where it does\n"
         "not hold. The finding says why none holds.",
+        "warning",
+        "very-high",
     ),
     Rule(
         "ignore",
@@ -73,17 +107,21 @@ _RULES = (
         "`// daig: ignore[RULE] reason` leaves out the findings of the rule, or of several with commas between them, that\n"
         "stand on the line of the comment, or on the next line with code where the comment stands alone. One that\n"
         "leaves out nothing is told by a note, one that cannot be read or names no rule by a warning.",
+        "warning",
+        "very-high",
     ),
     Rule(
         "change",
         "A change makes this different.",
         "With `--against OLD` a note stands where a verdict, or the state at a loop or after a changed statement, is\n"
         "another than before the change. It does not count for the status.",
+        "note",
+        "very-high",
     ),
 )
 RULES = {it.name: it for it in _RULES}
 # The rules of findings on a statement, which a comment may ignore.
-CHECK_RULES = ("bounds", "null", "assert", "budget")
+CHECK_RULES = ("bounds", "null", "assert", "overflow", "zero", "length", "budget")
 IGNORE_RULE = "ignore"
 
 

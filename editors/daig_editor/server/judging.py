@@ -135,7 +135,9 @@ class Judge:
     async def _explain(self, good: Good, finding: Finding, inputs: dict[int, tuple[int, ...]]) -> Finding:
         """One finding with what is known about it."""
         number = finding.place.stmt.number
+        begin = finding.place.head.start
         causes = await causes_of(self._ask, good, number)
+        causes.sort(key=lambda it: (it.head.start > begin, abs(begin - it.head.start)))
         after = await self._state(f"after {number}")
         always = is_never(str(after["state"])) if "state" in after else False
         return replace(finding, always=always, inputs=inputs.get(number), causes=tuple(causes))

@@ -5,8 +5,9 @@ language, and those of the program with their neighbours.
 """
 from __future__ import annotations
 
+from itertools import islice
 from random import Random
-from typing import Awaitable, Callable, Iterator
+from typing import Awaitable, Callable, Iterable, Iterator, NamedTuple
 
 from daig_editor.language.tokens import GREATEST_NUMBER, tokens
 
@@ -18,11 +19,11 @@ MOST_NUMBERS = 24
 
 def input_lists(text: bytes, many: int) -> Iterator[list[int]]:
     """So many lists of inputs for a program, or the one empty list where it reads none."""
-    words = list(tokens(text))
-    if all(it.word != "input" for it in words):
+    if b"input" not in text or all(it.word != "input" for it in tokens(text)):
         yield []
         return
-    numbers = _numbers(int(it.word) for it in words if it.kind == "number")
+    # No more of a long text is cut into tokens than has these numbers.
+    numbers = _numbers(islice((int(it.word) for it in tokens(text) if it.kind == "number"), MOST_NUMBERS))
     for number in numbers[:many]:
         yield [number] * LONGEST_INPUTS
     random = Random(1)
@@ -39,26 +40,40 @@ def _numbers(found: Iterator[int]) -> list[int]:
     return [it for it in dict.fromkeys(wanted) if -GREATEST_NUMBER - 1 <= it <= GREATEST_NUMBER]
 
 
-async def failing_inputs(ask: Ask, text: bytes, wanted: set[int], many: int) -> dict[int, tuple[int, ...]]:
-    """Inputs with which a run fails at a statement, for those of the wanted ones where some are found."""
-    found: dict[int, tuple[int, ...]] = {}
-    for inputs in input_lists(text, many):
-        reply = await ask(do="run", inputs=inputs, fuel=FUEL)
-        number = reply.get("id")
-        if reply.get("run") == "fault" and isinstance(number, int) and number in wanted and number not in found:
-            found[number] = await _shortest(ask, inputs, number)
-            if len(found) == len(wanted):
+class Failure(NamedTuple):
+    """A run that fails: at which statement, by which fault, and with which inputs, none of which can be left out."""
+
+    number: int
+    fault: str
+    inputs: tuple[int, ...]
+
+
+async def failing_runs(
+    ask: Ask, lists: Iterable[list[int]], wanted: Callable[[int, str], bool], fuel: int = FUEL, most: int | None = None
+) -> list[Failure]:
+    """The first run of some lists of inputs that fails so, for each statement and fault that are wanted.
+
+    `most` is how many there can be, where that is known.
+    """
+    found: dict[tuple[int, str], Failure] = {}
+    for inputs in lists:
+        reply = await ask(do="run", inputs=inputs, fuel=fuel)
+        number, fault = reply.get("id"), reply.get("fault")
+        if not isinstance(number, int) or not isinstance(fault, str) or not wanted(number, fault):
+            continue
+        if (number, fault) not in found:
+            found[number, fault] = Failure(number, fault, await _shortest(ask, inputs, reply, fuel))
+            if len(found) == most:
                 break
-    return found
+    return list(found.values())
 
 
-async def _shortest(ask: Ask, inputs: list[int], number: int) -> tuple[int, ...]:
+async def _shortest(ask: Ask, inputs: list[int], failed: dict[str, object], fuel: int) -> tuple[int, ...]:
     """The fewest first inputs that lead to the same fault; with fewer a run ends before it because no input is left."""
     low, high = 0, len(inputs)
     while low < high:
         middle = (low + high) // 2
-        reply = await ask(do="run", inputs=inputs[:middle], fuel=FUEL)
-        if reply.get("run") == "fault" and reply.get("id") == number:
+        if await ask(do="run", inputs=inputs[:middle], fuel=fuel) == failed:
             high = middle
         else:
             low = middle + 1
@@ -71,12 +86,12 @@ FAULTS = {"bounds": "index", "null": "null", "assert": "assert"}
 
 async def failing_checks(ask: Ask, text: bytes, checks: dict[int, str], many: int) -> dict[int, tuple[int, ...]]:
     """Inputs with which checks fail, by the statements of those for which so many lists of inputs show some."""
+    if not checks or not many:
+        return {}
 
-    async def ask_run(**request: object) -> dict[str, object]:
-        """The reply to a run. One that ends for another fault than that of the check is none that fails."""
-        reply = await ask(**request)
-        number = reply.get("id")
-        wanted = FAULTS.get(checks[number]) if isinstance(number, int) and number in checks else None
-        return reply if reply.get("fault") == wanted else {}
+    def is_check(number: int, fault: str) -> bool:
+        """Whether a fault is that of a statement's check."""
+        return FAULTS.get(checks.get(number, "")) == fault
 
-    return await failing_inputs(ask_run, text, set(checks), many) if checks and many else {}
+    found = await failing_runs(ask, input_lists(text, many), is_check, most=len(checks))
+    return {it.number: it.inputs for it in found}
