@@ -45,7 +45,7 @@ OUTSIDE = """
  requires ensures returns search omega record rules std using tactic auto unfolding NAME WORD goal ulimit find make clang
  git python3 serde_json json fast_float clap thiserror itoa indexmap slab smallvec lru llvm path cache local daig DAIG_PROGRAM PATH
  vim opt runtimepath prepend require setup true src wildcard patsubst make_mut Type impl
- daig_no_server eglot-server-programs init.lua toml tests measure_typing x.imp mypy nvim
+ clean-imp daig_no_server eglot-server-programs init.lua toml tests measure_typing x.imp mypy nvim
 """.split()
 
 
