@@ -3,7 +3,7 @@ from __future__ import annotations
 
 import os
 
-from daig_editor.protocol.settings import found_program
+from daig_editor.server.choices import found_program
 
 
 def program() -> str:

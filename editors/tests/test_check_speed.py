@@ -7,8 +7,9 @@ import shutil
 import subprocess
 import sys
 import time
+from pathlib import Path
 
-from tests.check_tool import EXAMPLES, TOOL, folder
+from tests.check_tool import EXAMPLES, SAFE, TOOL, folder
 from tests.program import program
 
 FILES, SECONDS = 200, 3.0
@@ -30,3 +31,25 @@ def test_two_hundred_files() -> None:
     print(f"{FILES} files: {used:.2f} s of processors, {took:.2f} s, load {os.getloadavg()[0]:.1f}")
     assert done.returncode == 1 and done.stderr.startswith(f"{FILES} files, "), done
     assert used <= SECONDS, used
+
+
+# What a check of one good file does without, and what would take longer to load than the check takes.
+NOT_LOADED = ("_ssl", "hashlib", "difflib", "tomllib", "html", "daig_editor.protocol", "daig_editor.language.kinds")
+NOT_LOADED += ("daig_editor.checking.comparison", "daig_editor.checking.certificates", "daig_editor.reports.sarif")
+
+
+def loaded(*words: str, where: Path) -> set[str]:
+    """The modules that Python loads for some words."""
+    environment = {**os.environ, "DAIG_PROGRAM": program()}
+    command = [sys.executable, "-X", "importtime", *words]
+    done = subprocess.run(command, cwd=where, env=environment, capture_output=True, text=True)
+    assert done.returncode == 0, done.stderr
+    return {it.rpartition("|")[2].strip() for it in done.stderr.splitlines() if it.startswith("import time:")}
+
+
+def test_start() -> None:
+    """A check of one file loads only what it needs, which is most of its time."""
+    with folder(a_imp=SAFE) as here:
+        names = loaded(str(TOOL), "a.imp", where=here) - loaded("-c", "", where=here)
+        assert "daig_editor.checking.analysis" in names, names
+        assert not names & set(NOT_LOADED), names & set(NOT_LOADED)

@@ -144,7 +144,7 @@ def test_closed_streams() -> None:
         assert check_process("--help >/dev/full", here).status == 2
         assert check_process("--explain bounds >/dev/full", here).status == 2
         piped = check_process("--output /dev/stdout a.imp | cat; exit ${PIPESTATUS[0]}", here)
-        assert piped.status == 1 and piped.out == check("a.imp", where=here).out, piped
+        assert piped.status == 1 and piped.out == check("--try", 32, "a.imp", where=here).out, piped
         found = check_process("--format sarif a.imp | true; exit ${PIPESTATUS[0]}", here)
         assert found.status in (1, 2) and not found.out and "Traceback" not in found.err, found
 

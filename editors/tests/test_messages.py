@@ -7,7 +7,8 @@ import sys
 from random import Random
 
 from daig_editor.protocol.questions import QUESTIONS
-from daig_editor.protocol.settings import found_program, read_options
+from daig_editor.protocol.settings import read_options
+from daig_editor.server.choices import found_program
 from tests.client import SERVER, Client, framed
 from tests.program import program
 from tests.small import FAILING, URI, codes, opened

@@ -9,7 +9,8 @@ import unittest
 from os import environ
 
 from daig_editor.language.tokens import RESERVED
-from daig_editor.protocol.settings import DOMAINS, NAMES
+from daig_editor.protocol.settings import NAMES
+from daig_editor.server.choices import DOMAINS
 from tests.program import program
 from tests.terminal import EDITORS
 

@@ -20,7 +20,7 @@ from daig_editor.checking.words import (
     verdict_words,
 )
 from daig_editor.language.places import SourceText
-from daig_editor.language.refusals import GREATEST_SOURCE
+from daig_editor.language.tokens import GREATEST_SOURCE
 from daig_editor.language.tree import Program, StmtKind, number_from_one
 from daig_editor.reports.finding import CheckedFile, Finding, Key, Level, StateLine, Tally, trouble
 from daig_editor.reports.tool import RULES

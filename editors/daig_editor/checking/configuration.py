@@ -12,7 +12,7 @@ from functools import lru_cache
 from typing import Callable
 
 from daig_editor.checking.patterns import Patterns
-from daig_editor.protocol.settings import DOMAINS
+from daig_editor.server.choices import DOMAINS
 from daig_editor.reports.project import CONFIGURATION
 from daig_editor.reports.suggestion import meant
 from daig_editor.reports.tool import RULES

@@ -5,7 +5,7 @@ import subprocess
 from contextlib import suppress
 from pathlib import Path
 
-from daig_editor.protocol.settings import found_program
+from daig_editor.server.choices import found_program
 
 # The checkout, or the folder of an installation, which has a line on what was built in the file `build`.
 CHECKOUT = Path(__file__).resolve().parents[3]

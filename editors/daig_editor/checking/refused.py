@@ -1,12 +1,16 @@
-"""Why a file is no program, as a finding."""
+"""Why a file is no program, as a finding. What says so is loaded where a file is none."""
 from __future__ import annotations
 
-from daig_editor.language.refusals import Refusal, refusal_of_reply, refusal_of_size
+from typing import TYPE_CHECKING
+
 from daig_editor.language.text import TextReader
 from daig_editor.language.tokens import Fault
 from daig_editor.language.tree import Program
 from daig_editor.reports.finding import Finding, Key, Level
 from daig_editor.server.process import Reply
+
+if TYPE_CHECKING:
+    from daig_editor.language.refusals import Refusal
 
 
 def read_program(data: bytes) -> tuple[Program | None, Fault | None]:
@@ -19,11 +23,15 @@ def read_program(data: bytes) -> tuple[Program | None, Fault | None]:
 
 def refused(data: bytes, program: Program | None, fault: Fault | None, reply: Reply) -> Finding:
     """The finding of a server's refusal of a text."""
+    from daig_editor.language.refusals import refusal_of_reply
+
     return _finding(refusal_of_reply(data, program, fault, reply), str(reply.get("name")))
 
 
 def too_long() -> Finding:
     """The finding of a text that is too long."""
+    from daig_editor.language.refusals import refusal_of_size
+
     return _finding(refusal_of_size(), "Size")
 
 

@@ -6,7 +6,7 @@ import os
 from typing import NamedTuple, Protocol
 
 from daig_editor.checking.sources import Source, bytes_of
-from daig_editor.language.refusals import GREATEST_SOURCE
+from daig_editor.language.tokens import GREATEST_SOURCE
 from daig_editor.reports.project import STANDARD_INPUT_NAME
 from daig_editor.server.child import started
 
@@ -87,10 +87,8 @@ class OldRevision:
         return line.decode().strip().split()[-1]
 
 
-def against(name: str | None) -> Against | None:
+def against(name: str) -> Against:
     """What a word of the command line names."""
-    if name is None:
-        return None
     if os.path.isdir(name):
         return OldFolder(name)
     return OldFile(name) if os.path.lexists(name) else OldRevision(name)

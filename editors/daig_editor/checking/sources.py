@@ -9,7 +9,7 @@ from typing import Iterator, NamedTuple
 
 from daig_editor.checking.configuration import Configurations
 from daig_editor.checking.patterns import Patterns
-from daig_editor.language.refusals import GREATEST_SOURCE
+from daig_editor.language.tokens import GREATEST_SOURCE
 from daig_editor.reports.project import STANDARD_INPUT, STANDARD_INPUT_NAME
 
 

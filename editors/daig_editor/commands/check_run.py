@@ -7,24 +7,27 @@ import os
 import sys
 from dataclasses import replace
 from importlib import import_module
+from typing import TYPE_CHECKING
 
 from daig_editor.checking.analysis import Wanted, analyse
 from daig_editor.checking.baseline import read_baseline
 from daig_editor.checking.configuration import Configuration, Configurations
 from daig_editor.checking.patterns import Patterns
 from daig_editor.checking.program import program_to_ask
-from daig_editor.checking.revisions import NoOldText, NotComparable, OldFile, against
 from daig_editor.checking.selection import Limit, Selection
 from daig_editor.checking.sources import Source, bytes_of, sources_of, standard_input
 from daig_editor.checking.sources import Wanted as WantedFiles
 from daig_editor.checking.work import in_order
-from daig_editor.protocol.settings import DOMAIN
+from daig_editor.server.choices import DOMAIN
 from daig_editor.reports.finding import CheckedFile, troubled
 from daig_editor.reports.output import Output, output_to
 from daig_editor.reports.progress import Progress
 from daig_editor.reports.project import STANDARD_INPUT, STANDARD_INPUT_NAME
 from daig_editor.reports.report import Report, Totals
 from daig_editor.server.process import Settings
+
+if TYPE_CHECKING:
+    from daig_editor.checking.revisions import Against
 
 BUDGET = 100
 # The module and the class of each format, which are loaded where it is wanted.
@@ -57,13 +60,20 @@ class Run:
         for source in self._sources:
             self._configurations.of(os.path.dirname(source.name) or ".")
         self._input = standard_input() if STANDARD_INPUT in args.files else b""
-        self._against = against(args.against)
-        if isinstance(self._against, OldFile) and len(self._sources) > 1:
-            raise Wrong(f"--against {args.against}: a folder is wanted where several files are checked")
+        self._against = self._old_texts() if args.against is not None else None
         settings = Settings(program_to_ask(args.program), widening=args.widening, delay=args.delay, memory=args.memory)
         states = args.format == "html"
         self._wanted = Wanted(settings, args.dead, args.tries, args.inputs, states, new=args.new)
         self._test_output()
+
+    def _old_texts(self) -> Against:
+        """Where the old texts are."""
+        from daig_editor.checking.revisions import OldFile, against
+
+        found = against(self._args.against)
+        if isinstance(found, OldFile) and len(self._sources) > 1:
+            raise Wrong(f"--against {self._args.against}: a folder is wanted where several files are checked")
+        return found
 
     async def run(self) -> int:
         """Checks all files and writes the report; answers the highest status."""
@@ -118,6 +128,7 @@ class Run:
         if self._against is None:
             return await analyse(source.name, data, wanted)
         from daig_editor.checking.comparison import analyse_against, new_file
+        from daig_editor.checking.revisions import NoOldText, NotComparable
 
         try:
             old = await self._against.old(source)

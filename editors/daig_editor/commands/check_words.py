@@ -5,7 +5,7 @@ import argparse
 import os
 from typing import Callable, Iterable, NoReturn
 
-from daig_editor.protocol.settings import DOMAIN, DOMAINS, WIDENINGS
+from daig_editor.server.choices import DOMAIN, DOMAINS, WIDENINGS
 from daig_editor.reports.suggestion import meant
 from daig_editor.reports.tool import NAME, RULES, VERSION, explained
 

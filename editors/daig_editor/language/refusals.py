@@ -2,16 +2,14 @@
 from __future__ import annotations
 
 from dataclasses import dataclass
-from difflib import get_close_matches
 
 from daig_editor.language.kinds import kind_mistakes
 from daig_editor.language.outline import Outline, ProcOutline
 from daig_editor.language.text import span_of_fault
-from daig_editor.language.tokens import RESERVED, Fault
+from daig_editor.language.tokens import GREATEST_SOURCE, RESERVED, Fault
 from daig_editor.language.tree import Program, Span
 from daig_editor.language.words import refusal_words
 
-GREATEST_SOURCE = 1_048_576
 # What people write who know other languages: the word at the fault, and what is to be written.
 FOREIGN = {
     "for": "there is no `for`: write a `while`",
@@ -214,6 +212,8 @@ def _unknown(outline: Outline, proc: ProcOutline, word: str, span: Span, calls: 
         names = [it.name.name for it in outline.procs if it.name.span.start < proc.name.span.start]
     else:
         names = list(proc.named)
+    from difflib import get_close_matches  # wanted only where something is wrong
+
     meant = tuple(get_close_matches(word, names, 3, 0.6))
     hint = f"; did you mean {' or '.join(f'`{it}`' for it in meant)}?" if meant else ""
     what = "procedure" if calls else "variable"

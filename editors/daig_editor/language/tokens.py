@@ -15,6 +15,7 @@ RESERVED = frozenset(
 )
 RELATIONS = ("==", "!=", "<", "<=", ">", ">=")
 KINDS = ("int", "array", "list")
+GREATEST_SOURCE = 1_048_576
 LONGEST_NAME = 32
 GREATEST_NUMBER = 2**63 - 1
 NUMBER_DIGITS = 19

@@ -3,14 +3,11 @@ from __future__ import annotations
 
 import os
 import shutil
-from pathlib import Path
 
+from daig_editor.server.choices import DOMAIN, DOMAINS, WIDENINGS, found_program
 from daig_editor.server.process import Settings
 from daig_editor.server.watching import Options
 
-DOMAINS = ("interval", "octagon", "listseg", "interval+listseg", "octagon+listseg")
-WIDENINGS = ("plain", "thresholds")
-DOMAIN = "octagon+listseg"
 NAMES = ("daig", "domain", "widening", "delay", "budget", "memory", "patience", "runs", "compareEvery")
 MOST_MEMORY = 2**20
 
@@ -93,12 +90,3 @@ def _is_relative(given: str) -> bool:
     """Whether a path is one from the present folder."""
     path = os.path.expanduser(given)
     return os.sep in path and not os.path.isabs(path)
-
-
-def found_program() -> str | None:
-    """The program where no setting names it: the environment's, else the repository's, else as the shell finds it."""
-    named = os.environ.get("DAIG_PROGRAM")
-    if named:
-        return named
-    beside = Path(__file__).resolve().parents[3] / "daig"
-    return str(beside) if beside.is_file() and os.access(beside, os.X_OK) else shutil.which("daig")

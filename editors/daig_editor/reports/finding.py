@@ -1,7 +1,6 @@
 """What is told of a file: findings, counts and states; and the fingerprint by which a finding is known again."""
 from __future__ import annotations
 
-import hashlib
 import json
 from dataclasses import dataclass, field, fields
 from enum import Enum
@@ -124,6 +123,8 @@ class CheckedFile:
 
     def fingerprint(self, finding: Finding) -> str:
         """By what a finding of this file is known again: of file, procedure, printed statement, check and ordinal."""
+        import hashlib  # loads much, and few formats have fingerprints
+
         words = json.dumps([self.path.path, *finding.key])
         return hashlib.sha256(words.encode()).hexdigest()[:32]
 

@@ -13,14 +13,13 @@ import traceback
 from daig_editor.language.outline import Outline
 from daig_editor.language.places import Shift, SourceText
 from daig_editor.language.refusals import (
-    GREATEST_SOURCE,
     Refusal,
     refusal_of_fault,
     refusal_of_reply,
     refusal_of_size,
 )
 from daig_editor.language.text import TextReader
-from daig_editor.language.tokens import Fault
+from daig_editor.language.tokens import GREATEST_SOURCE, Fault
 from daig_editor.language.tree import Placed, Program, Span
 from daig_editor.server.asking import Asker, GivenUp, Outdated
 from daig_editor.server.calls import CallChoice

@@ -11,7 +11,7 @@ import time
 from collections import deque
 from dataclasses import dataclass
 
-from daig_editor.language.refusals import GREATEST_SOURCE
+from daig_editor.language.tokens import GREATEST_SOURCE
 from daig_editor.server.child import Child, started
 from daig_editor.server.ending import within
 

@@ -1,0 +1,19 @@
+"""What a server can be started with, and which program it is where none is named."""
+from __future__ import annotations
+
+import os
+import shutil
+
+DOMAINS = ("interval", "octagon", "listseg", "interval+listseg", "octagon+listseg")
+WIDENINGS = ("plain", "thresholds")
+DOMAIN = "octagon+listseg"
+_TOP = os.path.dirname(os.path.dirname(os.path.dirname(os.path.dirname(os.path.realpath(__file__)))))
+
+
+def found_program() -> str | None:
+    """The program where nothing names it: the environment's, else the repository's, else as the shell finds it."""
+    named = os.environ.get("DAIG_PROGRAM")
+    if named:
+        return named
+    beside = os.path.join(_TOP, "daig")
+    return beside if os.path.isfile(beside) and os.access(beside, os.X_OK) else shutil.which("daig")
