@@ -77,6 +77,30 @@ def test_fingerprints() -> None:
     assert [it["fingerprint"] for it in first_mended] == [it["fingerprint"] for it in before[1::2]]
 
 
+def test_each_call() -> None:
+    """Of a check that may fail in one of several calls, what is known in each is told."""
+    begin = "proc f(x: int) {\n  assert x < 9;\n}\nproc main() {\n  var x: int;\n"
+    with folder(a_imp=begin + "  call f(1);\n  x = input;\n  call f(x);\n}\n", b_imp=begin + "  x = input;\n  call f(x);\n  call f(x);\n}\n") as here:
+        told = check("a.imp", where=here).out.splitlines()
+        assert told[4:6] == ["      = called from line 6: x = 1", "      = called from line 8: anything"], told
+        assert "called from" not in check("b.imp", where=here).out, "both calls are alike"
+
+
+def test_many_cases() -> None:
+    """A state of many cases has a line for each."""
+    text = (
+        "proc main() {\n  var p: list;\n  var q: list;\n  var r: list;\n  var x: int;\n  x = input;\n"
+        "  if (x == 1) {\n    p = new;\n  }\n  if (x == 2) {\n    q = new;\n  }\n  if (x == 3) {\n    r = new;\n  }\n"
+        "  x = r.item;\n}\n"
+    )
+    with folder(a_imp=text) as here:
+        told = check("a.imp", where=here).out.splitlines()
+        first = next(k for k, it in enumerate(told) if it.endswith(" cases:"))
+        many = int(told[first].split()[-2])
+        assert many > 2 and all(it.startswith("      =   ") for it in told[first + 1 : first + 1 + many]), told
+        assert len(told[first + 1 + many].split("      =   ")) == 1, told
+
+
 def test_bounds() -> None:
     """A finding that depends on much tells so many places, and how many there are; of many findings the first tell any."""
     begin = "proc main() {\n  var x: int;\n  var s: int;\n"

@@ -220,7 +220,7 @@ def test_progress() -> None:
         ours, theirs = pty.openpty()
         environment = {**os.environ, "DAIG_PROGRAM": program(), "TERM": "xterm"}
         environment.pop("NO_COLOR", None)
-        words = [sys.executable, str(TOP / "daig-check"), "a.imp", "b.imp"]
+        words = [sys.executable, str(TOP / "daig-check"), "--try", "0", "a.imp", "b.imp"]
         with subprocess.Popen(words, cwd=here, env=environment, stdin=theirs, stdout=theirs, stderr=theirs) as process:
             assert process.wait(60) == 1
         os.close(theirs)

@@ -31,6 +31,8 @@ from daig_editor.server.trying import FAULTS, FUEL, Failure, failing_runs, input
 MOST_WHY = 200
 # A run has so many steps at most where arrays are made again and again, each of which may take as long as a thousand.
 FUEL_OF_ARRAYS = 2_000
+# What is known in each call of a procedure is told for so many findings of a file, where there are at most so many calls.
+MOST_BY_CALL, MOST_CALLS = 50, 8
 # The check and the verdict that each statement had, by its number now.
 OldVerdicts = Mapping[int, tuple[str, str]]
 
@@ -132,6 +134,10 @@ class _Analysis:
         self._fails: dict[int, tuple[int, ...]] = {}
         self._asked_why = 0
         self._relevance = Relevance(served.places)
+        self._calls: dict[str, list[int]] = {}
+        for number, place in served.places.items():
+            if place.stmt.callee:
+                self._calls.setdefault(place.stmt.callee, []).append(number)
 
     async def run(self) -> None:
         """Asks for all."""
@@ -215,10 +221,25 @@ class _Analysis:
             key,
             known,
             causes=tuple(places[it].placed.head for it in self._relevance.ordered(number, set(why) - {number})),
-            notes=((FAILS_ALWAYS,) if after == NEVER_REACHED else ()) + self._old_notes(verdict),
+            notes=(
+                *await self._by_call(number),
+                *((FAILS_ALWAYS,) if after == NEVER_REACHED else ()),
+                *self._old_notes(verdict),
+            ),
             inputs=inputs,
             number=number,
         )
+
+    async def _by_call(self, number: int) -> list[str]:
+        """What is known before a statement in each call of its procedure, where that differs."""
+        calls = self._calls.get(self._served.places[number].proc.name, [])
+        if not 2 <= len(calls) <= MOST_CALLS or self._asked_why > MOST_BY_CALL or not self._wanted.causes:
+            return []
+        states = [await self._served.state(f"before {number}", it) for it in calls]
+        if len({state_words(it) for it in states}) == 1:
+            return []
+        lines = [(self._line(call), state_words(state)) for call, state in zip(calls, states) if state != NEVER_REACHED]
+        return [f"called from line {line}: {words}" for line, words in lines]
 
     def _old_notes(self, verdict: Verdict) -> tuple[str, ...]:
         """What the check was before a change, where it was something else."""

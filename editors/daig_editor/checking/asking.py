@@ -60,9 +60,10 @@ class Served:
         self.program = program
         self.places = {it.stmt.number: Place(proc, it) for proc in program.procs for it in proc.placed()}
 
-    async def state(self, at: str) -> State:
-        """What is known at a location: in words, or the loop that used up its budget."""
-        reply = await self.server.ask(do="state", at=at)
+    async def state(self, at: str, call: int | None = None) -> State:
+        """What is known at a location, of all calls or from one alone: in words, or the loop that used up its budget."""
+        string = [] if call is None else [call]
+        reply = await self.server.ask(do="state", at=at, string=string)
         if "over" in reply:
             return self._over(reply)
         if reply.get("refused") == 10:

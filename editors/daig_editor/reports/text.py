@@ -12,6 +12,8 @@ from daig_editor.reports.shown import shown, width
 COLOURS = {Level.ERROR: "1;31", Level.WARNING: "1;35", Level.NOTE: "1;36"}
 # So many lines that a finding depends on are told; JSON has all.
 MOST_LINES = 12
+# Between the cases of a state; so many stand in one line, and so many are told at most.
+CASES, MOST_IN_LINE, MOST_CASES = " or ", 2, 12
 BOLD, GREEN = "1", "1;32"
 
 
@@ -67,13 +69,25 @@ def heading(checked: CheckedFile, finding: Finding, colour: bool = False) -> str
 
 def details(source: SourceText, finding: Finding) -> Iterator[str]:
     """What is said below a finding."""
-    yield from (f"known here: {it}" for it in finding.known)
+    yield from (line for it in finding.known for line in _known(it))
     lines = lines_of(source, finding.causes)
     if lines:
         more = f" and {len(lines) - MOST_LINES} more" if len(lines) > MOST_LINES else ""
         yield f"depends on line{'s' if len(lines) > 1 else ''} {', '.join(map(str, lines[:MOST_LINES]))}{more}"
     yield from (f"{words}: line {source.line_of(span.start) + 1}" for span, words in finding.related)
     yield from finding.notes
+
+
+def _known(state: str) -> Iterator[str]:
+    """What is known, in a line, or in one for each case where there are many."""
+    cases = state.split(CASES)
+    if len(cases) <= MOST_IN_LINE:
+        yield f"known here: {state}"
+        return
+    yield f"known here, one of {len(cases)} cases:"
+    yield from (f"  {it}" for it in cases[:MOST_CASES])
+    if len(cases) > MOST_CASES:
+        yield f"  and {len(cases) - MOST_CASES} more"
 
 
 def _marked(source: SourceText, finding: Finding) -> tuple[str, str]:
