@@ -1,0 +1,4 @@
+pub mod Verdicts
+pub mod Statements
+pub mod Report
+pub mod Theorem
