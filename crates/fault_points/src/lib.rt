@@ -1,4 +1,4 @@
-//! The faults with which a statement or a condition can end a run, and when each comes.
+//! The faults that can end a run, and when each comes.
 //!
 //! A *fault point* is a place of the evaluation that can end a run: an operator, a sign, a divisor, a length,
 //! an index, a link, a claim. It has the kind of its fault, and a condition that is false exactly where the

@@ -1,5 +1,5 @@
 -- States that are answered fit the layout of their location's procedure, and describe the configurations there.
-use Rattle.std.specs.Prelude.{◌≡◌, ℕ, List, [], ◌∷◌, length, map, reverse, slice_get, Option, Some, None, Bool, true, false, if◌then◌else◌, nat_lt}
+use Rattle.std.specs.Prelude.{◌≡◌, ℕ, List, [], ◌∷◌, length, map, reverse, slice_get, Option, Some, None, Bool, true, false, if◌then◌else◌}
 use Rattle.std.proofs.Common.{refl, sym, ap, ◌∙◌, arith, subst}
 use Rattle.std.specs.Str.{bytes_eq}
 use Rattle.std.proofs.lemmas.Slice.Eq.{bytes_eq-Decides}
@@ -11,13 +11,13 @@ use Rattle.concrete_sem.specs.Values.{Variables, Heap}
 use Rattle.concrete_sem.specs.Steps.{Work, Ret, Do, Done, Test, Frame, In}
 use Rattle.concrete_sem.specs.Reach.{location_of}
 use Rattle.concrete_sem.specs.Proper.{IsProper}
-use Rattle.imp_chains.specs.Chains.{chains, ends_in, selected, holder, named, is_while}
+use Rattle.imp_chains.specs.Chains.{chains, selected, holder, named, is_while}
 use Rattle.imp_chains.specs.Thresholds.{thresholds}
 use Rattle.imp_chains.specs.Claims.{PlacesAreFound}
 use Rattle.domain_laws.specs.Operations.{Operations}
 use Rattle.domain_laws.specs.Laws.{Laws}
 use Rattle.imp_words.specs.declared.refusal.QueryRefusal.{QueryRefusal}
-use Rattle.imp_words.specs.declared.refusal.QueryRefusal.TheVariants.{LongString, NoProcedure, NoStatement, NoChain}
+use Rattle.imp_words.specs.declared.refusal.QueryRefusal.TheVariants.{NoProcedure, NoStatement, NoChain}
 use Rattle.batch_meaning.specs.Values.{Value, State, lift}
 use Rattle.batch_meaning.specs.Batch.{LoopOptions, calls_of}
 use Rattle.batch_meaning.specs.Places.{Spot, spots, find, from, main_layout, if_some, head_value, value_in, entered, entry, value_at}

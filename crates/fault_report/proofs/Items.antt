@@ -1,10 +1,10 @@
 -- The statement on top of a frame's work is one of the program, and has its number alone.
-use Rattle.std.specs.Prelude.{◌≡◌, ◌≢◌, ℕ, zero, suc, List, [], ◌∷◌, ◌++◌, slice_get, Option, Some, None, Bool, true, false, if◌then◌else◌, ◌⊎◌, option_map, MatchOption}
-use Rattle.std.proofs.Common.{refl, sym, ap, ◌∙◌, subst, inl, inr, arith, append_assoc}
+use Rattle.std.specs.Prelude.{◌≡◌, ℕ, zero, suc, List, [], ◌∷◌, ◌++◌, slice_get, Option, Some, None, Bool, true, false, if◌then◌else◌, option_map}
+use Rattle.std.proofs.Common.{refl, sym, ap, ◌∙◌, subst}
 use Rattle.imp_syntax.specs.declared.edit.Location.{Location}
 use Rattle.imp_syntax.specs.declared.edit.Location.TheVariants.{Before, After, Head, End}
 use Rattle.imp_slots.specs.Plain.{Layout, Guard, Effect, Invoke, Code, Stop, Simple, If, While, Call, Break, Routine, code_numbers}
-use Rattle.imp_slots.specs.Fits.{Absent, Distinct, IsChecked, FitsCode, FitsCall, fits_guard, routine_numbers}
+use Rattle.imp_slots.specs.Fits.{Absent, Distinct, IsChecked, FitsCode, fits_guard, routine_numbers}
 use Rattle.imp_words.specs.declared.fault.FaultKind.{FaultKind}
 use Rattle.concrete_sem.specs.Values.{Variables, Heap, Attempt, Gives, Faults, LacksInput}
 use Rattle.concrete_sem.specs.Evaluation.{truth_of}
@@ -16,7 +16,6 @@ use Rattle.concrete_sem.specs.WellFormed.{StandsIn, whole, behind_simple, then_b
 use Rattle.batch_sound.proofs.Fitting.{callee}
 use Rattle.base_values.proofs.Members.{Member, here, there, in_left, in_right}
 use Rattle.std.proofs.lemmas.Option.{same_Some}
-use Rattle.fault_points.specs.declared.point.FaultPoint.{FaultPoint}
 use Rattle.fault_points.specs.Points.{guard_points, effect_points, argument_points}
 use Rattle.fault_points.specs.Exact.{NoneFails, SomeFails, AreExact, ExactIn}
 use Rattle.fault_points.proofs.Fitting.{ClaimsFit, guards_fit, effects_fit, calls_fit}

@@ -1,6 +1,6 @@
 -- What verdicts at a state say of what the state describes.
-use Rattle.std.specs.Prelude.{◌≡◌, ℕ, ◌==◌, List, [], ◌∷◌, ◌++◌, Bool, true, false, ◌||◌, if◌then◌else◌, ◌⊎◌}
-use Rattle.std.proofs.Common.{refl, sym, ap, ◌∙◌, subst, inl, inr, arith}
+use Rattle.std.specs.Prelude.{◌≡◌, ℕ, ◌==◌, List, [], ◌∷◌, ◌++◌, Bool, true, false, if◌then◌else◌, ◌⊎◌}
+use Rattle.std.proofs.Common.{refl, sym, ap, ◌∙◌, subst, inl, inr}
 use Rattle.std.proofs.lemmas.Bool.{eqb-true, eq-eqb, or_cases}
 use Rattle.imp_slots.specs.Plain.{Layout, Guard, Not, Assert, Does}
 use Rattle.imp_slots.specs.Fits.{fits_guard, fits_effect}
@@ -8,7 +8,7 @@ use Rattle.imp_words.specs.declared.fault.FaultKind.{FaultKind}
 use Rattle.imp_words.specs.declared.fault.FaultKind.TheVariants.{Overflow, Zero, Length, Index, Null, Assert as Failed}
 use Rattle.imp_words.specs.declared.verdict.Verdict.{Verdict}
 use Rattle.imp_words.specs.declared.verdict.Verdict.TheVariants as of_check
-use Rattle.concrete_sem.specs.Values.{Variables, Heap, Attempt, Gives, Faults, andthen}
+use Rattle.concrete_sem.specs.Values.{Variables, Heap, Gives, Faults, andthen}
 use Rattle.concrete_sem.specs.Evaluation.{truth_of}
 use Rattle.concrete_sem.specs.Effects.{effect_of}
 use Rattle.concrete_sem.specs.Proper.{IsProper}

@@ -1,15 +1,14 @@
 -- What reports of faults say of runs.
-use Rattle.std.specs.Prelude.{◌≡◌, ℕ, zero, suc, ℤ, List, [], ◌∷◌, ◌++◌, map, reverse, slice_get, Option, Some, None, MatchOption, All, Contains, ◌⊎◌}
+use Rattle.std.specs.Prelude.{◌≡◌, ℕ, zero, suc, ℤ, List, [], ◌∷◌, reverse, slice_get, Some, All, Contains, ◌⊎◌}
 use Rattle.std.proofs.Common.{refl, sym, ap, ◌∙◌, subst, inl, inr}
-use Rattle.imp_syntax.specs.declared.edit.Location.{Location}
-use Rattle.imp_slots.specs.Plain.{Layout, Routine}
+use Rattle.imp_slots.specs.Plain.{Routine}
 use Rattle.imp_slots.specs.Fits.{IsChecked}
 use Rattle.imp_words.specs.declared.fault.FaultKind.{FaultKind}
 use Rattle.imp_words.specs.declared.refusal.QueryRefusal.TheVariants.{LongString, NoProcedure, NoStatement, WrongStatement, NoChain}
 use Rattle.imp_chains.specs.Claims.{PlacesAreFound}
 use Rattle.concrete_sem.specs.Values.{Variables, Heap, IsWord}
-use Rattle.concrete_sem.specs.Steps.{Work, Frame, In, Config, Step, Next, Faulted, step_frames, step, start}
-use Rattle.concrete_sem.specs.Reach.{location_of, standing, after_steps, Reach}
+use Rattle.concrete_sem.specs.Steps.{Work, Frame, In, Config, Next, Faulted, step_frames, step, start}
+use Rattle.concrete_sem.specs.Reach.{standing, after_steps}
 use Rattle.concrete_sem.specs.WellFormed.{IsWork, IsWellFormed, DoTheirWork}
 use Rattle.concrete_sem.specs.Claims.{StepsKeepForm, StartIsWellFormed}
 use Rattle.concrete_sem.proofs.Programs.{from_match}
@@ -24,7 +23,7 @@ use Rattle.batch_sound.proofs.Reached.{same_in_turn, reached_good}
 use Rattle.batch_sound.proofs.Unique.{made}
 use Rattle.base_values.proofs.Members.{Member, here, there, in_left, in_right, in_map, either, contains_of, member_of}
 use Rattle.std.proofs.lemmas.Option.{same_Some}
-use Rattle.fault_points.specs.Exact.{NoneFails, SomeFails, PointsAreExact}
+use Rattle.fault_points.specs.Exact.{SomeFails, PointsAreExact}
 use Rattle.fault_report.specs.declared.finding.FaultVerdict.{FaultVerdict}
 use Rattle.fault_report.specs.declared.finding.FaultVerdict.TheVariants.{Dead, Safe, May, Fails}
 use Rattle.fault_report.specs.declared.finding.FaultFinding.{FaultFinding}
@@ -32,7 +31,7 @@ use Rattle.fault_report.specs.declared.statement.Evaluated.{Evaluated}
 use Rattle.fault_report.specs.Verdicts.{verdict_of, kinds_of}
 use Rattle.fault_report.specs.Statements.{evaluated_statements, place_of}
 use Rattle.fault_report.specs.Report.{verdict_in, fault_finding, findings_by, findings_of, faults}
-use Rattle.fault_report.specs.Theorem.{Comes, IsFaultSound, IsTold, NoneWarns, IsReportSound, AreFaultsSound}
+use Rattle.fault_report.specs.Theorem.{Comes, IsTold, NoneWarns, IsReportSound, AreFaultsSound}
 use Rattle.fault_report.proofs.Judged.{kind_told, safe_of, dead_of, fails_of}
 use Rattle.fault_report.proofs.Items.{Evaluates, located, belongs, in_program, exactly, faulting, standing_at, one_of_number}
 use Rattle.fault_report.proofs.Fitted.{good_topped, good_described, good_chain}

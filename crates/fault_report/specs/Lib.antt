@@ -1,4 +1,5 @@
 pub mod Verdicts
 pub mod Statements
 pub mod Report
+pub mod Known
 pub mod Theorem

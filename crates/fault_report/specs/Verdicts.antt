@@ -1,5 +1,5 @@
 -- What a state says of fault points.
-use Rattle.std.specs.Prelude.{ℕ, ◌==◌, List, [], ◌∷◌, ◌++◌, Bool, true, false, ◌||◌, if◌then◌else◌}
+use Rattle.std.specs.Prelude.{ℕ, ◌==◌, List, [], ◌∷◌, ◌++◌, Bool, false, ◌||◌, if◌then◌else◌}
 use Rattle.imp_slots.specs.Plain.{Guard, Not, Assert, Does}
 use Rattle.imp_words.specs.declared.fault.FaultKind.{FaultKind}
 use Rattle.imp_words.specs.declared.fault.FaultKind.TheVariants.{Overflow, Zero, Length, Index, Null, Assert as Failed}

@@ -1,4 +1,4 @@
-//! The report of faults: every fault that a run can end with, and what is known of it.
+//! What is known of every fault that can end a run.
 //!
 //! [`fault_report`] gives a verdict for each statement and each kind of fault that its evaluation has points
 //! of (`fault_points`): in preorder, of one statement in the order in which the kinds come. A point is judged by
@@ -15,10 +15,12 @@
 
 mod collect;
 mod finding;
+mod report;
 mod sound;
 mod statement;
 mod verdicts;
 
 pub use finding::{FaultFinding, FaultFindings, FaultVerdict};
+pub use report::fault_report;
 pub use sound::faults_are_sound;
 pub use statement::Evaluated;
