@@ -1,0 +1,20 @@
+use Rattle.std.proofs.Common.{◌≡◌, [], drop, Some, sym, subst, arith}
+use Rattle.std.proofs.lemmas.List.{drop_all}
+use Rattle.std.proofs.lemmas.Result.{on_ok_weaker}
+use Rattle.serde.specs.Event.{Logs, seq_begins}
+use Rattle.serde_json.specs.Events.{SendsItems}
+use Rattle.request_json.specs.Replies.{items_of}
+use Rattle.fault_lines.specs.Line.{finding_data}
+use Rattle.request_json.proofs.SendingLemmas.{count_items}
+use Rattle.fault_lines.proofs.writing.send_findings.Goals as goal
+
+pub returns : goal.returns
+returns g c =
+    let xs = c.args.findings.now in
+    let first = g.S.Serializer.written c.begin_seq.new.self in
+    let end = g.S.Serializer.written c.end_seq.new.self in
+    let begun = subst (λ n. Logs (g.S.Serializer.written c.args.out.now) first (seq_begins (Some n))) (sym (count_items finding_data xs)) c.in_ok-begin_seq.ensures in
+    let none : drop c.loop-finding.finding-index xs ≡ [] = drop_all c.loop-finding.finding-index xs (omega arith) in
+    record {
+      list = on_ok_weaker c.end_seq.result (λ e. (first, begun, c.loop-finding.invariant end (subst (λ ys. SendsItems (items_of finding_data ys) (g.S.Serializer.written c.loop-finding.out) end) (sym none) e))) c.end_seq.ensures;
+    }
