@@ -7,7 +7,7 @@ use Rattle.serve_script.proofs.LineLemmas.{whole_lines-append}
 use Rattle.serve_command.specs.declared.job.DomainName.{DomainName}
 use Rattle.serve_command.specs.declared.job.Job.{Job}
 use Rattle.serve_command.specs.declared.job.Job.TheVariants as job
-use Rattle.serve_command.specs.declared.job.Task.TheVariants.{Serve, Batch, Cert, Verify}
+use Rattle.serve_command.specs.declared.job.Task.TheVariants.{Serve, Batch, Faults, Cert, Verify}
 use Rattle.serve_answers.specs.Fine.{opening}
 use Rattle.serve_answers.specs.Lines.{Served, server}
 use Rattle.serve_answers.specs.Readings.{Readings}
@@ -50,6 +50,7 @@ answered_by_words readings (Some (job.File file (Serve settings memo))) folder p
     let given = of_program readings (folder file) program (λ other. done (served_bytes settings.domain (opening readings (engine_of settings) other) script)) is in
     answered_alike wrote.domain settings.domain wrote.first first script taken rest written (sym wrote.is ∙ ap (λ (o : Output). o.bytes) given) wrote.answered
 answered_by_words readings (Some (job.File file (Batch settings))) folder program script taken rest written is serves wrote = absurd serves
+answered_by_words readings (Some (job.File file (Faults settings))) folder program script taken rest written is serves wrote = absurd serves
 answered_by_words readings (Some (job.File file (Cert domain widening budget))) folder program script taken rest written is serves wrote = absurd serves
 answered_by_words readings (Some (job.File file (Verify domain cert))) folder program script taken rest written is serves wrote = absurd serves
 answered_by_words readings (Some (job.Gen seed size domain)) folder program script taken rest written is serves wrote = absurd serves

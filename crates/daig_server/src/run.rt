@@ -12,7 +12,7 @@ use crate::work::serve_program;
 use base_counter::Steps;
 use io_edge::{Failed, Files, Sink, Source};
 use serve_command::{Job, Task, WordsError, read_words};
-use serve_output::{Status, batch, certificate, load_table, verified, write_given};
+use serve_output::{Status, batch, certificate, faults, load_table, verified, write_given};
 use serve_script::write_all;
 use std::alloc::Global;
 use std::sync::ledger::Ledger;
@@ -72,6 +72,10 @@ pub(crate) fn run<F: Files, I: Source, O: Sink, L: Ledger>(
             },
             Task::Batch { settings } => {
                 let given = batch(alloc, &settings, file.as_str(), files, steps);
+                write_given(alloc, given, out)
+            }
+            Task::Faults { settings } => {
+                let given = faults(alloc, &settings, file.as_str(), files, steps);
                 write_given(alloc, given, out)
             }
             Task::Cert {

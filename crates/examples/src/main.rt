@@ -31,9 +31,23 @@ const SERVED: [(&str, &str); 14] = [
 ];
 
 /// The files of rows.
-const ROWS: [&str; 15] = [
-    "states", "calls", "edits", "tickets", "undo", "runs", "lines", "domains", "batches", "certs",
-    "sources", "texts", "faults", "words", "why",
+const ROWS: [&str; 16] = [
+    "states",
+    "calls",
+    "edits",
+    "tickets",
+    "undo",
+    "runs",
+    "lines",
+    "domains",
+    "batches",
+    "fault_reports",
+    "certs",
+    "sources",
+    "texts",
+    "faults",
+    "words",
+    "why",
 ];
 
 /// Runs an example, and tells whether it ends with 0 and writes exactly what it is to write. A file that is not

@@ -8,7 +8,7 @@ use Rattle.serve_command.specs.declared.job.Job.{Job}
 use Rattle.serve_command.specs.declared.job.Task.{Task}
 use Rattle.serve_command.specs.declared.job.Task.TheVariants as task
 use Rattle.serve_command.specs.Values.{number_in, domain_of, single_of}
-use Rattle.serve_command.specs.Jobs.{batch_in, both, cert_in, gen_in, gen_with, job_in, job_with, most_seed, serve_in, settings_in, task_with, value_in, verify_in, widening_in, IsBounded, Remembers}
+use Rattle.serve_command.specs.Jobs.{batch_in, both, cert_in, faults_in, gen_in, gen_with, job_in, job_with, most_seed, serve_in, settings_in, task_with, value_in, verify_in, widening_in, IsBounded, Remembers}
 
 then_some : {A B : Type 0} (f : A → Option B) (o : Option A) (b : B) → option_and_then f o ≡ Some b → (a : A) × (o ≡ Some a) × (f a ≡ Some b)
 then_some f (Some a) b is = (a, refl, is)
@@ -53,6 +53,9 @@ remembers_serve rows t is =
 remembers_batch : (rows : List Row) (t : Task) → batch_in rows ≡ Some t → Remembers t
 remembers_batch rows t is = let made = map_some task.Batch (settings_in rows) t is in subst Remembers made.2 tt
 
+remembers_faults : (rows : List Row) (t : Task) → faults_in rows ≡ Some t → Remembers t
+remembers_faults rows t is = let made = map_some task.Faults (settings_in rows) t is in subst Remembers made.2 tt
+
 remembers_cert : (rows : List Row) (t : Task) → cert_in rows ≡ Some t → Remembers t
 remembers_cert rows t is =
     let budget = value_in (number_in 1 10000) (codes "budget") rows in
@@ -87,7 +90,8 @@ command_bounded : (command : Text × List Row) (j : Job) → job_in command ≡ 
 unfolding job_in
 command_bounded command j is =
     let rows = command.1 in
-    let verifies = chosen (bytes_eq command.0 (codes "verify")) (task_with (verify_in rows) rows) None j (task_bounded (verify_in rows) rows j (remembers_verify rows)) (no_job j) in
+    let tells = chosen (bytes_eq command.0 (codes "faults")) (task_with (faults_in rows) rows) None j (task_bounded (faults_in rows) rows j (remembers_faults rows)) (no_job j) in
+    let verifies = chosen (bytes_eq command.0 (codes "verify")) (task_with (verify_in rows) rows) _ j (task_bounded (verify_in rows) rows j (remembers_verify rows)) tells in
     let certifies = chosen (bytes_eq command.0 (codes "cert")) (task_with (cert_in rows) rows) _ j (task_bounded (cert_in rows) rows j (remembers_cert rows)) verifies in
     let generates = chosen (bytes_eq command.0 (codes "gen")) (gen_in rows) _ j (gen_bounded rows j) certifies in
     let batches = chosen (bytes_eq command.0 (codes "batch")) (task_with (batch_in rows) rows) _ j (task_bounded (batch_in rows) rows j (remembers_batch rows)) generates in

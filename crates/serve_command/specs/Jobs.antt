@@ -42,6 +42,9 @@ serve_in rows = both task.Serve (settings_in rows) (value_in (number_in 1 65536)
 abbrev pub batch_in : List Row → Option Task
 batch_in rows = option_map task.Batch (settings_in rows)
 
+abbrev pub faults_in : List Row → Option Task
+faults_in rows = option_map task.Faults (settings_in rows)
+
 abbrev pub cert_in : List Row → Option Task
 cert_in rows =
     option_and_then (λ domain. both (task.Cert domain) (widening_in rows) (value_in (number_in 1 10000) (codes "budget") rows))
@@ -77,7 +80,8 @@ job_in command =
     else (if bytes_eq command.0 (codes "gen") then gen_in command.1
     else (if bytes_eq command.0 (codes "cert") then task_with (cert_in command.1) command.1
     else (if bytes_eq command.0 (codes "verify") then task_with (verify_in command.1) command.1
-    else None))))
+    else (if bytes_eq command.0 (codes "faults") then task_with (faults_in command.1) command.1
+    else None)))))
 
 -- The job of the words, of which the first is the program's own name: that of the command that they name, where
 -- `clap` finds no fault in them and each value is in form.
@@ -88,6 +92,7 @@ job_of words = if is_empty (fault_of daig_app words) then option_and_then job_in
 abbrev pub Remembers : Task → Type 0
 Remembers (task.Serve settings memo) = 1 ≤ memo
 Remembers (task.Batch settings) = Unit {0}
+Remembers (task.Faults settings) = Unit {0}
 Remembers (task.Cert domain widening budget) = Unit {0}
 Remembers (task.Verify domain cert) = Unit {0}
 

@@ -58,6 +58,9 @@ analysis_shape name = record (new_shape name) { rules = domain_rule ∷ widening
 abbrev pub batch_shape : Shape
 batch_shape = analysis_shape (codes "batch")
 
+abbrev pub faults_shape : Shape
+faults_shape = analysis_shape (codes "faults")
+
 abbrev pub gen_shape : Shape
 gen_shape = record (new_shape (codes "gen")) { rules = domain_rule ∷ seed_rule ∷ size_rule ∷ [] }
 
@@ -70,7 +73,7 @@ verify_shape = record (new_shape (codes "verify")) { rules = domain_rule ∷ fil
 abbrev pub daig_app : App
 daig_app = record {
   top = record (new_shape (codes "daig")) { is_leaf = false; disable_help_flag = true; disable_help_subcommand = true };
-  subs = serve_shape ∷ batch_shape ∷ gen_shape ∷ cert_shape ∷ verify_shape ∷ [];
+  subs = serve_shape ∷ batch_shape ∷ gen_shape ∷ cert_shape ∷ verify_shape ∷ faults_shape ∷ [];
 }
 
 -- a command with none below it

@@ -43,6 +43,11 @@ pub enum Task {
         /// How the program is analysed.
         settings: AnalysisOptions,
     },
+    /// What is known of every fault that a run can end with is written.
+    Faults {
+        /// How the program is analysed.
+        settings: AnalysisOptions,
+    },
     /// The states at the heads of its loops are written, as the lines of a certificate.
     Cert {
         /// What is known of variables.

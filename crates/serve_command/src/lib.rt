@@ -3,6 +3,7 @@
 //! ```text
 //! daig serve [--domain interval] [--widening plain|thresholds] [--delay D] [--budget N] [--memo N] FILE
 //! daig batch [--domain interval] [--widening plain|thresholds] [--delay D] [--budget N] FILE
+//! daig faults [--domain interval] [--widening plain|thresholds] [--delay D] [--budget N] FILE
 //! daig gen --seed N --size N [--domain interval]
 //! daig cert [--domain interval] [--widening plain|thresholds] [--delay D] [--budget N] FILE
 //! daig verify [--domain interval] FILE CERT

@@ -100,7 +100,7 @@ fn serve<'a>(alloc: Global) -> Made<'a>
     with_word(alloc, command, "FILE")
 }
 
-/// The command of this name, which analyses the program of a file: `batch`, or `cert`.
+/// The command of this name, which analyses the program of a file: `batch`, `cert` or `faults`.
 fn analyses<'a>(alloc: Global, name: &'a str) -> Made<'a>
     ensures makes { Makes result (alone (analysis_shape name.entry.now)) }
 {
@@ -157,5 +157,6 @@ pub(crate) fn daig<'a>(alloc: Global) -> Made<'a>
     let command = with_command(command, analyses(alloc, "batch"));
     let command = with_command(command, generates(alloc));
     let command = with_command(command, analyses(alloc, "cert"));
-    with_command(command, verifies(alloc))
+    let command = with_command(command, verifies(alloc));
+    with_command(command, analyses(alloc, "faults"))
 }

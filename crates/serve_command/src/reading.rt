@@ -8,7 +8,7 @@ ghost use Rattle.clap.specs.Faults.{fault_of};
 ghost use Rattle.clap.specs.Matches.{found_of};
 ghost use Rattle.serve_command.specs.Line.{daig_app};
 ghost use Rattle.serve_command.specs.Values.{number_in, domain_of, single_of, thresholds_of};
-ghost use Rattle.serve_command.specs.Jobs.{value_in, widening_in, settings_in, serve_in, batch_in, gen_in, cert_in, verify_in, task_with, job_in, job_of, IsBounded};
+ghost use Rattle.serve_command.specs.Jobs.{value_in, widening_in, settings_in, serve_in, batch_in, faults_in, gen_in, cert_in, verify_in, task_with, job_in, job_of, IsBounded};
 
 use crate::error::WordsError;
 use crate::job::{AnalysisOptions, DomainName, FileName, Job, SingleDomain, Task};
@@ -151,6 +151,16 @@ fn batch_at(matches: &ArgMatches<'_>) -> Option<Task>
     }
 }
 
+/// The task of `faults`.
+fn faults_at(matches: &ArgMatches<'_>) -> Option<Task>
+    ensures task { result ≡ faults_in (rows_of (found_of matches.now)) }
+{
+    match settings_at(matches) {
+        Some(settings) => Some(Task::Faults { settings }),
+        None => None,
+    }
+}
+
 /// The task of `cert`.
 fn cert_at(matches: &ArgMatches<'_>) -> Option<Task>
     ensures task { result ≡ cert_in (rows_of (found_of matches.now)) }
@@ -231,6 +241,7 @@ fn job_at(alloc: Global, name: &str, matches: &ArgMatches<'_>) -> Result<Option<
             let task = verify_at(alloc, matches)?;
             task_at(alloc, matches, task)
         }
+        "faults" => task_at(alloc, matches, faults_at(matches)),
         _ => Ok(None),
     }
 }

@@ -13,7 +13,7 @@ use Rattle.serve_command.specs.declared.job.Job.{Job}
 use Rattle.serve_command.specs.declared.job.Job.TheVariants as job
 use Rattle.daig_gen.specs.Source as generated
 use Rattle.serve_command.specs.declared.job.Task.{Task}
-use Rattle.serve_command.specs.declared.job.Task.TheVariants.{Serve, Batch, Cert, Verify}
+use Rattle.serve_command.specs.declared.job.Task.TheVariants.{Serve, Batch, Faults, Cert, Verify}
 use Rattle.serve_output.specs.declared.status.Status.{Status}
 use Rattle.serve_output.specs.declared.status.Status.TheVariants.{Done, Words, Source, Script, Sink, Memory, Files, LongScript, LongFile}
 use Rattle.serve_output.specs.Jobs.{AsksToServe}
@@ -71,6 +71,7 @@ task_quiet : (readings : Readings) (task : Task) (files : List ℕ → Option (L
     7 ≤ (task_output readings task files script program).status → (task_output readings task files script program).bytes ≡ []
 task_quiet readings (Serve settings memo) files script program late = absurd (omega (arith, late))
 task_quiet readings (Batch settings) files script program late = absurd (omega (arith, late))
+task_quiet readings (Faults settings) files script program late = absurd (omega (arith, late))
 task_quiet readings (Cert domain widening budget) files script program late = absurd (omega (arith, late))
 task_quiet readings (Verify domain cert) files script program late =
     file_quiet most_certificate (files cert) (λ text. done (verify_bytes domain program text)) (λ text. done_quiet (verify_bytes domain program text)) late
@@ -111,6 +112,7 @@ lacking_certificate : (readings : Readings) (task : Task) (files : List ℕ → 
 lacking_certificate readings (Verify domain cert) files script program lacks = rw lacks refl
 lacking_certificate readings (Serve settings memo) files script program lacks = absurd lacks
 lacking_certificate readings (Batch settings) files script program lacks = absurd lacks
+lacking_certificate readings (Faults settings) files script program lacks = absurd lacks
 lacking_certificate readings (Cert domain widening budget) files script program lacks = absurd lacks
 
 lacking_either : (readings : Readings) (task : Task) (folder : List ℕ → Option (List ℕ)) (name script : List ℕ) → LacksFor (Some folder) name task →

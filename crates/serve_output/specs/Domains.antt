@@ -5,6 +5,7 @@ use Rattle.concrete_sem.specs.Values.{Variables, Heap}
 use Rattle.domain_laws.specs.Operations.{Operations}
 use Rattle.batch_meaning.specs.Batch.{LoopOptions}
 use Rattle.batch_meaning.specs.Report.{report}
+use Rattle.fault_report.specs.Report.{faults}
 use Rattle.dom_interval_meaning.specs.Covers.{covers as covered_by_intervals}
 use Rattle.dom_interval_meaning.specs.Domain.{intervals}
 use Rattle.dom_interval_words.specs.Words.{interval_port}
@@ -64,10 +65,11 @@ carried_of single.Interval = record { meaning = by_intervals; port = interval_po
 carried_of single.Octagon = record { meaning = by_octagons; port = octagon_port }
 carried_of single.ListSeg = record { meaning = by_segments; port = segment_port }
 
--- With these operations each line is answered, and each report made, as by the domain of this name.
+-- With these operations each line is answered, and each report made, of checks and of faults, as by the domain of this name.
 pub record AnswersAs {S : Type 0} (name : DomainName) (dom : Operations S) : Type 0 where
   pub turns : (readings : Readings) (line : List ℕ) (m : Machine) → line_turn readings dom line m ≡ line_turn readings (meaning_of name).operations line m
   pub reports : (engine : LoopOptions) (program : List Routine) → report dom engine program ≡ report (meaning_of name).operations engine program
+  pub faults : (engine : LoopOptions) (program : List Routine) → faults dom engine program ≡ faults (meaning_of name).operations engine program
 
 -- What a yes says of a certificate holds by the domain of this name.
 abbrev pub IsYesSoundBy : SingleDomain → Type 0

@@ -7,7 +7,7 @@ use Rattle.serve_command.specs.declared.job.SingleDomain.TheVariants as single
 use Rattle.serve_command.specs.declared.job.Job.{Job}
 use Rattle.serve_command.specs.declared.job.Job.TheVariants as job
 use Rattle.serve_command.specs.declared.job.Task.{Task}
-use Rattle.serve_command.specs.declared.job.Task.TheVariants.{Serve, Batch, Cert, Verify}
+use Rattle.serve_command.specs.declared.job.Task.TheVariants.{Serve, Batch, Faults, Cert, Verify}
 use Rattle.serve_command.specs.declared.job.AnalysisOptions.{AnalysisOptions}
 use Rattle.batch_meaning.specs.Batch.{LoopOptions}
 
@@ -29,6 +29,7 @@ name_of single.ListSeg = ListSeg
 abbrev pub settings_for : Task → AnalysisOptions
 settings_for (Serve settings memo) = settings
 settings_for (Batch settings) = settings
+settings_for (Faults settings) = settings
 settings_for (Cert domain widening budget) = record { domain = name_of domain; widening = widening; budget = budget }
 settings_for (Verify domain cert) = by_default (name_of domain)
 
@@ -40,6 +41,7 @@ settings_of (job.Gen seed size domain) = by_default domain
 abbrev pub Serves : Task → Type 0
 Serves (Serve settings memo) = Unit {0}
 Serves (Batch settings) = ⊥
+Serves (Faults settings) = ⊥
 Serves (Cert domain widening budget) = ⊥
 Serves (Verify domain cert) = ⊥
 

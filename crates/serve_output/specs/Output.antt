@@ -4,6 +4,8 @@ use Rattle.imp_syntax.specs.Plain.{Procedure}
 use Rattle.imp_check.specs.Slots.{routines_of}
 use Rattle.batch_meaning.specs.Batch.{LoopOptions}
 use Rattle.batch_meaning.specs.Report.{report}
+use Rattle.fault_report.specs.Report.{faults}
+use Rattle.fault_lines.specs.Line.{faults_text}
 use Rattle.io_edge.specs.Outside.{Lacks, Rose}
 use Rattle.serve_script.specs.Lines.{all_lines, whole_lines}
 use Rattle.serve_script.specs.Replies.{replies}
@@ -16,7 +18,7 @@ use Rattle.serve_command.specs.declared.job.Job.{Job}
 use Rattle.serve_command.specs.declared.job.Job.TheVariants as job
 use Rattle.serve_command.specs.declared.job.SingleDomain.{SingleDomain}
 use Rattle.serve_command.specs.declared.job.Task.{Task}
-use Rattle.serve_command.specs.declared.job.Task.TheVariants.{Serve, Batch, Cert, Verify}
+use Rattle.serve_command.specs.declared.job.Task.TheVariants.{Serve, Batch, Faults, Cert, Verify}
 use Rattle.cert_lines.specs.Certificate.{certificate, certificate_text}
 use Rattle.cert_lines.specs.Verify.{verify, verified_line}
 use Rattle.serve_replies.specs.Texts.{listing}
@@ -65,6 +67,14 @@ batch_bytes domain engine program = listing program ++ report_bytes domain engin
 abbrev pub batch_of : AnalysisOptions → List Procedure → List ℕ
 batch_of settings program = batch_bytes settings.domain (engine_of settings) program
 
+-- the line of the report of faults
+abbrev pub fault_bytes : DomainName → LoopOptions → List Procedure → List ℕ
+fault_bytes domain engine program = faults_text (faults (meaning_of domain).operations engine (routines_of program))
+
+-- .. by these settings
+abbrev pub faults_of : AnalysisOptions → List Procedure → List ℕ
+faults_of settings program = fault_bytes settings.domain (engine_of settings) program
+
 -- what the replies to lines come to, each added to the tally
 abbrev pub tally_output : {S : Type 0} → Operations S → List (List ℕ) → Served → ReplyTally → ReplyTally
 tally_output dom [] s t = t
@@ -104,10 +114,11 @@ abbrev pub program_output : Readings → Option (List ℕ) → (List Procedure �
 program_output readings file give = of_file most_source file (λ source. of_source (source_of readings source) give)
 
 -- What a task gives of a program. serve: the replies to the lines of the script; how many results are remembered gives
--- nothing. batch: the listing and the report. cert: the lines of the certificate. verify: whether those of a file hold.
+-- nothing. batch: the listing and the report. faults: the report of faults. cert: the lines of the certificate. verify: whether those of a file hold.
 abbrev pub task_output : Readings → Task → (files : List ℕ → Option (List ℕ)) → (script : List ℕ) → List Procedure → Output
 task_output readings (Serve settings memo) files script program = done (served_bytes settings.domain (opening readings (engine_of settings) program) script)
 task_output readings (Batch settings) files script program = done (batch_of settings program)
+task_output readings (Faults settings) files script program = done (faults_of settings program)
 task_output readings (Cert domain widening budget) files script program = done (cert_bytes domain (record { budget = budget; widening = widening }) program)
 task_output readings (Verify domain cert) files script program = of_file most_certificate (files cert) (λ text. done (verify_bytes domain program text))
 
@@ -142,6 +153,7 @@ HasProgram (Some files) name = (readings : Readings) → (program : List Procedu
 abbrev pub LacksCertificate : Option (List ℕ → Option (List ℕ)) → Task → Type 0
 LacksCertificate files (Serve settings memo) = ⊥
 LacksCertificate files (Batch settings) = ⊥
+LacksCertificate files (Faults settings) = ⊥
 LacksCertificate files (Cert domain widening budget) = ⊥
 LacksCertificate files (Verify domain cert) = Lacks files cert
 

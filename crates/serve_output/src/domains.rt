@@ -31,7 +31,7 @@ impl Named for Interval {
 
     ghost name = { domain.Interval };
 
-    ghost answers = { λ _. record { turns = λ _ _ _. refl; reports = λ _ _. refl } };
+    ghost answers = { λ _. record { turns = λ _ _ _. refl; reports = λ _ _. refl; faults = λ _ _. refl } };
 }
 
 impl Named for Octagon {
@@ -40,7 +40,7 @@ impl Named for Octagon {
 
     ghost name = { domain.Octagon };
 
-    ghost answers = { λ _. record { turns = λ _ _ _. refl; reports = λ _ _. refl } };
+    ghost answers = { λ _. record { turns = λ _ _ _. refl; reports = λ _ _. refl; faults = λ _ _. refl } };
 }
 
 impl Named for ListSeg {
@@ -49,7 +49,7 @@ impl Named for ListSeg {
 
     ghost name = { domain.ListSeg };
 
-    ghost answers = { λ _. record { turns = λ _ _ _. refl; reports = λ _ _. refl } };
+    ghost answers = { λ _. record { turns = λ _ _ _. refl; reports = λ _ _. refl; faults = λ _ _. refl } };
 }
 
 /// A domain that the words name together with list segments: lines and reports are answered by the product as by what that
@@ -68,7 +68,7 @@ impl NamedWithLists for Interval {
 
     ghost product_name = { domain.IntervalListSeg };
 
-    ghost product_answers = { λ _. record { turns = λ _ _ _. refl; reports = λ _ _. refl } };
+    ghost product_answers = { λ _. record { turns = λ _ _ _. refl; reports = λ _ _. refl; faults = λ _ _. refl } };
 }
 
 impl NamedWithLists for Octagon {
@@ -77,7 +77,7 @@ impl NamedWithLists for Octagon {
 
     ghost product_name = { domain.OctagonListSeg };
 
-    ghost product_answers = { λ _. record { turns = λ _ _ _. refl; reports = λ _ _. refl } };
+    ghost product_answers = { λ _. record { turns = λ _ _ _. refl; reports = λ _ _. refl; faults = λ _ _. refl } };
 }
 
 impl<A: NamedWithLists> Named for Pair<A, ListSeg> {

@@ -5,7 +5,7 @@
 //! `specs/Domains.antt` says, a source is the program of `specs/Sources.antt`, and `specs/Sound.antt` says what lines claim
 //! of an accepted program.
 //!
-//! [`load_table`] gives the program that a file is, [`read_table`] that of a source. [`batch`], [`certificate`] and
+//! [`load_table`] gives the program that a file is, [`read_table`] that of a source. [`batch`], [`faults`], [`certificate`] and
 //! [`verified`] give what the tasks of these names write, by batch interpretation, `cert_write` and `cert_check`; or why
 //! nothing is given ([`JobError`]). [`write_given`] writes either, and tells the [`Status`].
 //!
@@ -19,6 +19,7 @@ mod batches;
 mod certificates;
 mod domains;
 mod error;
+mod fault_reports;
 mod files;
 mod refusing;
 mod source;
@@ -31,6 +32,7 @@ pub use certificates::{
 };
 pub use domains::{Named, NamedWithLists, named_domains_are_sound, named_domains_converge};
 pub use error::JobError;
+pub use fault_reports::faults;
 pub use files::load_table;
 pub use source::read_table;
 pub use status::Status;

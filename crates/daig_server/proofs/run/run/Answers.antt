@@ -35,6 +35,18 @@ returns-in-Batch-clause-wrote g c = λ readings folder text taken told script si
     let gives = rw c.as_str-in-Batch.ensures.is at (c.batch-given.ensures.gives readings folder text (rw is at told)) in
     rw is (c.write_given-in-Batch.ensures.wrote _ gives text taken (g.I.Source.told c.args.script.now) sink)
 
+pub returns-in-Faults-clause-fits : goal.returns-in-Faults-clause-fits
+returns-in-Faults-clause-fits g c = λ readings folder text told.
+    let is = rw (c.in-Ok-File.field-0-is, c.in-Faults.is) at (c.in-Ok-File.ensures {u = tt}).job in
+    let gives = rw c.as_str-in-Faults.ensures.is at (c.faults-given.ensures.gives readings folder text (rw is at told)) in
+    rw is (fits_given _ _ c.faults-given.result c.write_given-in-Faults.result _ gives c.write_given-in-Faults.ensures.ends)
+
+pub returns-in-Faults-clause-wrote : goal.returns-in-Faults-clause-wrote
+returns-in-Faults-clause-wrote g c = λ readings folder text taken told script sink.
+    let is = rw (c.in-Ok-File.field-0-is, c.in-Faults.is) at (c.in-Ok-File.ensures {u = tt}).job in
+    let gives = rw c.as_str-in-Faults.ensures.is at (c.faults-given.ensures.gives readings folder text (rw is at told)) in
+    rw is (c.write_given-in-Faults.ensures.wrote _ gives text taken (g.I.Source.told c.args.script.now) sink)
+
 pub returns-in-Cert-clause-fits : goal.returns-in-Cert-clause-fits
 returns-in-Cert-clause-fits g c = λ readings folder text told.
     let is = rw (c.in-Ok-File.field-0-is, c.in-Cert.is) at (c.in-Ok-File.ensures {u = tt}).job in

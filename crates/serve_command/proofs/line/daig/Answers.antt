@@ -9,4 +9,5 @@ returns c =
     let reports = c.with_command-command-2.ensures.makes _ _ serves c.analyses.ensures.makes in
     let draws = c.with_command-command-3.ensures.makes _ _ reports c.generates.ensures.makes in
     let certifies = c.with_command-command-4.ensures.makes _ _ draws c.analyses-2.ensures.makes in
-    record { app = IfOk-weaker c.with_command.result _ _ (λ made makes. makes.0) (c.with_command.ensures.makes _ _ certifies c.verifies.ensures.makes) }
+    let verifies = c.with_command-command-5.ensures.makes _ _ certifies c.verifies.ensures.makes in
+    record { app = IfOk-weaker c.with_command.result _ _ (λ made makes. makes.0) (c.with_command.ensures.makes _ _ verifies c.analyses-3.ensures.makes) }
