@@ -35,7 +35,7 @@ def test_two_hundred_files() -> None:
 
 # What a check of one good file does without, and what would take longer to load than the check takes.
 NOT_LOADED = ("_ssl", "hashlib", "difflib", "tomllib", "html", "daig_editor.protocol", "daig_editor.language.kinds")
-NOT_LOADED += ("daig_editor.checking.comparison", "daig_editor.checking.certificates", "daig_editor.reports.sarif")
+NOT_LOADED += ("asyncio", "daig_editor.checking.comparison", "daig_editor.checking.certificates", "daig_editor.reports.sarif")
 
 
 def loaded(*words: str, where: Path) -> set[str]:

@@ -24,7 +24,7 @@ from daig_editor.language.tokens import GREATEST_SOURCE
 from daig_editor.language.tree import Program, StmtKind, number_from_one
 from daig_editor.reports.finding import CheckedFile, Finding, Key, Level, StateLine, Tally, trouble
 from daig_editor.reports.tool import RULES
-from daig_editor.server.process import DaigProcess, Gone, NotStarted, Refused, Settings
+from daig_editor.server.serving import Gone, NotStarted, Refused, Settings, Start
 from daig_editor.server.trying import FAULTS, FUEL, Failure, failing_runs, input_lists
 
 # What a finding depends on is asked for so many findings of a file: each may depend on all before it.
@@ -41,7 +41,7 @@ OldVerdicts = Mapping[int, tuple[str, str]]
 class Wanted:
     """What is asked of each file. `dead`: checks that are never reached count too; `states`: all states are asked;
     `causes`: what a finding depends on is asked; `new`: of a change, what the old text has too does not count; `inputs`:
-    those of a run that is tried before the others."""
+    those of a run that is tried before the others. `start` starts a server, of many beside each other where it is None."""
 
     settings: Settings
     dead: bool = False
@@ -50,13 +50,14 @@ class Wanted:
     states: bool = False
     causes: bool = True
     new: bool = False
+    start: Start | None = None
 
 
 async def analyse(name: str, data: bytes, wanted: Wanted) -> CheckedFile:
     """Checks a file of these bytes."""
     checked = CheckedFile(name, SourceText.of(data, True))
     with told_in(checked):
-        async with served(data, wanted.settings) as server:
+        async with served(data, wanted.settings, wanted.start) as server:
             await add_findings(checked, server, wanted)
     return checked
 
@@ -91,22 +92,29 @@ class NoProgram(Exception):
 
 
 @asynccontextmanager
-async def served(data: bytes, settings: Settings) -> AsyncIterator[Served]:
+async def served(data: bytes, settings: Settings, start: Start | None = None) -> AsyncIterator[Served]:
     """A server on a text, which is stopped at the end; raises `NoProgram`."""
-    server = await _serve(data, settings)
+    server = await _serve(data, settings, start or _starting())
     try:
         yield server
     finally:
         await server.server.stop()
 
 
-async def _serve(data: bytes, settings: Settings) -> Served:
+def _starting() -> Start:
+    """What starts a server of many, which is loaded where it is wanted."""
+    from daig_editor.server.process import DaigProcess
+
+    return DaigProcess.start
+
+
+async def _serve(data: bytes, settings: Settings, start: Start) -> Served:
     """Starts a server on a text; raises `NoProgram`."""
     if len(data) > GREATEST_SOURCE:
         raise NoProgram(too_long())
     program, fault = read_program(data)
     try:
-        server = await DaigProcess.start(settings, data)
+        server = await start(settings, data)
     except Refused as why:
         raise NoProgram(refused(data, program, fault, why.reply)) from None
     except NotStarted as why:

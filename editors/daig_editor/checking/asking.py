@@ -7,7 +7,7 @@ from typing import Iterable, NamedTuple
 from daig_editor.language.checks import check_of
 from daig_editor.language.tree import Placed, Proc, Program, Stmt
 from daig_editor.language.words import NEVER, state_lines
-from daig_editor.server.process import DaigProcess, Reply
+from daig_editor.server.serving import Reply, Server
 
 VERDICTS = ("safe", "may", "dead")
 
@@ -51,7 +51,7 @@ NEVER_REACHED = (NEVER,)
 class Served:
     """A running server, and the program that it has, whose statements are numbered as the server's are."""
 
-    def __init__(self, server: DaigProcess, program: Program) -> None:
+    def __init__(self, server: Server, program: Program) -> None:
         self.server = server
         self.take(program)
 

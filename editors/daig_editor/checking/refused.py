@@ -7,7 +7,7 @@ from daig_editor.language.text import TextReader
 from daig_editor.language.tokens import Fault
 from daig_editor.language.tree import Program
 from daig_editor.reports.finding import Finding, Key, Level
-from daig_editor.server.process import Reply
+from daig_editor.server.serving import Reply
 
 if TYPE_CHECKING:
     from daig_editor.language.refusals import Refusal

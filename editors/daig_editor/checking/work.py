@@ -2,15 +2,15 @@
 from __future__ import annotations
 
 import asyncio
-from typing import AsyncGenerator, Awaitable, Callable
+from typing import AsyncGenerator, Callable
 
+from daig_editor.checking.alone import Check, late_words
 from daig_editor.checking.sources import Source
 from daig_editor.reports.finding import CheckedFile, troubled
 from daig_editor.server.ending import cancelled, undisturbed
 
 # Checks that are not wanted any longer are waited for at most so many seconds.
 LONGEST_END = 5.0
-Check = Callable[[Source], Awaitable[CheckedFile]]
 
 
 async def in_order(
@@ -57,4 +57,4 @@ async def _in_time(source: Source, check: Check, seconds: float) -> CheckedFile:
             return task.result()
     finally:
         await undisturbed(cancelled([task], LONGEST_END))
-    return troubled(source.name, f"it was not checked within {seconds:g} seconds; --timeout gives it more")
+    return troubled(source.name, late_words(seconds))

@@ -5,9 +5,9 @@ import argparse
 import contextlib
 import os
 import sys
-from dataclasses import replace
+from dataclasses import dataclass, replace
 from importlib import import_module
-from typing import TYPE_CHECKING
+from typing import TYPE_CHECKING, Iterator
 
 from daig_editor.checking.analysis import Wanted, analyse
 from daig_editor.checking.baseline import read_baseline
@@ -17,14 +17,13 @@ from daig_editor.checking.program import program_to_ask
 from daig_editor.checking.selection import Limit, Selection
 from daig_editor.checking.sources import Source, bytes_of, sources_of, standard_input
 from daig_editor.checking.sources import Wanted as WantedFiles
-from daig_editor.checking.work import in_order
 from daig_editor.server.choices import DOMAIN
 from daig_editor.reports.finding import CheckedFile, troubled
 from daig_editor.reports.output import Output, output_to
 from daig_editor.reports.progress import Progress
 from daig_editor.reports.project import STANDARD_INPUT, STANDARD_INPUT_NAME
 from daig_editor.reports.report import Report, Totals
-from daig_editor.server.process import Settings
+from daig_editor.server.serving import Settings
 
 if TYPE_CHECKING:
     from daig_editor.checking.revisions import Against
@@ -43,6 +42,33 @@ FORMATS = {
 
 class Wrong(Exception):
     """Why nothing can be checked, in words."""
+
+
+@dataclass(frozen=True)
+class _Telling:
+    """A report that is being written."""
+
+    output: Output
+    report: Report
+    totals: Totals
+    progress: Progress
+    limit: Limit
+
+    def tell(self, checked: CheckedFile) -> None:
+        """Tells of a file."""
+        self.limit.apply(checked)
+        self.totals.add(checked)
+        text = self.report.file(checked)
+        if text:
+            self.progress.clear()
+            self.output.write(text)
+
+    def end(self) -> int:
+        """All files are told; answers the highest status."""
+        self.output.write(self.report.end())
+        self.progress.end(self.totals.summary())
+        self.output.keep()
+        return self.totals.status
 
 
 class Run:
@@ -75,34 +101,43 @@ class Run:
             raise Wrong(f"--against {self._args.against}: a folder is wanted where several files are checked")
         return found
 
+    @property
+    def is_alone(self) -> bool:
+        """Whether there is one file, and nothing to ask of it but one server."""
+        return len(self._sources) == 1 and self._against is None and not self._args.cert
+
+    def run_alone(self) -> int:
+        """Checks the only file and writes the report, without asyncio, whose load takes longer; answers the status."""
+        from daig_editor.checking.alone import checked_alone
+        from daig_editor.server.blocking import BlockingProcess
+
+        self._wanted = replace(self._wanted, start=BlockingProcess.start)
+        with self._telling() as telling:
+            telling.tell(checked_alone(self._sources[0], self._check, self._args.timeout))
+            return telling.end()
+
     async def run(self) -> int:
         """Checks all files and writes the report; answers the highest status."""
+        from daig_editor.checking.work import in_order
+
+        with self._telling() as telling:
+            files = in_order(self._sources, self._args.jobs, self._check, telling.progress.done, self._args.timeout)
+            async with contextlib.aclosing(files):
+                async for checked in files:
+                    telling.tell(checked)
+            return telling.end()
+
+    @contextlib.contextmanager
+    def _telling(self) -> Iterator[_Telling]:
+        """The report that is being written, which is dropped where something goes wrong."""
         output = output_to(self._args.output)
         try:
-            totals = await self._report(output)
-            output.keep()
+            totals = Totals(left_out=self._left_out)
+            progress = Progress(len(self._sources), self._args.quiet)
+            yield _Telling(output, self._format(), totals, progress, Limit(self._args.max_findings))
         except BaseException:
             output.drop()
             raise
-        return totals.status
-
-    async def _report(self, output: Output) -> Totals:
-        """Writes what is told of all files."""
-        args, limit = self._args, Limit(self._args.max_findings)
-        report, totals = self._format(), Totals(left_out=self._left_out)
-        progress = Progress(len(self._sources), args.quiet)
-        files = in_order(self._sources, args.jobs, self._check, progress.done, args.timeout)
-        async with contextlib.aclosing(files):
-            async for checked in files:
-                limit.apply(checked)
-                totals.add(checked)
-                text = report.file(checked)
-                if text:
-                    progress.clear()
-                    output.write(text)
-        output.write(report.end())
-        progress.end(totals.summary())
-        return totals
 
     async def _check(self, source: Source) -> CheckedFile:
         """All that is told of one file."""

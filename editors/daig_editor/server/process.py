@@ -3,72 +3,19 @@ from __future__ import annotations
 
 import asyncio
 import json
-import os
-import resource
-import signal
-import tempfile
 import time
 from collections import deque
-from dataclasses import dataclass
 
-from daig_editor.language.tokens import GREATEST_SOURCE
 from daig_editor.server.child import Child, started
 from daig_editor.server.ending import within
-
-Reply = dict[str, object]
-LONGEST_REPLY = 64 * 2**20
-# A server that closed its output ends within so many seconds, or is ended.
-LONGEST_SILENCE = 5.0
-MEBIBYTE = 2**20
-MEMORY_STATUS = 6
-STATUS_WORDS = {
-    2: "its options are refused",
-    4: "its input failed",
-    5: "its output failed",
-    MEMORY_STATUS: "it had too little memory",
-    7: "the file could not be read",
-    8: "its script grew too long",
-    9: f"the text has more than {GREATEST_SOURCE:,} bytes",
-}
-
-
-@dataclass(frozen=True)
-class Settings:
-    """What `daig serve` is started with. `memory` is how many MiB of it may take, 0 for any number; `patience` after how
-    many seconds without a reply it is ended, 0 for never."""
-
-    daig: str
-    domain: str = "octagon+listseg"
-    widening: str = "thresholds"
-    delay: int = 0
-    budget: int = 100
-    memory: int = 2048
-    patience: int = 0
-
-    def words(self, file: str) -> list[str]:
-        """The command for a file."""
-        options = ["--domain", self.domain, "--widening", self.widening]
-        options += ["--delay", str(self.delay), "--budget", str(self.budget)]
-        return [self.daig, "serve", *options, file]
-
-
-class NotStarted(Exception):
-    """Why no server runs: it is not there, or it ended of itself."""
-
-
-@dataclass(frozen=True)
-class Refused(Exception):
-    """The server refuses the text; `reply` is its line."""
-
-    reply: Reply
-
-
-class Gone(Exception):
-    """The server ended while it ran, or says what no server says. `of_memory`: it had too little memory."""
-
-    def __init__(self, words: str, of_memory: bool = False) -> None:
-        super().__init__(words)
-        self.of_memory = of_memory
+from daig_editor.server.serving import LONGEST_REPLY, LONGEST_SILENCE
+from daig_editor.server.serving import STATUS_WORDS as STATUS_WORDS
+from daig_editor.server.serving import Gone as Gone
+from daig_editor.server.serving import NotStarted as NotStarted
+from daig_editor.server.serving import Refused as Refused
+from daig_editor.server.serving import Reply as Reply
+from daig_editor.server.serving import Settings as Settings
+from daig_editor.server.serving import bound_memory, gone_with, greeted, reply_of, text_file
 
 
 class DaigProcess:
@@ -86,19 +33,8 @@ class DaigProcess:
     @staticmethod
     async def start(settings: Settings, text: bytes) -> DaigProcess:
         """Starts a server on a text; raises `Refused` or `NotStarted`."""
-        try:
-            handle, path = tempfile.mkstemp(suffix=".imp")
-        except OSError as error:
-            raise NotStarted(f"no file for the text can be made: {error.strerror}") from None
-        try:
-            try:
-                with os.fdopen(handle, "wb") as file:
-                    file.write(text)
-            except OSError as error:
-                raise NotStarted(f"{path} cannot be written: {error.strerror}") from None
+        with text_file(text) as path:
             return await _greeted(settings, path)
-        finally:
-            os.unlink(path)
 
     async def greet(self) -> None:
         """Waits until the text is loaded, then bounds the memory."""
@@ -106,24 +42,8 @@ class DaigProcess:
             reply = await self.ask(do="cost")
         except Gone as gone:
             raise NotStarted(str(gone)) from None
-        if "refused" in reply and "name" in reply:
-            await self.stop()
-            raise Refused(reply)
-        if "cost" not in reply:
-            raise NotStarted(f"{self._settings.daig} is no `daig`: it says {str(reply)[:80]}")
-        self._bound_memory()
-
-    def _bound_memory(self) -> None:
-        """Lets the server take so much memory and no more, where the system can be told of a running program.
-
-        A source is bounded, and so is what loading it takes; the program may be a script that first builds the server.
-        """
-        limit = self._settings.memory * MEBIBYTE
-        if limit and hasattr(resource, "prlimit"):
-            try:
-                resource.prlimit(self._process.pid, resource.RLIMIT_AS, (limit, limit))
-            except (OSError, ValueError):
-                pass  # it ended, or has a lower limit
+        greeted(reply, self._settings)
+        bound_memory(self._process.pid, self._settings)
 
     async def ask(self, **request: object) -> Reply:
         """The reply to a request; raises `Gone`. A request is answered even where its asker has gone."""
@@ -198,11 +118,8 @@ class DaigProcess:
             raise await self._given_up(f"a reply of it has more than {LONGEST_REPLY:,} bytes") from None
         if not line.endswith(b"\n"):
             raise await self._why_gone()
-        try:
-            reply = json.loads(line)
-        except (ValueError, RecursionError):
-            reply = None
-        if not isinstance(reply, dict) or not self._waiting:
+        reply = reply_of(line)
+        if reply is None or not self._waiting:
             raise await self._given_up(f"what it says is no reply: {line[:80]!r}")
         return reply
 
@@ -213,10 +130,7 @@ class DaigProcess:
 
     async def _why_gone(self) -> Gone:
         """What the server's status says."""
-        status = await self.ended()
-        if status < 0:
-            return Gone(f"it was ended by {_signal_name(-status)}")
-        return Gone(STATUS_WORDS.get(status, f"it ended with status {status}"), status == MEMORY_STATUS)
+        return gone_with(await self.ended())
 
     @property
     def runs(self) -> bool:
@@ -236,14 +150,6 @@ class DaigProcess:
     async def stop(self) -> None:
         """Ends the server, in the middle of a request too."""
         await self._process.stop()
-
-
-def _signal_name(number: int) -> str:
-    """A signal's name."""
-    try:
-        return signal.Signals(number).name
-    except ValueError:
-        return f"signal {number}"
 
 
 async def _greeted(settings: Settings, path: str) -> DaigProcess:
