@@ -10,6 +10,7 @@ tell_help() {
     cat <<'END'
 usage: daig serve  [--domain D] [--widening W] [--delay N] [--budget N] [--memo N] FILE
        daig batch  [--domain D] [--widening W] [--delay N] [--budget N] FILE
+       daig faults [--domain D] [--widening W] [--delay N] [--budget N] FILE
        daig cert   [--domain D] [--widening W] [--delay N] [--budget N] FILE
        daig verify [--domain D] FILE CERT
        daig gen    --seed N --size N [--domain D]
@@ -18,6 +19,7 @@ usage: daig serve  [--domain D] [--widening W] [--delay N] [--budget N] [--memo 
 commands:
   serve   answers the requests on standard input, one JSON object a line, about the program in FILE
   batch   writes the program with its statement numbers, and the verdict of each check
+  faults  writes what is known of each fault that can end a run
   cert    writes a certificate of the program: the state at the head of each loop
   verify  tells whether the certificate in CERT holds of the program
   gen     answers a generated script over a generated program, and writes counts
@@ -86,7 +88,7 @@ look_at_value() {
 # Says what is wrong with the words, if anything is that can be told here. The program refuses them itself.
 look_at_words() {
     case $1 in
-    serve | batch | cert | verify | gen) command=$1 && shift ;;
+    serve | batch | faults | cert | verify | gen) command=$1 && shift ;;
     *) [ $# -gt 0 ] && complain "there is no command \`$1\`; daig --help tells all" && return ;;
     esac
     while [ $# -gt 0 ]; do

@@ -128,7 +128,7 @@ def test_the_places_of_a_change_are_found() -> None:
         ("domain", "cert_accepted", "src/lib.rt"),
         ("domain", "batch_converges", "src/lib.rt"),
         ("domain", "docs", "man/daig.1"),
-        ("domain", "editors", "daig_editor/protocol/settings.py"),
+        ("domain", "editors", "daig_editor/server/choices.py"),
         ("request", "reuse_laws", "proofs/Grown.antt"),
         ("request", "reply_lines", "proofs/Refused.antt"),
         ("request", "gen_summary", "specs/Summary.antt"),

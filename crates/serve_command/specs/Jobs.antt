@@ -1,5 +1,5 @@
 -- The job of the words.
-use Rattle.std.specs.Prelude.{ℕ, ◌≤◌, Bool, List, Option, Some, None, option_and_then, option_map, codes, if◌then◌else◌}
+use Rattle.std.specs.Prelude.{ℕ, ◌≤◌, Bool, List, Option, None, option_and_then, option_map, codes, if◌then◌else◌}
 use Rattle.std.specs.Str.{bytes_eq}
 use Rattle.clap.specs.Walk.{Row, Text, first_of, is_empty}
 use Rattle.clap.specs.Simple.{subcommand_of}
