@@ -34,8 +34,11 @@ def test_two_hundred_files() -> None:
 
 
 # What a check of one good file does without, and what would take longer to load than the check takes.
-NOT_LOADED = ("_ssl", "hashlib", "difflib", "tomllib", "html", "daig_editor.protocol", "daig_editor.language.kinds")
-NOT_LOADED += ("asyncio", "daig_editor.checking.comparison", "daig_editor.checking.certificates", "daig_editor.reports.sarif")
+NOT_LOADED = {"_ssl", "asyncio", "hashlib", "difflib", "tomllib", "html"}
+NOT_LOADED |= {
+    f"daig_editor.{it}"
+    for it in ("protocol", "language.kinds", "checking.comparison", "checking.certificates", "reports.sarif")
+}
 
 
 def loaded(*words: str, where: Path) -> set[str]:
@@ -52,4 +55,4 @@ def test_start() -> None:
     with folder(a_imp=SAFE) as here:
         names = loaded(str(TOOL), "a.imp", where=here) - loaded("-c", "", where=here)
         assert "daig_editor.checking.analysis" in names, names
-        assert not names & set(NOT_LOADED), names & set(NOT_LOADED)
+        assert not names & NOT_LOADED, names & NOT_LOADED

@@ -91,7 +91,9 @@ def against(name: str) -> Against:
     """What a word of the command line names."""
     if os.path.isdir(name):
         return OldFolder(name)
-    return OldFile(name) if os.path.lexists(name) else OldRevision(name)
+    if os.path.lexists(name):
+        return OldFile(name)
+    return OldRevision(name)
 
 
 async def _git(folder: str, *words: str) -> tuple[int, bytes]:
