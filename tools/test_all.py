@@ -92,6 +92,7 @@ def suites() -> list[Suite]:
         Suite("what the documents say", python("check_documents.py")),
         *editor_suites(),
         Suite("examples and rows", python("run_examples.py", PROGRAM), True),
+        Suite("precision", ["bench/score", "--check", "--program", PROGRAM], True),
         Suite("sessions of the documents", python("run_sessions.py", PROGRAM), True),
     ]
 
