@@ -28,7 +28,7 @@ from clauses import clause_fault, law_fault
 from kit import ROOT, listed
 from tally import Tally
 
-MOST_WORDS = 14_800
+MOST_WORDS = 15_000
 EDITOR = "editors/README.md"
 SERVING = "crates/daig_server/src/serving.rt"
 RUN_BY_THE_EDITOR = {"README.md": "$ ./daig-check", "docs/CHECK.md": "./daig-check"}
