@@ -1,8 +1,10 @@
 //! The product of two domains, each operation by its parts.
-ghost use Rattle.std.specs.Prelude.{◌≡◌, ◌+◌, ◌≤◌};
+ghost use Rattle.std.specs.Prelude.{◌≡◌, ◌+◌, ◌≤◌, IfOk};
 ghost use Rattle.dom_product_meaning.specs.Product.{product, covered_by_both, stronger};
 ghost use Rattle.dom_product_meaning.proofs.Laws.{product_laws, product_keeps_dead, product_equality};
 
+use crate::pool::Pool;
+use crate::state::PairState;
 use base_values::{Memory, Text};
 use domain_laws::{Domain, Steps, Verdict};
 use imp_slots::{Layout, SlotCall, SlotCond, SlotStmt};
@@ -10,11 +12,13 @@ use std::alloc::Global;
 use std::marker::Model;
 use std::sync::ledger::Ledger;
 
-/// Two domains as one.
+/// Two domains as one, beside the parts of states that they made last.
 #[derive(Debug, Drop)]
 pub struct Pair<A: Domain, B: Domain> {
     first: A,
     second: B,
+    firsts: Pool<A::State>,
+    seconds: Pool<B::State>,
 }
 
 impl<A: Domain, B: Domain> Model for Pair<A, B> {
@@ -34,12 +38,32 @@ impl<A: Domain, B: Domain> Pair<A, B> {
         requires few { A.counted first + B.counted second ≤ 1000 }
         ensures parts { result ≡ record { first = first; second = second } }
     {
-        Pair { first, second }
+        Pair {
+            first,
+            second,
+            firsts: Pool::new(),
+            seconds: Pool::new(),
+        }
+    }
+
+    // The state of these parts. Each is shared with the states in use that have an equal one, if one is found.
+    fn share(
+        &self,
+        alloc: Global,
+        first: A::State,
+        second: B::State,
+    ) -> Result<PairState<A::State, B::State>, Memory>
+        ensures parts { IfOk result (λ s. s ≡ (first, second)) }
+    {
+        Ok(PairState {
+            first: self.firsts.share(alloc, first)?,
+            second: self.seconds.share(alloc, second)?,
+        })
     }
 }
 
 impl<A: Domain, B: Domain> Domain for Pair<A, B> {
-    type State = (A::State, B::State);
+    type State = PairState<A::State, B::State>;
 
     ghost operations = { λ d. product (A.operations d.first) (B.operations d.second) };
 
@@ -52,22 +76,22 @@ impl<A: Domain, B: Domain> Domain for Pair<A, B> {
         alloc: Global,
         main: &Layout,
         steps: &mut Steps<L>,
-    ) -> Result<(A::State, B::State), Memory> {
+    ) -> Result<PairState<A::State, B::State>, Memory> {
         let first = self.first.init(alloc, main, steps);
         let second = self.second.init(alloc, main, steps);
-        Ok((first?, second?))
+        self.share(alloc, first?, second?)
     }
 
     fn post<L: Ledger>(
         &self,
         alloc: Global,
         stmt: &SlotStmt,
-        s: &(A::State, B::State),
+        s: &PairState<A::State, B::State>,
         steps: &mut Steps<L>,
-    ) -> Result<(A::State, B::State), Memory> {
-        let first = self.first.post(alloc, stmt, &s.0, steps);
-        let second = self.second.post(alloc, stmt, &s.1, steps);
-        Ok((first?, second?))
+    ) -> Result<PairState<A::State, B::State>, Memory> {
+        let first = self.first.post(alloc, stmt, s.first(), steps);
+        let second = self.second.post(alloc, stmt, s.second(), steps);
+        self.share(alloc, first?, second?)
     }
 
     fn assume<L: Ledger>(
@@ -75,82 +99,90 @@ impl<A: Domain, B: Domain> Domain for Pair<A, B> {
         alloc: Global,
         c: &SlotCond,
         sense: bool,
-        s: &(A::State, B::State),
+        s: &PairState<A::State, B::State>,
         steps: &mut Steps<L>,
-    ) -> Result<(A::State, B::State), Memory> {
-        let first = self.first.assume(alloc, c, sense, &s.0, steps);
-        let second = self.second.assume(alloc, c, sense, &s.1, steps);
-        Ok((first?, second?))
+    ) -> Result<PairState<A::State, B::State>, Memory> {
+        let first = self.first.assume(alloc, c, sense, s.first(), steps);
+        let second = self.second.assume(alloc, c, sense, s.second(), steps);
+        self.share(alloc, first?, second?)
     }
 
     fn join<L: Ledger>(
         &self,
         alloc: Global,
-        l: &(A::State, B::State),
-        r: &(A::State, B::State),
+        l: &PairState<A::State, B::State>,
+        r: &PairState<A::State, B::State>,
         steps: &mut Steps<L>,
-    ) -> Result<(A::State, B::State), Memory> {
-        let first = self.first.join(alloc, &l.0, &r.0, steps);
-        let second = self.second.join(alloc, &l.1, &r.1, steps);
-        Ok((first?, second?))
+    ) -> Result<PairState<A::State, B::State>, Memory> {
+        let first = self.first.join(alloc, l.first(), r.first(), steps);
+        let second = self.second.join(alloc, l.second(), r.second(), steps);
+        self.share(alloc, first?, second?)
     }
 
     fn widen<L: Ledger>(
         &self,
         alloc: Global,
         thresholds: &[i64],
-        l: &(A::State, B::State),
-        r: &(A::State, B::State),
+        l: &PairState<A::State, B::State>,
+        r: &PairState<A::State, B::State>,
         steps: &mut Steps<L>,
-    ) -> Result<(A::State, B::State), Memory> {
-        let first = self.first.widen(alloc, thresholds, &l.0, &r.0, steps);
-        let second = self.second.widen(alloc, thresholds, &l.1, &r.1, steps);
-        Ok((first?, second?))
+    ) -> Result<PairState<A::State, B::State>, Memory> {
+        let first = self
+            .first
+            .widen(alloc, thresholds, l.first(), r.first(), steps);
+        let second = self
+            .second
+            .widen(alloc, thresholds, l.second(), r.second(), steps);
+        self.share(alloc, first?, second?)
     }
 
     fn enter<L: Ledger>(
         &self,
         alloc: Global,
         call: &SlotCall,
-        s: &(A::State, B::State),
+        s: &PairState<A::State, B::State>,
         steps: &mut Steps<L>,
-    ) -> Result<(A::State, B::State), Memory> {
-        let first = self.first.enter(alloc, call, &s.0, steps);
-        let second = self.second.enter(alloc, call, &s.1, steps);
-        Ok((first?, second?))
+    ) -> Result<PairState<A::State, B::State>, Memory> {
+        let first = self.first.enter(alloc, call, s.first(), steps);
+        let second = self.second.enter(alloc, call, s.second(), steps);
+        self.share(alloc, first?, second?)
     }
 
     fn leave<L: Ledger>(
         &self,
         alloc: Global,
         call: &SlotCall,
-        s: &(A::State, B::State),
-        done: &(A::State, B::State),
+        s: &PairState<A::State, B::State>,
+        done: &PairState<A::State, B::State>,
         steps: &mut Steps<L>,
-    ) -> Result<(A::State, B::State), Memory> {
-        let first = self.first.leave(alloc, call, &s.0, &done.0, steps);
-        let second = self.second.leave(alloc, call, &s.1, &done.1, steps);
-        Ok((first?, second?))
+    ) -> Result<PairState<A::State, B::State>, Memory> {
+        let first = self
+            .first
+            .leave(alloc, call, s.first(), done.first(), steps);
+        let second = self
+            .second
+            .leave(alloc, call, s.second(), done.second(), steps);
+        self.share(alloc, first?, second?)
     }
 
     fn shed<L: Ledger>(
         &self,
         alloc: Global,
-        s: &(A::State, B::State),
+        s: &PairState<A::State, B::State>,
         steps: &mut Steps<L>,
-    ) -> Result<(A::State, B::State), Memory> {
-        let first = self.first.shed(alloc, &s.0, steps);
-        let second = self.second.shed(alloc, &s.1, steps);
-        Ok((first?, second?))
+    ) -> Result<PairState<A::State, B::State>, Memory> {
+        let first = self.first.shed(alloc, s.first(), steps);
+        let second = self.second.shed(alloc, s.second(), steps);
+        self.share(alloc, first?, second?)
     }
 
     fn ticks(&self) -> u32 {
         self.first.ticks() + self.second.ticks()
     }
 
-    fn dead(&self, s: &(A::State, B::State)) -> bool {
-        let first = self.first.dead(&s.0);
-        let second = self.second.dead(&s.1);
+    fn dead(&self, s: &PairState<A::State, B::State>) -> bool {
+        let first = self.first.dead(s.first());
+        let second = self.second.dead(s.second());
         first && second
     }
 
@@ -158,10 +190,10 @@ impl<A: Domain, B: Domain> Domain for Pair<A, B> {
         &self,
         alloc: Global,
         stmt: &SlotStmt,
-        s: &(A::State, B::State),
+        s: &PairState<A::State, B::State>,
     ) -> Result<Verdict, Memory> {
-        let first = self.first.check(alloc, stmt, &s.0)?;
-        let second = self.second.check(alloc, stmt, &s.1)?;
+        let first = self.first.check(alloc, stmt, s.first())?;
+        let second = self.second.check(alloc, stmt, s.second())?;
         Ok(stronger_of(first, second))
     }
 
@@ -169,10 +201,10 @@ impl<A: Domain, B: Domain> Domain for Pair<A, B> {
         &self,
         alloc: Global,
         layout: &Layout,
-        s: &(A::State, B::State),
+        s: &PairState<A::State, B::State>,
     ) -> Result<Text, Memory> {
-        let mut text = self.first.text(alloc, layout, &s.0)?;
-        let second = self.second.text(alloc, layout, &s.1)?;
+        let mut text = self.first.text(alloc, layout, s.first())?;
+        let second = self.second.text(alloc, layout, s.second())?;
         text.append(b" & ")?;
         text.append(second.as_slice())?;
         Ok(text)
@@ -181,11 +213,9 @@ impl<A: Domain, B: Domain> Domain for Pair<A, B> {
     fn copy(
         &self,
         alloc: Global,
-        s: &(A::State, B::State),
-    ) -> Result<(A::State, B::State), Memory> {
-        let first = self.first.copy(alloc, &s.0)?;
-        let second = self.second.copy(alloc, &s.1)?;
-        Ok((first, second))
+        s: &PairState<A::State, B::State>,
+    ) -> Result<PairState<A::State, B::State>, Memory> {
+        s.copy()
     }
 
     ghost laws = { λ d. product_laws (A.operations d.first) (B.operations d.second)
