@@ -27,15 +27,15 @@ sentences are the first of each crate's own page, which says what the crate prom
 LAYERS = {
     "Base": "base_values base_short base_counter io_edge base_hash state_table daig_order daig_traces base_sets",
     "Language": "imp_lex imp_syntax imp_parse imp_print imp_round_trip imp_slots imp_check imp_table imp_chains"
-    " imp_words edit_entries edit_breaks imp_edit edit_history",
+    " imp_words fault_words edit_entries edit_breaks imp_edit edit_history",
     "Input and output": "serve_command request_json serve_script gen_summary",
     "Meaning": "concrete_sem imp_run domain_laws fault_points batch_meaning batch_sound cert_meaning",
     "Domains": "num_bounds dom_numeric cert_words dom_interval_meaning dom_interval_precise dom_interval_words dom_interval dbm_core"
     " dbm_close dbm_incremental dbm_narrow dom_octagon_meaning dom_octagon_states dom_octagon_words dom_octagon shape_graph"
     " fold_laws shape_steps dom_listseg_meaning dom_listseg_sets dom_listseg_words dom_listseg dom_product_meaning dom_product"
     " batch_converges batch_product",
-    "Batch interpretation and certificates": "call_contexts call_chains alarm_report batch_interp fault_report fault_lines cert_sound"
-    " cert_complete cert_lines cert_write cert_reading cert_accepted cert_check",
+    "Batch interpretation and certificates": "call_contexts call_chains alarm_report batch_interp fault_verdicts fault_report"
+    " cert_sound cert_complete cert_lines cert_write cert_reading cert_accepted cert_check",
     "Cells": "cell_names cell_rows daig_demands why_slice imp_flow_rows imp_flow daig_graph cell_graph loop_unroll"
     " memo_table daig_query why_cells cell_kept_set cell_removal edit_invalidate edit_keeps",
     "Sessions": "daig_machine daig_tickets daig_session serve_replies serve_answers serve_session"

@@ -16,7 +16,7 @@ use Rattle.cell_graph.specs.Same.{same_name}
 use Rattle.daig_machine.specs.Machine.{Machine}
 use Rattle.imp_syntax.specs.declared.edit.Edit.{Edit}
 use Rattle.imp_edit.specs.Edited.{edited}
-use Rattle.daig_machine.specs.Turns.{after_edit, is_kept, missing_names, missing_for_report, with_program, redone, undone}
+use Rattle.daig_machine.specs.Turns.{after_edit, is_kept, missing_names, missing_for_report, missing_in_places, with_program, redone, undone}
 
 -- These names are cells of a program, closed under its inputs, each once.
 pub record AreKept {S : Type 0} (dom : Operations S) (engine : LoopOptions) (program : List Routine) (kept : List CellName) : Type 0 where
@@ -36,6 +36,10 @@ FillingKeeps dom =
 -- So they are with the first of those that are missing for a report.
 abbrev pub ReportingKeeps : {S : Type 0} → Operations S → Type 0
 ReportingKeeps dom = (m : Machine) (n : ℕ) → IsChecked (routines_of m.program) → KeepsCells dom m → AreKept dom m.engine (routines_of m.program) (m.kept ++ take n (missing_for_report dom m))
+
+-- .. and with the first of those that are missing for locations, one after another.
+abbrev pub PlacesKeep : {S : Type 0} → Operations S → Type 0
+PlacesKeep dom = (m : Machine) (ls : List Location) (n : ℕ) → IsChecked (routines_of m.program) → KeepsCells dom m → AreKept dom m.engine (routines_of m.program) (m.kept ++ take n (missing_in_places dom ls m))
 
 -- With another program they are cells of that one.
 abbrev pub MovingKeeps : {S : Type 0} → Operations S → Type 0

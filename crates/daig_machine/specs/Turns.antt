@@ -1,15 +1,18 @@
 -- What each request makes of the machine.
-use Rattle.std.specs.Prelude.{ℕ, suc, Bool, List, [], ◌∷◌, ◌++◌, take, filter, length, Option, Some, None}
+use Rattle.std.specs.Prelude.{ℕ, suc, Bool, List, [], ◌∷◌, ◌++◌, map, take, filter, length, Option, Some, None}
 use Rattle.imp_syntax.specs.Plain.{Procedure}
 use Rattle.imp_syntax.specs.declared.edit.Location.{Location}
 use Rattle.imp_syntax.specs.declared.edit.Edit.{Edit}
 use Rattle.domain_laws.specs.Operations.{Operations}
 use Rattle.batch_meaning.specs.Answers.{Answer, Found, In, Misses, answer, procedure_of}
+use Rattle.daig_order.specs.InTurn.{missing_in_turn}
 use Rattle.daig_order.specs.Order.{member, fill_all}
 use Rattle.cell_names.specs.Paths.{CellName}
 use Rattle.cell_rows.specs.Cells.{Cell}
 use Rattle.cell_rows.specs.Targets.{Target, demanded, targets}
 use Rattle.daig_demands.specs.Claims.{names_of, found_by, report_fills}
+use Rattle.daig_demands.specs.Reports as of_reports
+use Rattle.fault_verdicts.specs.Statements.{fault_places}
 use Rattle.imp_check.specs.Slots.{routines_of}
 use Rattle.imp_edit.specs.Edited.{edited, next_after}
 use Rattle.cell_kept_set.specs.KeptTest.{stays_kept}
@@ -48,6 +51,10 @@ with_ticket l string m = with_tickets (m.tickets ++ record { number = m.next_tic
 abbrev pub after_close : ℕ → Machine → Machine
 after_close n m = with_tickets (without_ticket n m.tickets) m.next_ticket m
 
+-- the targets of a location under all chains
+abbrev pub place_targets : Machine → Location → List Target
+place_targets m l = of_reports.targets_in (routines_of m.program) l (procedure_of (routines_of m.program) l)
+
 module _ {S : Type 0} (dom : Operations S) where
   -- what the present program computes at a name
   abbrev pub cell_value : Machine → CellName → Cell S
@@ -64,6 +71,14 @@ module _ {S : Type 0} (dom : Operations S) where
   abbrev pub missing_for_report : Machine → List CellName
   missing_for_report m = report_fills dom m.engine (routines_of m.program) same_name (is_kept m)
 
+  -- .. for the locations of a list, over all chains to each, one after another
+  abbrev pub missing_in_places : List Location → Machine → List CellName
+  missing_in_places ls m = missing_in_turn (names_of dom m.engine (routines_of m.program) same_name) (is_kept m) (map (λ l. demanded (cell_value m) (place_targets m l)) ls)
+
+  -- .. and so for a report of faults
+  abbrev pub missing_for_faults : Machine → List CellName
+  missing_for_faults m = missing_in_places (fault_places (routines_of m.program)) m
+
   -- the answer of the present program, interpreted from scratch
   abbrev pub answer_at : Location → (string : List ℕ) → Machine → Answer S
   answer_at l string m = answer dom m.engine (routines_of m.program) l string
@@ -76,12 +91,15 @@ module _ {S : Type 0} (dom : Operations S) where
   abbrev pub upstream_at : Location → (string : List ℕ) → Machine → List ℕ
   upstream_at l string m = upstream_in m l string (procedure_of (routines_of m.program) l)
 
-  -- the machine after a question that is answered, and after a report
+  -- the machine after a question that is answered, after a report, and after a report of faults
   abbrev pub after_question : Location → (string : List ℕ) → Machine → Machine
   after_question l string m = with_filled (missing_at l string m) m
 
   abbrev pub after_report : Machine → Machine
   after_report m = with_filled (missing_for_report m) m
+
+  abbrev pub after_faults : Machine → Machine
+  after_faults m = with_filled (missing_for_faults m) m
 
   -- after a step of a ticket that fills the first n names, and after one that ends it
   abbrev pub after_step : Ticket → (n : ℕ) → Machine → Machine

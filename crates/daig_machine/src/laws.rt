@@ -1,14 +1,15 @@
 //! What the machine's turns do to the kept names.
-ghost use Rattle.daig_machine.specs.Claims.{FillingKeeps, MovingKeeps, MovingLeaves, RedoGoesOn, ReportingKeeps, UndoGoesBack, UndoKeepsAll};
+ghost use Rattle.daig_machine.specs.Claims.{FillingKeeps, MovingKeeps, MovingLeaves, PlacesKeep, RedoGoesOn, ReportingKeeps, UndoGoesBack, UndoKeepsAll};
 
 use cell_rows::rows_give_values;
 use domain_laws::Domain;
 
-/// With the first of the names that are missing for a question, or for a report, the kept names are cells of the program
-/// again, each once.
+/// With the first of the names that are missing for a question, for a report, or for locations one after another, as a
+/// report of faults asks, the kept names are cells of the program again, each once.
 pub fn questions_keep_cells<D: Domain>()
     ensures question { (d : D) → FillingKeeps (D.operations d) }
     ensures report { (d : D) → ReportingKeeps (D.operations d) }
+    ensures places { (d : D) → PlacesKeep (D.operations d) }
 {
     rows_give_values::<D>();
 }

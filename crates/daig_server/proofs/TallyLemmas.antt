@@ -128,6 +128,7 @@ request_cost : {S : Type 0} (readings : Readings) (dom : Operations S) (request 
 unfolding request_turn
 request_cost readings dom (q.State query) m = state_cost dom query (answer_at dom query.at query.string m) m
 request_cost readings dom q.Report m = λ is. cc
+request_cost readings dom (q.Faults only) m = λ is. cc
 request_cost readings dom q.Cost m = λ is. refl
 request_cost readings dom q.Program m = program_cost m.next m.program m
 request_cost readings dom q.Listing m = λ is. cc

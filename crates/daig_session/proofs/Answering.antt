@@ -19,7 +19,7 @@ use Rattle.daig_session.specs.declared.error.QueryError.TheVariants.{Refused, Me
 use Rattle.daig_session.specs.Books.{flow_in}
 use Rattle.daig_session.specs.Going.{IsAsked, IsRefused}
 use Rattle.daig_session.specs.Holds.{Holds}
-use Rattle.daig_session.specs.Reports.{IsUnticked}
+use Rattle.daig_session.specs.Places.{IsUnticked}
 use Rattle.daig_session.specs.Turns.{Fails}
 use Rattle.daig_session.proofs.Filled.{added_holds, as_many}
 

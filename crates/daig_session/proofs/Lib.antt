@@ -14,7 +14,9 @@ pub mod Ticketed
 pub mod Unchanged
 pub mod Stepped
 pub mod CheckLemmas
-pub mod Reported
+pub mod Placed
 pub mod Standing
 pub mod Reporting
 pub mod Swept
+pub mod PointLemmas
+pub mod FaultLemmas

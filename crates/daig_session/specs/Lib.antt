@@ -1,8 +1,10 @@
 pub mod Books
 pub mod Engines
+pub mod Faults
 pub mod Going
 pub mod Holds
 pub mod Moves
+pub mod Places
 pub mod Questions
 pub mod Reports
 pub mod Sessions

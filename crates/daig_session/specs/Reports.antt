@@ -1,6 +1,7 @@
--- Reports: the checked statements of a program one after another, what is missing of them in turn, and what is found.
-use Rattle.std.specs.Prelude.{◌≡◌, ℕ, ◌+◌, ◌*◌, List, [], ◌∷◌, ◌++◌, map, take, length, Option, Some, None, Result, Ok, Err, Contains, IfOk, IsSome, OnOk}
+-- Reports: the checked statements of a program, and what is found of them.
+use Rattle.std.specs.Prelude.{◌≡◌, ℕ, ◌+◌, ◌*◌, List, [], ◌∷◌, ◌++◌, map, length, Option, Some, None, Result, Ok, Err, Contains, IfOk, IsSome, OnOk}
 use Rattle.imp_syntax.specs.Plain.{Procedure}
+use Rattle.imp_syntax.specs.declared.edit.Location.{Location}
 use Rattle.imp_syntax.specs.declared.edit.Location.TheVariants.{Before}
 use Rattle.imp_slots.specs.Plain.{Act, DoBreak, Does, Effect, Routine}
 use Rattle.imp_slots.specs.ActionViews.{act_of}
@@ -17,27 +18,16 @@ use Rattle.domain_laws.specs.Operations.{Operations}
 use Rattle.domain_laws.specs.Checks.{Check, check_of, kind_in, kind_of}
 use Rattle.alarm_report.specs.Reporting.{verdict_for}
 use Rattle.alarm_report.specs.declared.Found.{Found}
-use Rattle.batch_meaning.specs.Answers.{Answer, Refuses}
+use Rattle.batch_meaning.specs.Answers.{Answer}
 use Rattle.batch_meaning.specs.Batch.{LoopOptions}
 use Rattle.batch_meaning.specs.Report.{CheckedStatement, checked_one, checked_statements, finding, report, verdict_on}
 use Rattle.batch_sound.specs.Theorem.{IsFindingSound}
-use Rattle.cell_names.specs.Paths.{CellName}
-use Rattle.cell_rows.specs.Targets.{demanded}
-use Rattle.daig_order.specs.InTurn.{missing_in_turn}
-use Rattle.daig_demands.specs.Claims.{names_of}
-use Rattle.daig_demands.specs.Reports.{check_targets}
-use Rattle.cell_graph.specs.Same.{same_name}
 use Rattle.daig_graph.specs.declared.value.Value.{Value}
-use Rattle.daig_query.specs.declared.store.Store.{Store}
-use Rattle.daig_query.specs.Answered.{Says}
-use Rattle.daig_machine.specs.Machine.{Machine, keeping}
-use Rattle.daig_machine.specs.Turns.{IsBetween, answer_at, cell_value, is_kept, missing_for_report, after_report}
-use Rattle.daig_session.specs.declared.book.Book.{Book}
-use Rattle.daig_session.specs.declared.error.QueryError.{QueryError}
-use Rattle.daig_session.specs.declared.error.QueryError.TheVariants as query
+use Rattle.daig_machine.specs.Machine.{Machine}
+use Rattle.daig_machine.specs.Turns.{IsBetween, missing_for_report, after_report}
 use Rattle.daig_session.specs.declared.parts.Parts.{Parts}
-use Rattle.daig_session.specs.Holds.{Holds}
-use Rattle.daig_session.specs.Sessions.{FromEach, StandsFor, TicksAtMost, TicksFilling}
+use Rattle.daig_session.specs.Places.{chain_count, Tells}
+use Rattle.daig_session.specs.Sessions.{FromEach, TicksAtMost}
 
 -- a statement of a number, if it has a check
 abbrev pub checked_act : ℕ → Act → List CheckedStatement
@@ -77,50 +67,19 @@ IsChecked s = IsSome (kind_in (act_of s))
 abbrev pub HasCheck : List Procedure → ℕ → Type 0
 HasCheck program n = (e : Effect) × (k : Check) × (checked_at program n ≡ checked_one n e (Some k))
 
--- how many chains there are to checked statements
-abbrev pub chain_count : List Routine → List CheckedStatement → ℕ
-chain_count program [] = 0
-chain_count program (c ∷ cs) = length (check_targets program c) + chain_count program cs
+-- where they are asked for
+abbrev pub places_of : List CheckedStatement → List Location
+places_of cs = map (λ c. Before c.number) cs
 
+-- the number of chains to all of a machine's
 abbrev pub checked_chains : Machine → ℕ
-checked_chains m = chain_count (routines_of m.program) (checked_statements (routines_of m.program))
-
--- an answer, or why there is none
-abbrev pub Tells : {S : Type 0} → Answer S → Result (Value S) QueryRefusal → Type 0
-Tells a (Ok v) = Says a (Some v)
-Tells a (Err r) = a ≡ Refuses r
-
--- A question that is refused takes no steps.
-abbrev pub IsUnticked : (before after : ℕ) → QueryError → Type 0
-IsUnticked before after (query.Refused r) = after ≡ before
-IsUnticked before after query.Memory = Unit {0}
+checked_chains m = chain_count (routines_of m.program) (places_of (checked_statements (routines_of m.program)))
 
 module _ {S : Type 0} (dom : Operations S) (m : Machine) where
   -- A report: that of the present program, interpreted from scratch; what was missing for it is kept.
   abbrev pub Reports : (stands : Machine → Type 0) → Result (List Finding) Memory → Type 0
   Reports stands (Ok found) = (found ≡ report dom m.engine (routines_of m.program)) × stands (after_report dom m)
   Reports stands (Err e) = IsBetween (missing_for_report dom m) m stands
-
-  -- what is missing of checked statements, one after another
-  abbrev pub missing_of : List CheckedStatement → List CellName
-  missing_of cs = missing_in_turn (names_of dom m.engine (routines_of m.program) same_name) (is_kept m) (map (λ c. demanded (cell_value dom m) (check_targets (routines_of m.program) c)) cs)
-
-  -- the work for them: a cell that is missing, and two for each chain
-  abbrev pub work_on : List CheckedStatement → ℕ
-  work_on cs = length (missing_of cs) + 2 * chain_count (routines_of m.program) cs
-
-  -- These names are kept beside the others; all else but the cost is as it was.
-  abbrev pub HoldsWith : Store S → Book → List CellName → Type 0
-  HoldsWith store book xs = Holds dom store book (keeping (m.kept ++ xs) book.cost m)
-
-  -- All that is missing of these checked statements is kept, ..
-  abbrev pub HoldsAll : Store S → Book → List CheckedStatement → Type 0
-  HoldsAll store book cs = HoldsWith store book (missing_of cs)
-
-  -- .. or the first so much of it.
-  pub record HoldsPart (store : Store S) (book : Book) (cs : List CheckedStatement) : Type 0 where
-    pub count : ℕ
-    pub some : HoldsWith store book (take count (missing_of cs))
 
   -- what is found of them
   abbrev pub findings : List CheckedStatement → List Finding
@@ -137,63 +96,32 @@ GivesFinding {S} dom id known checked result =
     (engine : LoopOptions) (a : Answer S) (e : Effect) (k : Check) → Tells a known → checked ≡ checked_one id e (Some k) →
     IfOk result (λ f. f ≡ record { id = id; check = kind_of k; verdict = verdict_on dom engine e a })
 
--- the checked statement of this number in a machine's program, those of these numbers, and all of them
-abbrev pub checked_here : ℕ → Machine → List CheckedStatement
-checked_here id m = checked_at m.program id
+-- the checked statement of this number in a machine's program, and those of these numbers
+abbrev pub statement_here : ℕ → Machine → List CheckedStatement
+statement_here id m = checked_at m.program id
 
-abbrev pub checked_in : List ℕ → Machine → List CheckedStatement
-checked_in ids m = checked_among m.program ids
+abbrev pub statements_in : List ℕ → Machine → List CheckedStatement
+statements_in ids m = checked_among m.program ids
 
-abbrev pub all_checked : Machine → List CheckedStatement
-all_checked m = checked_statements (routines_of m.program)
+-- where they are asked for, and where all are
+abbrev pub checked_here : ℕ → Machine → List Location
+checked_here id m = places_of (statement_here id m)
+
+abbrev pub checked_in : List ℕ → Machine → List Location
+checked_in ids m = places_of (statements_in ids m)
+
+abbrev pub all_checked : Machine → List Location
+all_checked m = places_of (checked_statements (routines_of m.program))
 
 -- What a report does for the checked statements of each machine that the session stood for.
 module _ {D S : Type 0} (operations : D → Operations S) (old new : Parts D S) where
-  -- All that is missing of them is kept, ..
-  abbrev pub KeepsAll : (Machine → List CheckedStatement) → Type 0
-  KeepsAll checked = FromEach operations old new (λ dom m _. HoldsAll dom m new.engine.store new.book (checked m))
-
-  -- .. or the first so much of it.
-  abbrev pub KeepsPart : (Machine → List CheckedStatement) → Type 0
-  KeepsPart checked = FromEach operations old new (λ dom m _. HoldsPart dom m new.engine.store new.book (checked m))
-
   -- What is found of them comes after what was found before.
   abbrev pub Finds : (Machine → List CheckedStatement) → (before after : List Finding) → Type 0
   Finds checked before after = FromEach operations old new (λ dom m _. after ≡ before ++ findings dom m (checked m))
 
   -- All that is found is what is found of all of them.
   abbrev pub FindsAll : (found : List Finding) → Type 0
-  FindsAll found = FromEach operations old new (λ dom m _. found ≡ findings dom m (all_checked m))
-
-  -- What is known before a statement is the answer there under the empty call string.
-  abbrev pub TellsBefore : ℕ → Result (Value S) QueryRefusal → Type 0
-  TellsBefore id known = FromEach operations old new (λ dom m _. Tells (answer_at dom (Before id) [] m) known)
-
-  -- The work for them is counted, ..
-  abbrev pub TicksForAll : (counted : D → ℕ) → (Machine → List CheckedStatement) → (before after : ℕ) → Type 0
-  TicksForAll counted checked before after = FromEach operations old new (λ dom m _. TicksAtMost counted old before after (work_on dom m (checked m)))
-
-  -- .. or that for what was filled of it.
-  abbrev pub TicksForPart : (counted : D → ℕ) → (Machine → List CheckedStatement) → (before after : ℕ) → Type 0
-  TicksForPart counted checked before after =
-      (m : Machine) → StandsFor operations old m → TicksFilling counted old new before after (2 * chain_count (routines_of m.program) (checked m))
-
-  -- The same of the one check of a statement, whatever it is.
-  abbrev pub KeepsAllOfOne : ℕ → Type 0
-  KeepsAllOfOne id = (m : Machine) (e : Effect) (k : Check) → StandsFor operations old m →
-      HoldsAll (operations old.engine.domain) m new.engine.store new.book (checked_one id e (Some k))
-
-  abbrev pub KeepsPartOfOne : ℕ → Type 0
-  KeepsPartOfOne id = (m : Machine) (e : Effect) (k : Check) → StandsFor operations old m →
-      HoldsPart (operations old.engine.domain) m new.engine.store new.book (checked_one id e (Some k))
-
-  abbrev pub TicksForOne : (counted : D → ℕ) → ℕ → (before after : ℕ) → Type 0
-  TicksForOne counted id before after = (m : Machine) (e : Effect) (k : Check) → StandsFor operations old m →
-      TicksAtMost counted old before after (work_on (operations old.engine.domain) m (checked_one id e (Some k)))
-
-  abbrev pub TicksForPartOfOne : (counted : D → ℕ) → ℕ → (before after : ℕ) → Type 0
-  TicksForPartOfOne counted id before after = (m : Machine) (e : Effect) (k : Check) → StandsFor operations old m →
-      TicksFilling counted old new before after (2 * chain_count (routines_of m.program) (checked_one id e (Some k)))
+  FindsAll found = FromEach operations old new (λ dom m _. found ≡ findings dom m (checked_statements (routines_of m.program)))
 
   -- A report: that of the present program, interpreted from scratch, ..
   abbrev pub ReportsFrom : Result (List Finding) Memory → Type 0

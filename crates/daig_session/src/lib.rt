@@ -9,7 +9,7 @@
 //! which each call finds and leaves.
 //!
 //! - [`Session::query`] fills what is missing for one question, and answers it; [`Session::report`] asks before each
-//!   statement that has a check, one after another.
+//!   statement that has a check, one after another, [`Session::faults`] where each statement evaluates that can end a run.
 //! - [`Session::ask`] opens a ticket for a question, [`Session::step`] fills a few cells for it at a time,
 //!   [`Session::cancel`] closes it. A ticket keeps how far it has come until the program is another one.
 //! - [`Session::prepare`] works an edit out beside what stands. [`Prepared::commit`] makes it, and cannot fail.
@@ -31,8 +31,11 @@ mod book;
 mod checks;
 mod edits;
 mod error;
+mod faults;
+mod known;
 mod moving;
 mod parts;
+mod pointed;
 mod queries;
 mod reports;
 mod session;

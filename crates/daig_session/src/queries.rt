@@ -3,7 +3,7 @@ ghost use Rattle.std.specs.Prelude.{◌≡◌, ◌≤◌, IfErr, IfOk, OnOk};
 ghost use Rattle.daig_query.specs.Swept.{FillsFew};
 ghost use Rattle.daig_session.specs.Sessions.{IsReadyBy, TicksAtMost, TicksForFilled, cells_filled};
 ghost use Rattle.daig_session.specs.Sessions.{KeepsNextTicket, IsWithinBound};
-ghost use Rattle.daig_session.specs.Reports.{IsUnticked};
+ghost use Rattle.daig_session.specs.Places.{IsUnticked};
 ghost use Rattle.daig_session.specs.Questions.{Asks, HasFilled, FillsMissing, StandsAnswered};
 ghost use Rattle.daig_session.specs.Questions.{StandsBetween, FailsFrom, QuestionsFrom};
 ghost use Rattle.daig_session.specs.Questions.{ExplainsFrom, TicksForMissing, TicksForAnswer};

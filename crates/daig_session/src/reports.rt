@@ -2,18 +2,18 @@
 ghost use Rattle.std.specs.Prelude.{◌≡◌, ◌≤◌, [], IfOk, IsFalse, IsTrue, OnOk, Some};
 ghost use Rattle.imp_slots.specs.ActionViews.{act_of};
 ghost use Rattle.daig_query.specs.Answered.{Says};
-ghost use Rattle.daig_session.specs.Sessions.{StaysBounded, KeepsNextTicket, IsWithinBound};
+ghost use Rattle.daig_session.specs.Sessions.{StaysBounded, KeepsNextTicket};
+ghost use Rattle.daig_session.specs.Sessions.{IsWithinBound};
+ghost use Rattle.daig_session.specs.Places.{Tells, KeepsAll, KeepsPart};
+ghost use Rattle.daig_session.specs.Places.{TicksForAll, TicksForPart};
 ghost use Rattle.daig_session.specs.Reports.{checked_act, checked_at, GivesVerdict, GivesFinding};
-ghost use Rattle.daig_session.specs.Reports.{checked_here, checked_in, all_checked, KeepsAll};
-ghost use Rattle.daig_session.specs.Reports.{KeepsPart, Finds, TicksForAll, TicksForPart};
-ghost use Rattle.daig_session.specs.Reports.{KeepsAllOfOne, KeepsPartOfOne, TicksForOne};
-ghost use Rattle.daig_session.specs.Reports.{TicksForPartOfOne, ReportsFrom, TicksForReport};
-ghost use Rattle.daig_session.specs.Reports.{AreFindingsSound, HasCheck, Tells, IsChecked};
-ghost use Rattle.daig_session.specs.Reports.{FindsAll, TellsBefore};
+ghost use Rattle.daig_session.specs.Reports.{checked_here, checked_in, all_checked};
+ghost use Rattle.daig_session.specs.Reports.{statement_here, statements_in, Finds, FindsAll};
+ghost use Rattle.daig_session.specs.Reports.{ReportsFrom, TicksForReport};
+ghost use Rattle.daig_session.specs.Reports.{AreFindingsSound, HasCheck, IsChecked};
 ghost use Rattle.daig_session.specs.Engines.{KeepsSetup};
 
 use crate::checks::{all_statements, checked_stmt};
-use crate::error::QueryError;
 use crate::session::Session;
 use alarm_report::Found;
 use base_values::{Items, Memory};
@@ -94,33 +94,6 @@ impl<D: Domain> Session<D> {
         }
     }
 
-    /// Fills what is missing before a statement, and gives what is known there, or why nothing is.
-    fn known_before<L: Ledger>(
-        &mut self,
-        alloc: Global,
-        id: StmtId,
-        steps: &mut Steps<L>,
-    ) -> Result<Result<Value<D::State>, QueryRefusal>, Memory>
-        ensures bounded { IsWithinBound self.new }
-        ensures setup { KeepsSetup self.old.engine self.new.engine }
-        ensures program { self.new.book.history.now ≡ self.old.book.history.now }
-        ensures keeps_part { KeepsPartOfOne D.operations self.old self.new id }
-        ensures keeps_all { OnOk result (KeepsAllOfOne D.operations self.old self.new id) }
-        ensures tells { IfOk result (TellsBefore D.operations self.old self.new id) }
-        ensures least { steps.old ≤ steps.new }
-        ensures ticked { OnOk result
-            (TicksForOne D.operations self.old self.new D.counted id steps.old steps.new) }
-        ensures ticked_filled { TicksForPartOfOne D.operations self.old self.new D.counted id
-            steps.old steps.new }
-    {
-        self.ready();
-        match self.query(alloc, &Location::Before(id), &[], steps) {
-            Ok(value) => Ok(Ok(value)),
-            Err(QueryError::Refused(why)) => Ok(Err(why)),
-            Err(QueryError::Memory) => Err(Memory),
-        }
-    }
-
     /// Fills what is missing before a statement, and adds what is found of it, if it has a check.
     fn add_finding<L: Ledger>(
         &mut self,
@@ -135,7 +108,7 @@ impl<D: Domain> Session<D> {
         ensures keeps_all { OnOk result
             (KeepsAll D.operations self.old self.new (checked_here id)) }
         ensures found { OnOk result
-            (Finds D.operations self.old self.new (checked_here id) found.old found.new) }
+            (Finds D.operations self.old self.new (statement_here id) found.old found.new) }
         ensures least { steps.old ≤ steps.new }
         ensures ticked { OnOk result (TicksForAll D.operations self.old self.new D.counted
             (checked_here id) steps.old steps.new) }
@@ -145,7 +118,7 @@ impl<D: Domain> Session<D> {
         if !self.has_check(id) {
             return Ok(());
         }
-        let known = self.known_before(alloc, id, steps)?;
+        let known = self.known_at(alloc, &Location::Before(id), steps)?;
         let finding = self.found_at(alloc, id, &known)?;
         found.push(finding)
     }
@@ -164,7 +137,7 @@ impl<D: Domain> Session<D> {
         ensures keeps_all { OnOk result
             (KeepsAll D.operations self.old self.new (checked_in stmts.now)) }
         ensures found { OnOk result
-            (Finds D.operations self.old self.new (checked_in stmts.now) found.old found.new) }
+            (Finds D.operations self.old self.new (statements_in stmts.now) found.old found.new) }
         ensures least { steps.old ≤ steps.new }
         ensures ticked { OnOk result (TicksForAll D.operations self.old self.new D.counted
             (checked_in stmts.now) steps.old steps.new) }

@@ -6,8 +6,8 @@ use Rattle.imp_slots.specs.BlockViews.{before_code, code_of}
 use Rattle.imp_slots.specs.declared.blocks.SlotNode.{SlotNode}
 use Rattle.imp_slots.specs.declared.blocks.SlotNode.TheVariants as node
 use Rattle.fault_points.specs.Points.{guard_points}
-use Rattle.fault_report.specs.declared.statement.Evaluated.{Evaluated}
-use Rattle.fault_report.specs.Statements.{evaluated, evaluated_in}
+use Rattle.fault_verdicts.specs.declared.statement.Evaluated.{Evaluated}
+use Rattle.fault_verdicts.specs.Statements.{evaluated, evaluated_in}
 use Rattle.base_values.proofs.Lists.{drop_item}
 
 before : (s : SlotNode) (r : Code) → evaluated_in (before_code s r) ≡ evaluated_in (before_code s Stop) ++ evaluated_in r

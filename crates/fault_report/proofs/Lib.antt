@@ -1,5 +1,1 @@
 pub mod Collected
-pub mod Judged
-pub mod Items
-pub mod Fitted
-pub mod Soundness

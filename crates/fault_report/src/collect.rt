@@ -2,11 +2,11 @@
 ghost use Rattle.std.specs.Prelude.{◌≡◌, ◌++◌, IfOk, OnOk, false};
 ghost use Rattle.imp_slots.specs.Plain.{Stop};
 ghost use Rattle.imp_slots.specs.BlockViews.{before_code};
-ghost use Rattle.fault_report.specs.Statements.{evaluated, evaluated_in, evaluated_statements};
+ghost use Rattle.fault_verdicts.specs.Statements.{evaluated, evaluated_in, evaluated_statements};
 
-use crate::Evaluated;
 use base_values::{Items, Memory};
 use fault_points::{FaultPoints, points_of_action, points_of_arguments, points_of_condition};
+use fault_verdicts::Evaluated;
 use imp_slots::{Routine, SlotBlock, SlotNode};
 use std::alloc::Global;
 

@@ -1,51 +1,25 @@
 //! The report of a program.
-ghost use Rattle.std.specs.Prelude.{◌≡◌, ◌++◌, [], map, IfOk, OnOk};
+ghost use Rattle.std.specs.Prelude.{◌≡◌, ◌++◌, [], IfOk, OnOk};
 ghost use Rattle.imp_check.specs.Slots.{routines_of};
 ghost use Rattle.batch_meaning.specs.Answers as meaning;
 ghost use Rattle.call_contexts.specs.Settings.{setting_of};
-ghost use Rattle.fault_report.specs.Verdicts.{kinds_of};
-ghost use Rattle.fault_report.specs.Statements.{place_of};
-ghost use Rattle.fault_report.specs.Report.{verdict_in, fault_finding, findings_by, findings_of, faults};
-ghost use Rattle.fault_report.specs.Theorem.{IsReportSound};
-ghost use Rattle.fault_report.specs.Known.{IsKnown};
+ghost use Rattle.fault_verdicts.specs.Statements.{place_of};
+ghost use Rattle.fault_verdicts.specs.Report.{findings_by, findings_of, faults};
+ghost use Rattle.fault_verdicts.specs.Theorem.{IsReportSound};
+ghost use Rattle.fault_verdicts.specs.Known.{IsKnown};
 
 use crate::collect::statements_of;
-use crate::sound::faults_are_sound;
-use crate::verdicts::{kinds_of, verdict_of};
-use crate::{Evaluated, FaultFinding, FaultFindings, FaultVerdict};
 use base_values::{Items, Memory};
 use batch_interp::{Answer, QueryError, answer};
 use batch_meaning::QueryRefusal;
 use call_contexts::Setting;
 use domain_laws::{Domain, Steps};
-use fault_points::FaultPoint;
-use imp_syntax::{Location, StmtId};
+use fault_verdicts::{Evaluated, Known, add_findings, faults_are_sound};
+use fault_words::FaultFindings;
+use imp_syntax::Location;
 use imp_table::Checked;
-use imp_words::FaultKind;
 use std::alloc::Global;
 use std::sync::ledger::Ledger;
-
-/// Where a statement evaluates.
-fn place_of(x: &Evaluated) -> Location
-    ensures is { result ≡ place_of x.now }
-{
-    if x.is_loop {
-        Location::Head(StmtId::new(x.number))
-    } else {
-        Location::Before(StmtId::new(x.number))
-    }
-}
-
-/// What is known where a statement evaluates.
-#[derive(Drop)]
-enum Known<S> {
-    /// No chain comes to its procedure.
-    Absent,
-    /// Nothing, where a loop used up its budget on the way.
-    Nothing,
-    /// The state there.
-    State(S),
-}
 
 /// What is known at a location, over all runs.
 fn known_at<D: Domain, L: Ledger>(
@@ -69,48 +43,8 @@ fn known_at<D: Domain, L: Ledger>(
     }
 }
 
-/// What is known of a kind of fault.
-fn verdict_in<D: Domain>(
-    alloc: Global,
-    dom: &D,
-    known: &Known<D::State>,
-    kind: FaultKind,
-    points: &[FaultPoint],
-) -> Result<FaultVerdict, Memory>
-    ensures is { (a : meaning.Answer D.State) → IsKnown a known.now →
-        IfOk result (λ v. v ≡ verdict_in (D.operations dom.now) a kind points.now) }
-{
-    match known {
-        Known::Absent => Ok(FaultVerdict::Dead),
-        Known::Nothing => Ok(FaultVerdict::May),
-        Known::State(state) => verdict_of(alloc, dom, state, kind, points),
-    }
-}
-
-/// Adds what is found of a statement.
-fn add_findings<D: Domain>(
-    alloc: Global,
-    dom: &D,
-    x: &Evaluated,
-    kinds: &[FaultKind],
-    known: &Known<D::State>,
-    found: &mut FaultFindings,
-) -> Result<(), Memory>
-    ensures added { (a : meaning.Answer D.State) → IsKnown a known.now →
-        OnOk result (found.new ≡ found.old ++ map (fault_finding (D.operations dom.now) a x.now) kinds.now) }
-{
-    for kind in kinds {
-        let verdict = verdict_in(alloc, dom, known, *kind, x.points.as_slice())?;
-        found.push(FaultFinding {
-            id: StmtId::new(x.number),
-            fault: *kind,
-            verdict,
-        })?;
-    }
-    Ok(())
-}
-
 /// Adds what is found of a statement, if it has fault points.
+#[tactic(auto, using(fault_verdicts::proofs::Pointed::none_found))]
 fn add_statement<D: Domain, L: Ledger>(
     alloc: Global,
     dom: &D,
@@ -125,12 +59,11 @@ fn add_statement<D: Domain, L: Ledger>(
         (meaning.answer (D.operations dom.now) setting.now.engine (routines_of prog.now)
         (place_of x.now) []) x.now) }
 {
-    let kinds = kinds_of(alloc, x.points.as_slice())?;
-    if kinds.is_empty() {
+    if !x.has_points() {
         return Ok(());
     }
-    let known = known_at(alloc, dom, prog, setting, &place_of(x), steps)?;
-    add_findings(alloc, dom, x, kinds.as_slice(), &known, found)
+    let known = known_at(alloc, dom, prog, setting, &x.place(), steps)?;
+    add_findings(alloc, dom, x, &known, found)
 }
 
 /// What is found of statements.

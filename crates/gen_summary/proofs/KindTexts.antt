@@ -45,6 +45,7 @@ unfolding kind_in reply_text reply_fields escape_byte
 kind_is (r.State text) = refl
 kind_is (r.Over head chain) = refl
 kind_is (r.Report items) = refl
+kind_is (r.Faults found) = refl
 kind_is (r.Cost cost kept) = refl
 kind_is (r.Program next text) = refl
 kind_is (r.Listing text) = refl

@@ -13,6 +13,7 @@ abbrev pub kind_of : Reply → ReplyKind
 kind_of (r.State text) = State
 kind_of (r.Over head chain) = Over
 kind_of (r.Report items) = Other
+kind_of (r.Faults found) = Other
 kind_of (r.Cost cost kept) = Cost
 kind_of (r.Program next text) = Next
 kind_of (r.Listing text) = Other
@@ -56,6 +57,7 @@ abbrev pub cost_in : Reply → ℕ
 cost_in (r.State text) = 0
 cost_in (r.Over head chain) = 0
 cost_in (r.Report items) = 0
+cost_in (r.Faults found) = 0
 cost_in (r.Cost cost kept) = cost
 cost_in (r.Program next text) = 0
 cost_in (r.Listing text) = 0

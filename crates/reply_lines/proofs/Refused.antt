@@ -83,6 +83,7 @@ module _ {S : Type 0} (dom : Operations S) (m : Machine) (line : List ℕ) where
   unfolding request_turn
   request_keeps readings (q.State query) reads = state_keeps query (answer_at dom query.at query.string m)
   request_keeps readings q.Report reads = λ why is. absurd cc
+  request_keeps readings (q.Faults only) reads = λ why is. absurd cc
   request_keeps readings q.Cost reads = stays _
   request_keeps readings q.Program reads = stays _
   request_keeps readings q.Listing reads = stays _

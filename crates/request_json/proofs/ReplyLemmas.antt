@@ -11,10 +11,11 @@ use Rattle.request_json.specs.declared.reply.Reply.{Reply}
 use Rattle.request_json.specs.declared.reply.Reply.TheVariants as r
 use Rattle.request_json.specs.declared.reply.Refusal.{Refusal}
 use Rattle.request_json.specs.declared.reply.Refusal.TheVariants as refusal
+use Rattle.fault_words.specs.declared.finding.FaultFinding.{FaultFinding}
 use Rattle.imp_words.specs.declared.findings.Finding.{Finding}
 use Rattle.imp_words.specs.declared.run_end.RunEnd.{RunEnd}
 use Rattle.imp_words.specs.declared.run_end.RunEnd.TheVariants as end
-use Rattle.request_json.specs.Replies.{object_of, list_of, count, check_fields, item_data, check_name, verdict_name, reply_fields}
+use Rattle.request_json.specs.Replies.{object_of, list_of, count, check_fields, item_data, fault_data, check_name, verdict_name, fault_name, fault_verdict_name, reply_fields}
 use Rattle.request_json.specs.Sending.{SendsField, SendsFields}
 use Rattle.request_json.proofs.SendingLemmas.{IsSorted, object_sent, AreWhole, object_whole, counts_whole}
 
@@ -24,6 +25,11 @@ pub item_sent : (found : Finding) (old first a b last new : Log) → Logs old fi
 unfolding serde_json_on_literals
 item_sent found old first a b last new begun check id verdict ended =
     object_sent (check_fields found ++ (codes "verdict", string (verdict_name found.verdict)) ∷ []) (refl, (refl, tt)) old first last new begun (a, check, (b, id, (last, verdict, refl))) ended
+
+pub fault_sent : (f : FaultFinding) (old first a b last new : Log) → Logs old first (map_begins (Some 3)) → SendsField (codes "fault") (string (fault_name f.fault)) first a → SendsField (codes "id") (count f.id) a b → SendsField (codes "verdict") (string (fault_verdict_name f.verdict)) b last → Logs last new map_ends → SendsValue (fault_data f) old new
+unfolding serde_json_on_literals
+fault_sent f old first a b last new begun fault id verdict ended =
+    object_sent ((codes "fault", string (fault_name f.fault)) ∷ (codes "id", count f.id) ∷ (codes "verdict", string (fault_verdict_name f.verdict)) ∷ []) (refl, (refl, tt)) old first last new begun (a, fault, (b, id, (last, verdict, refl))) ended
 
 -- ---- replies
 
@@ -60,6 +66,7 @@ unfolding serde_json_on_literals reply_fields
 replies_sorted (r.State text) = tt
 replies_sorted (r.Over head chain) = (refl, tt)
 replies_sorted (r.Report items) = tt
+replies_sorted (r.Faults found) = tt
 replies_sorted (r.Cost cost kept) = (refl, tt)
 replies_sorted (r.Program next text) = (refl, tt)
 replies_sorted (r.Listing text) = tt
@@ -80,6 +87,11 @@ items_whole : (items : List Finding) → has_float (list_of item_data items) ≡
 unfolding serde_json_on_literals
 items_whole [] = refl
 items_whole (i ∷ items) = items_whole items
+
+faults_whole : (found : List FaultFinding) → has_float (list_of fault_data found) ≡ false
+unfolding serde_json_on_literals
+faults_whole [] = refl
+faults_whole (f ∷ found) = faults_whole found
 
 run_whole : (e : RunEnd) (reached : Option ℕ) → AreWhole (reply_fields (r.Run e reached))
 unfolding reply_fields
@@ -114,6 +126,7 @@ unfolding reply_fields
 replies_whole (r.State text) = (refl, tt)
 replies_whole (r.Over head chain) = (counts_whole chain, (refl, tt))
 replies_whole (r.Report items) = (items_whole items, tt)
+replies_whole (r.Faults found) = (faults_whole found, tt)
 replies_whole (r.Cost cost kept) = (refl, (refl, tt))
 replies_whole (r.Program next text) = (refl, (refl, tt))
 replies_whole (r.Listing text) = (refl, tt)

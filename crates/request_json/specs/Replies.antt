@@ -5,6 +5,9 @@ use Rattle.serde_json.specs.Data.{Data, Items, no_items, item, Members, no_membe
 use Rattle.serde_json.specs.Written.{compact_text}
 use Rattle.request_json.specs.declared.reply.Reply.{Reply}
 use Rattle.request_json.specs.declared.reply.Reply.TheVariants as r
+use Rattle.fault_words.specs.declared.finding.FaultFinding.{FaultFinding}
+use Rattle.fault_words.specs.declared.finding.FaultVerdict.{FaultVerdict}
+use Rattle.fault_words.specs.declared.finding.FaultVerdict.TheVariants as of_fault
 use Rattle.imp_words.specs.declared.findings.Finding.{Finding}
 use Rattle.imp_words.specs.declared.findings.Check.{Check}
 use Rattle.imp_words.specs.declared.findings.Check.TheVariants as check
@@ -69,6 +72,16 @@ check_fields found = (codes "check", string (check_name found.check)) ∷ (codes
 
 abbrev pub item_data : Finding → Data
 item_data found = object_of (check_fields found ++ (codes "verdict", string (verdict_name found.verdict)) ∷ [])
+
+-- what is found of a fault
+abbrev pub fault_verdict_name : FaultVerdict → List ℕ
+fault_verdict_name of_fault.Dead = codes "dead"
+fault_verdict_name of_fault.Safe = codes "safe"
+fault_verdict_name of_fault.May = codes "may"
+fault_verdict_name of_fault.Fails = codes "fails"
+
+abbrev pub fault_data : FaultFinding → Data
+fault_data f = object_of ((codes "fault", string (fault_name f.fault)) ∷ (codes "id", count f.id) ∷ (codes "verdict", string (fault_verdict_name f.verdict)) ∷ [])
 
 -- how a run ended, where and by which fault, and how often it stood at the location
 abbrev pub end_name : RunEnd → List ℕ
@@ -138,6 +151,7 @@ unfoldable pub reply_fields : Reply → List (List ℕ × Data)
 reply_fields (r.State text) = (codes "state", text_of text) ∷ []
 reply_fields (r.Over head chain) = (codes "chain", list_of count chain) ∷ (codes "over", count head) ∷ []
 reply_fields (r.Report items) = (codes "report", list_of item_data items) ∷ []
+reply_fields (r.Faults found) = (codes "faults", list_of fault_data found) ∷ []
 reply_fields (r.Cost cost kept) = (codes "cost", count cost) ∷ (codes "kept", count kept) ∷ []
 reply_fields (r.Program next text) = (codes "next", count next) ∷ (codes "program", text_of text) ∷ []
 reply_fields (r.Listing text) = (codes "listing", text_of text) ∷ []

@@ -1,6 +1,7 @@
 -- The request of a line.
 use Rattle.std.specs.Prelude.{ℕ, nat_le, List, length, Option, Some, None, option_and_then, option_map, Result, Ok, Err, codes, if◌then◌else◌}
 use Rattle.imp_lex.specs.Names.{is_name}
+use Rattle.fault_words.specs.declared.finding.FaultVerdict.{FaultVerdict}
 use Rattle.imp_syntax.specs.declared.words.VariableKind.{VariableKind}
 use Rattle.imp_syntax.specs.declared.edit.Location.{Location}
 use Rattle.imp_syntax.specs.declared.edit.Place.{Place}
@@ -14,7 +15,7 @@ use Rattle.request_json.specs.declared.request.Query.{Query}
 use Rattle.request_json.specs.declared.request.Request.{Request}
 use Rattle.request_json.specs.declared.request.Request.TheVariants as r
 use Rattle.request_json.specs.Members.{json_of, text_at, number_at, string_at, inputs_at, greatest_id, greatest_ticket, greatest_count}
-use Rattle.request_json.specs.Names.{verb_of}
+use Rattle.request_json.specs.Names.{verb_of, verdict_of}
 use Rattle.request_json.specs.Places.{location_of, place_of, kind_of}
 
 -- the fields
@@ -25,6 +26,11 @@ location_at request = option_and_then location_of (text_at (codes "at") request)
 abbrev pub location_if_there : Option Data → Option (Option Location)
 location_if_there None = Some None
 location_if_there (Some value) = option_map Some (option_and_then location_of (as_str value))
+
+-- where the field is a verdict or absent
+abbrev pub verdict_if_there : Option Data → Option (Option FaultVerdict)
+verdict_if_there None = Some None
+verdict_if_there (Some value) = option_map Some (option_and_then verdict_of (as_str value))
 
 abbrev pub place_at : Data → Option Place
 place_at request = option_and_then place_of (text_at (codes "place") request)
@@ -69,6 +75,9 @@ abbrev pub run_at : Data → Option Request
 run_at request =
     option_and_then (λ inputs. both (r.Run inputs) (number_at greatest_count (codes "fuel") request) (location_if_there (get (codes "at") request)))
     (inputs_at request)
+
+abbrev pub faults_at : Data → Option Request
+faults_at request = option_map r.Faults (verdict_if_there (get (codes "only") request))
 
 abbrev pub declare_at : Data → Option Request
 declare_at request = option_and_then (λ proc. both (r.Declare proc) (name_at request) (kind_at request)) (text_at (codes "proc") request)
@@ -118,6 +127,7 @@ verb_request v.Redo request = Ok r.Redo
 verb_request v.Ask request = query_request r.Ask (bounded_query (query_at request))
 verb_request v.Step request = or_bad (step_at request)
 verb_request v.Cancel request = or_bad (cancel_at request)
+verb_request v.Faults request = or_bad (faults_at request)
 
 abbrev pub named_request : Data → Option Verb → Result Request ReadError
 named_request request None = Err e.NoRequest

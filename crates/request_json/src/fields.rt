@@ -5,11 +5,13 @@ ghost use Rattle.std.specs.Option.{option_copied};
 ghost use Rattle.serde_json.specs.Find.{get};
 ghost use Rattle.serde_json.specs.View.{view, items_view};
 ghost use Rattle.request_json.specs.Members.{text_at, number_in, number_at, string_at, inputs_at, integer_in, items_read, list_in, greatest_id, greatest_ticket, greatest_count};
-ghost use Rattle.request_json.specs.Requests.{location_at, location_if_there, place_at, kind_at, name_at, id_at, query_at};
+ghost use Rattle.request_json.specs.Requests.{location_at, location_if_there, verdict_if_there, place_at, kind_at, name_at, id_at, query_at};
 
+use crate::names::verdict_of;
 use crate::places::{kind_of, location_of, place_of};
 use crate::request::Query;
 use base_values::{Items, Memory, Text};
+use fault_words::FaultVerdict;
 use imp_lex::is_name;
 use imp_syntax::{Chain, Location, Place, StmtId, VariableKind};
 use serde_json::Value;
@@ -105,6 +107,19 @@ pub(crate) fn location_if_there(
     match location_of(alloc, text.as_bytes())? {
         Some(location) => Ok(Some(Some(location))),
         None => Ok(None),
+    }
+}
+
+/// The verdict of a member that may be absent.
+pub(crate) fn verdict_if_there(request: &Value) -> Option<Option<FaultVerdict>>
+    ensures verdict { result ≡ verdict_if_there (get (codes "only") (view request.now)) }
+{
+    let Some(member) = request.get("only") else {
+        return Some(None);
+    };
+    match verdict_of(member.as_str()?) {
+        Some(verdict) => Some(Some(verdict)),
+        None => None,
     }
 }
 

@@ -1,7 +1,9 @@
 //! Which request a `do` names: where [`read_request`](crate::read_request) refuses a line as no
 //! request.
 ghost use Rattle.std.specs.Prelude.{◌≡◌};
-ghost use Rattle.request_json.specs.Names.{verb_of};
+ghost use Rattle.request_json.specs.Names.{verb_of, verdict_of};
+
+use fault_words::FaultVerdict;
 
 /// What a request does, by the text of its `do`.
 #[derive(Clone, Copy, Debug, PartialEq, Eq)]
@@ -25,6 +27,7 @@ pub(crate) enum Verb {
     Ask,
     Step,
     Cancel,
+    Faults,
 }
 
 /// The verb of a name.
@@ -52,6 +55,21 @@ pub(crate) fn verb_of(name: &str) -> Option<Verb>
         "ask" => Some(Verb::Ask),
         "step" => Some(Verb::Step),
         "cancel" => Some(Verb::Cancel),
+        "faults" => Some(Verb::Faults),
+        _ => None,
+    }
+}
+
+/// The verdict of a name.
+#[tactic(auto, unfolding(crate::specs::Names::verdict_of))]
+pub(crate) fn verdict_of(name: &str) -> Option<FaultVerdict>
+    ensures is { result ≡ verdict_of name.now }
+{
+    match name {
+        "dead" => Some(FaultVerdict::Dead),
+        "safe" => Some(FaultVerdict::Safe),
+        "may" => Some(FaultVerdict::May),
+        "fails" => Some(FaultVerdict::Fails),
         _ => None,
     }
 }

@@ -1,13 +1,13 @@
 //! From a line to its request, or the first of its faults: the clauses of [`read_request`].
 ghost use Rattle.std.specs.Prelude.{◌≡◌, None, Some, IfOk, IfErr, codes};
-ghost use Rattle.request_json.specs.Requests.{verb_request, request_of, called_request, bounded_query, or_bad, query_at, run_at, replace_at, insert_at, delete_at, guard_at, declare_at, add_at, drop_at, step_at, cancel_at};
+ghost use Rattle.request_json.specs.Requests.{verb_request, request_of, called_request, bounded_query, or_bad, query_at, run_at, replace_at, insert_at, delete_at, guard_at, declare_at, add_at, drop_at, step_at, cancel_at, faults_at};
 ghost use Rattle.request_json.specs.Members.{text_at};
 ghost use Rattle.serde_json.specs.View.{view};
 
 use crate::error::ReadError;
 use crate::fields::{
     copied_text, count_at, id_at, inputs_at, kind_at, location_if_there, name_at, place_at,
-    query_at, text_at, ticket_at,
+    query_at, text_at, ticket_at, verdict_if_there,
 };
 use crate::line::json_of;
 use crate::names::{Verb, verb_of};
@@ -186,6 +186,16 @@ fn cancel_at(request: &Value) -> Option<Request>
     }
 }
 
+/// The findings of faults.
+fn faults_at(request: &Value) -> Option<Request>
+    ensures request { result ≡ faults_at (view request.now) }
+{
+    match verdict_if_there(request) {
+        Some(only) => Some(Request::Faults { only }),
+        None => None,
+    }
+}
+
 /// The request that a verb asks of the members.
 #[tactic(auto, unfolding(crate::specs::Requests::verb_request))]
 fn verb_request(alloc: Global, verb: Verb, request: &Value) -> Result<Request, ReadError>
@@ -213,6 +223,7 @@ fn verb_request(alloc: Global, verb: Verb, request: &Value) -> Result<Request, R
         Verb::Ask => Ok(Request::Ask(query_of(alloc, request)?)),
         Verb::Step => or_bad(step_at(request)),
         Verb::Cancel => or_bad(cancel_at(request)),
+        Verb::Faults => or_bad(faults_at(request)),
     }
 }
 

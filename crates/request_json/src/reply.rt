@@ -1,5 +1,6 @@
 //! What lines are answered: the values that [`reply_line`](crate::reply_line) writes.
 use base_values::{Items, Text};
+use fault_words::FaultFindings;
 use imp_syntax::{Chain, StmtId};
 use imp_words::{Findings, QueryRefusal as QueryRefusal, RunEnd};
 
@@ -17,6 +18,8 @@ pub enum Reply {
     },
     /// The findings of all checks.
     Report(Findings),
+    /// What is found of faults.
+    Faults(FaultFindings),
     /// What was worked out.
     Cost {
         /// How many cells the last query filled.

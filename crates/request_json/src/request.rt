@@ -1,5 +1,6 @@
 //! What lines ask: the values that [`read_request`](crate::read_request) gives.
 use base_values::{Items, Text};
+use fault_words::FaultVerdict;
 use imp_syntax::{Chain, Location, Place, StmtId, VariableKind};
 
 /// What a line asks.
@@ -9,6 +10,11 @@ pub enum Request {
     State(Query),
     /// The findings of all checks.
     Report,
+    /// What is found of every fault that can end a run.
+    Faults {
+        /// The verdict of those that are wanted; all where there is none.
+        only: Option<FaultVerdict>,
+    },
     /// How many cells the last query filled, and how many there are.
     Cost,
     /// The program's text, and the next statement number.

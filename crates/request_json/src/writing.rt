@@ -1,12 +1,13 @@
 //! From a reply to its line, by serde: the clause `line` of [`reply_line`].
 ghost use Rattle.std.specs.Prelude.{◌≡◌, length, IfOk, OnOk};
 ghost use Rattle.serde_json.specs.Events.{SendsValue};
-ghost use Rattle.request_json.specs.Replies.{reply_text, object_of, reply_fields, list_of, item_data, check_name, verdict_name, fault_name, end_name, end_fields, reached_fields, query_number, refusal_number, place_fields, fault_fields};
+ghost use Rattle.request_json.specs.Replies.{reply_text, object_of, reply_fields, list_of, item_data, fault_data, check_name, verdict_name, fault_verdict_name, fault_name, end_name, end_fields, reached_fields, query_number, refusal_number, place_fields, fault_fields};
 ghost use Rattle.request_json.specs.Sending.{SendsField, SendsFields};
 
 use crate::reply::{ProgramFault, Refusal, Reply};
 use crate::sending::{send_count, send_ids, send_text, send_word};
 use base_values::Memory;
+use fault_words::{FaultFinding, FaultVerdict};
 use imp_words::{Check, FaultKind, Finding, QueryRefusal as QueryRefusal, RunEnd, Verdict};
 use serde::{Described, Serialize, Serializer};
 use std::alloc::Global;
@@ -44,6 +45,18 @@ fn fault_word(fault: FaultKind) -> &'static str
         FaultKind::Length => "length",
         FaultKind::Null => "null",
         FaultKind::Assert => "assert",
+    }
+}
+
+/// The word of what is found of a fault.
+fn fault_verdict_word(verdict: FaultVerdict) -> &'static str
+    ensures word { result.now ≡ fault_verdict_name verdict }
+{
+    match verdict {
+        FaultVerdict::Dead => "dead",
+        FaultVerdict::Safe => "safe",
+        FaultVerdict::May => "may",
+        FaultVerdict::Fails => "fails",
     }
 }
 
@@ -128,6 +141,41 @@ fn send_report<S: Serializer>(out: &mut S, items: &[Finding]) -> Result<(), S::E
 {
     out.key("report")?;
     send_items(out, items)
+}
+
+/// Sends what is found of a fault.
+#[tactic(auto, using(crate::proofs::ReplyLemmas::fault_sent))]
+fn send_found<S: Serializer>(out: &mut S, found: &FaultFinding) -> Result<(), S::Error>
+    ensures item { OnOk result (SendsValue (fault_data found.now)
+        (S.written out.old) (S.written out.new)) }
+{
+    out.begin_map(Some(3))?;
+    send_word(out, "fault", fault_word(found.fault))?;
+    send_count(out, "id", u64::from(found.id.number()))?;
+    send_word(out, "verdict", fault_verdict_word(found.verdict))?;
+    out.end_map()
+}
+
+/// Sends what is found of faults.
+fn send_all_found<S: Serializer>(out: &mut S, found: &[FaultFinding]) -> Result<(), S::Error>
+    ensures list { OnOk result (SendsValue (list_of fault_data found.now)
+        (S.written out.old) (S.written out.new)) }
+{
+    out.begin_seq(Some(found.len()))?;
+    for one in found {
+        send_found(out, one)?;
+    }
+    out.end_seq()
+}
+
+/// Sends a report of faults.
+#[tactic(auto, using(crate::proofs::SendingLemmas::one_field), unfolding(crate::specs::Replies::reply_fields))]
+fn send_faults<S: Serializer>(out: &mut S, found: &[FaultFinding]) -> Result<(), S::Error>
+    ensures fields { OnOk result (SendsFields (reply_fields (Reply.Faults found.now))
+        (S.written out.old) (S.written out.new)) }
+{
+    out.key("faults")?;
+    send_all_found(out, found)
 }
 
 /// Sends where a run ended, and by which fault.
@@ -218,6 +266,7 @@ fn send_fields<S: Serializer>(out: &mut S, reply: &Reply) -> Result<(), S::Error
             send_count(out, "over", u64::from(head.number()))
         }
         Reply::Report(items) => send_report(out, items.as_slice()),
+        Reply::Faults(found) => send_faults(out, found.as_slice()),
         Reply::Cost { cost, kept } => {
             send_count(out, "cost", *cost)?;
             send_count(out, "kept", *kept)

@@ -12,6 +12,7 @@ use Rattle.batch_meaning.specs.Answers.{Answer, Refuses, Answers, Found, In, Mis
 use Rattle.batch_meaning.specs.Batch.{LoopOptions}
 use Rattle.cell_names.specs.Paths.{CellName}
 use Rattle.cell_rows.specs.Targets.{Target, targets}
+use Rattle.fault_verdicts.specs.Statements.{fault_places}
 use Rattle.cell_kept_set.specs.Touched as touched
 use Rattle.imp_edit.specs.Edited.{edited, next_after}
 use Rattle.imp_edit.specs.Refusals.{edit_refusal}
@@ -20,8 +21,8 @@ use Rattle.serve_script.specs.Lines.{kept}
 use Rattle.serve_script.specs.Replies.{machine_after, next_to}
 use Rattle.daig_machine.specs.Claims.{AreKept, KeepsCells}
 use Rattle.daig_machine.specs.Machine.{Machine, Ticket, ticket_of}
-use Rattle.daig_machine.specs.Turns.{answer_at, back_to, missing_names, missing_at, missing_for_report, with_program, on_to, or_none, targets_in}
-use Rattle.daig_machine.proofs.Asking.{question_keeps, report_keeps}
+use Rattle.daig_machine.specs.Turns.{answer_at, back_to, missing_names, missing_at, missing_for_faults, missing_for_report, with_program, on_to, or_none, targets_in}
+use Rattle.daig_machine.proofs.Asking.{places_keep, question_keeps, report_keeps}
 use Rattle.daig_machine.proofs.Moving.{move_keeps}
 use Rattle.request_json.specs.declared.error.ReadError.{ReadError}
 use Rattle.request_json.specs.declared.request.Query.{Query}
@@ -73,6 +74,11 @@ module _ {S : Type 0} (dom : Operations S) (m : Machine) (has : HasCells dom m) 
   gains_report =
       let xs = missing_for_report dom m in
       subst Gains (take-length xs) (report_keeps dom m.engine (routines_of m.program) checked m.kept has.cells (inputs_named dom) (length xs))
+
+  gains_faults : Gains (missing_for_faults dom m)
+  gains_faults =
+      let xs = missing_for_faults dom m in
+      subst Gains (take-length xs) (places_keep dom m.engine (routines_of m.program) checked m.kept has.cells (inputs_named dom) (fault_places (routines_of m.program)) (length xs))
 
   -- ---- turns
 
@@ -136,6 +142,7 @@ module _ {S : Type 0} (dom : Operations S) (m : Machine) (has : HasCells dom m) 
   unfolding request_turn
   request_cells readings (q.State query) fine = state_cells query (answer_at dom query.at query.string m)
   request_cells readings q.Report fine = gains_report
+  request_cells readings (q.Faults only) fine = gains_faults
   request_cells readings q.Cost fine = has.cells
   request_cells readings q.Program fine = has.cells
   request_cells readings q.Listing fine = has.cells

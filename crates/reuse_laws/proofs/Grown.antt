@@ -76,6 +76,7 @@ module _ {S : Type 0} (dom : Operations S) (m : Machine) where
   unfolding request_turn
   request_grows readings (q.State query) quiet = state_grows query (answer_at dom query.at query.string m)
   request_grows readings q.Report quiet = more_names _ _
+  request_grows readings (q.Faults only) quiet = more_names _ _
   request_grows readings q.Cost quiet = more_itself m
   request_grows readings q.Program quiet = more_itself m
   request_grows readings q.Listing quiet = more_itself m

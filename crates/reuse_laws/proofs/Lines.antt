@@ -74,6 +74,7 @@ module _ {S : Type 0} (dom : Operations S) (m n : Machine) (less : IsShorter dom
   request_less first second (q.State query) is =
       subst (λ (a : Answer S). gain n (state_by dom query a n) ≤ gain m (state_by dom query (answer_at dom query.at query.string m) m)) (same query.at query.string) (state_less query (answer_at dom query.at query.string m))
   request_less first second q.Report is = gains_less n.kept _ m.kept _ less.report.most
+  request_less first second (q.Faults only) is = gains_less n.kept _ m.kept _ less.faults.most
   request_less first second q.Cost is = absurd is
   request_less first second q.Program is = absurd is
   request_less first second q.Listing is = absurd is

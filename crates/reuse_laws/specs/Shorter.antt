@@ -10,7 +10,7 @@ use Rattle.cell_names.specs.Paths.{CellName}
 use Rattle.serve_script.specs.Replies.{machine_after}
 use Rattle.daig_machine.specs.Claims.{KeepsCells}
 use Rattle.daig_machine.specs.Machine.{Machine, ticket_of}
-use Rattle.daig_machine.specs.Turns.{is_kept, missing_at, missing_for_report}
+use Rattle.daig_machine.specs.Turns.{is_kept, missing_at, missing_for_faults, missing_for_report}
 use Rattle.request_json.specs.declared.request.Request.{Request}
 use Rattle.request_json.specs.declared.request.Request.TheVariants as q
 use Rattle.request_json.specs.declared.reply.Reply.{Reply}
@@ -26,18 +26,20 @@ pub record KeepsMore (m n : Machine) : Type 0 where
   pub holds : HoldsSame m n
   pub more : (x : CellName) → is_kept m x ≡ true → is_kept n x ≡ true
 
--- The request is answered at once from the cells: a state, what it depends on, the report.
+-- The request is answered at once from the cells: a state, what it depends on, the report, that of faults.
 abbrev pub IsQuestion : Request → Type 0
 IsQuestion (q.State query) = Unit {0}
 IsQuestion (q.Why query) = Unit {0}
 IsQuestion q.Report = Unit {0}
+IsQuestion (q.Faults only) = Unit {0}
 IsQuestion _ = ⊥
 
 module _ {S : Type 0} (dom : Operations S) where
-  -- For each question, and for a report, the second machine misses the rest of what the first misses.
+  -- For each question, and for each report, the second machine misses the rest of what the first misses.
   pub record IsShorter (m n : Machine) : Type 0 where
     pub question : (l : Location) (string : List ℕ) → IsRest (is_kept n) (missing_at dom l string n) (missing_at dom l string m)
     pub report : IsRest (is_kept n) (missing_for_report dom n) (missing_for_report dom m)
+    pub faults : IsRest (is_kept n) (missing_for_faults dom n) (missing_for_faults dom m)
 
   -- So it is where the second keeps more, and both keep cells of the program alone.
   abbrev pub MoreIsShorter : Type 0

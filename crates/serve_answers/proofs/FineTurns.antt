@@ -73,6 +73,7 @@ request_fine : {S : Type 0} (readings : Readings) (dom : Operations S) (request 
 unfolding request_turn
 request_fine readings dom (q.State query) m h = state_fine dom query (answer_at dom query.at query.string m) m h
 request_fine readings dom q.Report m h = keeping_fine _ _ m h
+request_fine readings dom (q.Faults only) m h = keeping_fine _ _ m h
 request_fine readings dom q.Cost m h = h
 request_fine readings dom q.Program m h = h
 request_fine readings dom q.Listing m h = h

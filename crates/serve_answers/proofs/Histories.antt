@@ -7,6 +7,8 @@ use Rattle.domain_laws.specs.Operations.{Operations}
 use Rattle.batch_meaning.specs.Batch.{LoopOptions}
 use Rattle.batch_meaning.specs.Answers.{Answer, Refuses, Answers, Found, In, Misses, answer, procedure_of}
 use Rattle.batch_meaning.specs.Report.{report}
+use Rattle.fault_words.specs.Picking.{with_verdict}
+use Rattle.fault_verdicts.specs.Report.{faults}
 use Rattle.cell_rows.specs.Targets.{targets}
 use Rattle.cell_graph.specs.Same.{same_name}
 use Rattle.why_slice.specs.Upstream.{upstream}
@@ -50,6 +52,7 @@ module _ {S : Type 0} (dom : Operations S) where
   reply_from program engine (q.Why query) =
       why_reply (upstream_from program engine query (procedure_of (routines_of program) query.at)) (answer dom engine (routines_of program) query.at query.string)
   reply_from program engine q.Report = r.Report (report dom engine (routines_of program))
+  reply_from program engine (q.Faults only) = r.Faults (with_verdict only (faults dom engine (routines_of program)))
   reply_from program engine q.Listing = r.Listing (listing program)
   reply_from program engine (q.Run inputs fuel at) = asked_run (routines_of program) inputs fuel at
   reply_from program engine _ = r.Refused refusal.NoRequest
@@ -71,6 +74,7 @@ module _ {S : Type 0} (dom : Operations S) where
   unfolding request_turn
   is_from readings m (q.State query) is = state_from query m (answer_at dom query.at query.string m)
   is_from readings m q.Report is = refl
+  is_from readings m (q.Faults only) is = refl
   is_from readings m q.Cost is = absurd is
   is_from readings m q.Program is = absurd is
   is_from readings m q.Listing is = refl

@@ -8,6 +8,7 @@ mod Carried
 mod FineLemmas
 pub mod FineTurns
 pub mod Sources
+mod Picked
 mod SoundTurns
 mod Quiet
 pub mod Histories

@@ -100,6 +100,7 @@ module _ {S : Type 0} (dom : Operations S) (m : Machine) where
   unfolding request_turn
   request_told readings (q.State query) = state_told query (answer_at dom query.at query.string m) refl
   request_told readings q.Report = tt
+  request_told readings (q.Faults only) = tt
   request_told readings q.Cost = tt
   request_told readings q.Program = program_told m.next m.program
   request_told readings q.Listing = tt

@@ -84,6 +84,7 @@ quiet_request : {S : Type 0} (readings : Readings) (dom : Operations S) (request
 unfolding request_turn
 quiet_request readings dom (q.State query) m quiet = state_keeps dom query (answer_at dom query.at query.string m) m
 quiet_request readings dom q.Report m quiet = record { program = refl; engine = refl; past = refl; future = refl }
+quiet_request readings dom (q.Faults only) m quiet = record { program = refl; engine = refl; past = refl; future = refl }
 quiet_request readings dom q.Cost m quiet = keeps_all m
 quiet_request readings dom q.Program m quiet = keeps_all m
 quiet_request readings dom q.Listing m quiet = keeps_all m
@@ -123,6 +124,7 @@ pub accepted_leads : {S : Type 0} (readings : Readings) (dom : Operations S) (re
 unfolding request_turn
 accepted_leads readings dom (q.State query) m n is accepted = absurd is
 accepted_leads readings dom q.Report m n is accepted = absurd is
+accepted_leads readings dom (q.Faults only) m n is accepted = absurd is
 accepted_leads readings dom q.Cost m n is accepted = absurd is
 accepted_leads readings dom q.Program m n is accepted = absurd is
 accepted_leads readings dom q.Listing m n is accepted = absurd is

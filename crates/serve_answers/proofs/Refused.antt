@@ -88,6 +88,7 @@ request_safe : {S : Type 0} (readings : Readings) (dom : Operations S) (request 
 unfolding request_turn
 request_safe readings dom (q.State query) m = state_safe dom query (answer_at dom query.at query.string m) m
 request_safe readings dom q.Report m = λ why is. cc
+request_safe readings dom (q.Faults only) m = λ why is. cc
 request_safe readings dom q.Cost m = stays _ m
 request_safe readings dom q.Program m = stays _ m
 request_safe readings dom q.Listing m = stays _ m

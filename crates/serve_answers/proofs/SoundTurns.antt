@@ -1,5 +1,5 @@
--- Replies of states, reports and lists of statements are sound.
-use Rattle.std.proofs.Common.{◌≡◌, inl, inr, ℕ, ℤ, nat_le, nat_lt, Bool, true, false, List, [], ◌∷◌, length, Option, Some, None, Result, Ok, Err, if◌then◌else◌, refl, sym, subst}
+-- Replies of states, reports, of checks and of faults, and lists of statements are sound.
+use Rattle.std.proofs.Common.{◌≡◌, ◌∙◌, inl, inr, ℕ, ℤ, nat_le, nat_lt, Bool, true, false, List, [], ◌∷◌, length, Option, Some, None, Result, Ok, Err, if◌then◌else◌, refl, sym, subst}
 use Rattle.std.specs.Prelude.{Contains}
 use Rattle.imp_syntax.specs.Plain.{Procedure}
 use Rattle.imp_syntax.specs.declared.edit.Edit.{Edit}
@@ -15,6 +15,11 @@ use Rattle.batch_meaning.specs.Values.{Value, State, Over}
 use Rattle.batch_meaning.specs.Answers.{Answer, Refuses, Answers, Found, In, Misses, answer_in, procedure_of}
 use Rattle.batch_meaning.specs.Report.{report}
 use Rattle.batch_sound.specs.Theorem.{AreAnswersSound, AreReportsSound}
+use Rattle.fault_words.specs.declared.finding.FaultFinding.{FaultFinding}
+use Rattle.fault_words.specs.declared.finding.FaultVerdict.{FaultVerdict}
+use Rattle.fault_words.specs.Picking.{with_verdict}
+use Rattle.fault_verdicts.specs.Report.{faults}
+use Rattle.fault_verdicts.specs.Theorem as of_faults
 use Rattle.imp_edit.specs.Refusals.{edit_refusal}
 use Rattle.imp_edit.specs.declared.error.EditError.{EditError}
 use Rattle.cell_rows.proofs.Ways.{targets_some}
@@ -43,6 +48,7 @@ use Rattle.serve_answers.specs.Lines.{request_turn, read_turn, server}
 use Rattle.serve_answers.specs.Fine.{HasFinePrograms, opening}
 use Rattle.serve_answers.specs.Sound.{IsAsked, IsReplySound, TurnsAreSound, MomentsAreSound}
 use Rattle.serve_answers.proofs.FineTurns.{after_fine}
+use Rattle.serve_answers.proofs.Picked.{picked_of, all_asked}
 use Rattle.serve_answers.proofs.Sources.{sources_fine}
 
 -- ---- replies that are neither a state nor a report nor a list of statements
@@ -50,6 +56,7 @@ use Rattle.serve_answers.proofs.Sources.{sources_fine}
 abbrev IsOther : Reply → Type 0
 IsOther (r.State text) = ⊥
 IsOther (r.Report report) = ⊥
+IsOther (r.Faults found) = ⊥
 IsOther (r.Why stmts) = ⊥
 IsOther reply = Unit {0}
 
@@ -95,7 +102,7 @@ edit_other dom (Ok e) m = edit_by_other dom e (edit_refusal e m.program m.next) 
 
 -- ---- states, reports and lists of statements
 
-module _ {S : Type 0} (dom : Operations S) (covers : S → Heap → List Variables → Type 0) (answers : AreAnswersSound dom covers) (reports : AreReportsSound dom) (suffices : UpstreamSuffices dom) (m : Machine) (line : List ℕ) (h : HasFinePrograms m) where
+module _ {S : Type 0} (dom : Operations S) (covers : S → Heap → List Variables → Type 0) (answers : AreAnswersSound dom covers) (reports : AreReportsSound dom) (faulting : of_faults.AreFaultsSound dom) (suffices : UpstreamSuffices dom) (m : Machine) (line : List ℕ) (h : HasFinePrograms m) where
   abbrev Sound : Reply → Type 0
   Sound reply = IsReplySound dom covers m line reply
 
@@ -103,6 +110,7 @@ module _ {S : Type 0} (dom : Operations S) (covers : S → Heap → List Variabl
   other_sound reply other = record {
     state = λ text is. absurd (subst (λ (x : Reply). IsOther x) is other);
     report = λ report is. absurd (subst (λ (x : Reply). IsOther x) is other);
+    faults = λ found is. absurd (subst (λ (x : Reply). IsOther x) is other);
     why = λ stmts is. absurd (subst (λ (x : Reply). IsOther x) is other);
   }
 
@@ -118,6 +126,7 @@ module _ {S : Type 0} (dom : Operations S) (covers : S → Heap → List Variabl
       describes = λ c reached. answers m.engine (routines_of m.program) l string s c h.present.fine.fit is reached;
     };
     report = λ report same. absurd cc;
+    faults = λ found same. absurd cc;
     why = λ stmts same. absurd cc;
   }
   told_sound l string (Over n z) asked is = other_sound (state_reply dom l (Over n z) m) tt
@@ -146,6 +155,26 @@ module _ {S : Type 0} (dom : Operations S) (covers : S → Heap → List Variabl
     report = λ findings is f within.
         let same : report dom m.engine (routines_of m.program) ≡ findings = cc in
         reports m.engine (routines_of m.program) f h.present.fine.fit (subst (λ (fs : List Finding). Contains fs f) (sym same) within);
+    faults = λ found is. absurd cc;
+    why = λ stmts is. absurd cc;
+  }
+
+  -- what is found of all faults
+  abbrev present : List FaultFinding
+  present = faults dom m.engine (routines_of m.program)
+
+  present_sound : of_faults.IsReportSound (routines_of m.program) present
+  present_sound = faulting m.engine (routines_of m.program) h.present.fine.fit
+
+  faults_sound : (only : Option FaultVerdict) → request_of line ≡ Ok (q.Faults only) → Sound (r.Faults (with_verdict only present))
+  faults_sound only reads = record {
+    state = λ text is. absurd cc;
+    report = λ findings is. absurd cc;
+    faults = λ found is.
+        let same : with_verdict only present ≡ found = cc in record {
+          each = λ f within. present_sound.each f (picked_of only present f (subst (λ (fs : List FaultFinding). Contains fs f) (sym same) within));
+          whole = λ asks. subst (of_faults.IsReportSound (routines_of m.program)) (all_asked line only present reads asks ∙ same) present_sound;
+        };
     why = λ stmts is. absurd cc;
   }
 
@@ -167,6 +196,7 @@ module _ {S : Type 0} (dom : Operations S) (covers : S → Heap → List Variabl
   why_sound query (Answers v) reads is = record {
     state = λ text same. absurd cc;
     report = λ report same. absurd cc;
+    faults = λ found same. absurd cc;
     why = λ stmts same.
         let e : upstream_at dom query.at query.string m ≡ stmts = cc in record {
           at = query.at;
@@ -180,6 +210,7 @@ module _ {S : Type 0} (dom : Operations S) (covers : S → Heap → List Variabl
   unfolding request_turn
   request_sound readings (q.State query) reads = state_sound query (answer_at dom query.at query.string m) (inl reads) refl
   request_sound readings q.Report reads = report_sound
+  request_sound readings (q.Faults only) reads = faults_sound only reads
   request_sound readings q.Cost reads = other_sound _ tt
   request_sound readings q.Program reads = other_sound _ (program_other m.next m.program)
   request_sound readings q.Listing reads = other_sound _ tt
@@ -203,10 +234,10 @@ module _ {S : Type 0} (dom : Operations S) (covers : S → Heap → List Variabl
   read_sound readings (Err error) reads = other_sound _ tt
   read_sound readings (Ok request) reads = request_sound readings request reads
 
-pub turns_sound : {S : Type 0} (dom : Operations S) (covers : S → Heap → List Variables → Type 0) → AreAnswersSound dom covers → AreReportsSound dom → UpstreamSuffices dom → TurnsAreSound dom covers
-turns_sound dom covers answers reports suffices = λ s line h. read_sound dom covers answers reports suffices s.machine line h s.readings (request_of line) refl
+pub turns_sound : {S : Type 0} (dom : Operations S) (covers : S → Heap → List Variables → Type 0) → AreAnswersSound dom covers → AreReportsSound dom → of_faults.AreFaultsSound dom → UpstreamSuffices dom → TurnsAreSound dom covers
+turns_sound dom covers answers reports faulting suffices = λ s line h. read_sound dom covers answers reports faulting suffices s.machine line h s.readings (request_of line) refl
 
-pub moments_sound : {S : Type 0} (dom : Operations S) (covers : S → Heap → List Variables → Type 0) → AreAnswersSound dom covers → AreReportsSound dom → UpstreamSuffices dom → MomentsAreSound dom covers
-moments_sound dom covers answers reports suffices = λ readings engine source program is before line.
-    turns_sound dom covers answers reports suffices (machine_after (server dom) (opening readings engine program) before) line
+pub moments_sound : {S : Type 0} (dom : Operations S) (covers : S → Heap → List Variables → Type 0) → AreAnswersSound dom covers → AreReportsSound dom → of_faults.AreFaultsSound dom → UpstreamSuffices dom → MomentsAreSound dom covers
+moments_sound dom covers answers reports faulting suffices = λ readings engine source program is before line.
+    turns_sound dom covers answers reports faulting suffices (machine_after (server dom) (opening readings engine program) before) line
     (after_fine dom (opening readings engine program) before (sources_fine readings engine source program is))

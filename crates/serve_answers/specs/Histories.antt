@@ -21,11 +21,13 @@ pub record HoldsSame (m n : Machine) : Type 0 where
   pub program : m.program ≡ n.program
   pub engine : m.engine ≡ n.engine
 
--- The request asks for what the present program alone determines: a state, what it depends on, the report, the listing, a run.
+-- The request asks for what the present program alone determines: a state, what it depends on, the report, that of faults, the
+-- listing, a run.
 abbrev pub IsOfProgram : Request → Type 0
 IsOfProgram (q.State query) = Unit {0}
 IsOfProgram (q.Why query) = Unit {0}
 IsOfProgram q.Report = Unit {0}
+IsOfProgram (q.Faults only) = Unit {0}
 IsOfProgram q.Listing = Unit {0}
 IsOfProgram (q.Run inputs fuel at) = Unit {0}
 IsOfProgram _ = ⊥
@@ -44,6 +46,7 @@ IsEdit _ = ⊥
 abbrev pub IsQuiet : Request → Type 0
 IsQuiet (q.State query) = Unit {0}
 IsQuiet q.Report = Unit {0}
+IsQuiet (q.Faults only) = Unit {0}
 IsQuiet q.Cost = Unit {0}
 IsQuiet q.Program = Unit {0}
 IsQuiet q.Listing = Unit {0}

@@ -12,13 +12,14 @@ use Rattle.serve_replies.specs.Refusals.{line_refusal}
 use Rattle.serve_replies.specs.Texts.{long_reply}
 use Rattle.serve_answers.specs.Readings.{Readings}
 use Rattle.serve_answers.specs.Edits.{replace_of, insert_of, delete_of, guard_of, declare_of, add_of, drop_of}
-use Rattle.serve_answers.specs.Turns.{Outcome, refused, cost_turn, program_turn, listing_turn, run_turn, state_turn, report_turn, ask_turn, step_turn, cancel_turn, edit_turn, undo_turn, redo_turn, why_turn}
+use Rattle.serve_answers.specs.Turns.{Outcome, refused, cost_turn, program_turn, listing_turn, run_turn, state_turn, report_turn, faults_turn, ask_turn, step_turn, cancel_turn, edit_turn, undo_turn, redo_turn, why_turn}
 
 module _ {S : Type 0} (readings : Readings) (dom : Operations S) where
   -- What a request is replied, and the machine after it.
   unfoldable pub request_turn : Request → Machine → Outcome
   request_turn (q.State query) m = state_turn dom query m
   request_turn q.Report m = report_turn dom m
+  request_turn (q.Faults only) m = faults_turn dom only m
   request_turn q.Cost m = cost_turn m
   request_turn q.Program m = program_turn m
   request_turn q.Listing m = listing_turn m

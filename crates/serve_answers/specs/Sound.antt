@@ -1,5 +1,5 @@
 -- What is claimed of states, reports and lists of statements that lines are replied.
-use Rattle.std.specs.Prelude.{◌≡◌, ◌⊎◌, ℕ, List, Some, Ok, Contains}
+use Rattle.std.specs.Prelude.{◌≡◌, ◌⊎◌, ℕ, List, None, Some, Ok, Contains}
 use Rattle.imp_syntax.specs.Plain.{Procedure}
 use Rattle.imp_syntax.specs.declared.edit.Location.{Location}
 use Rattle.imp_check.specs.Slots.{routines_of}
@@ -13,6 +13,8 @@ use Rattle.batch_meaning.specs.Values.{State}
 use Rattle.batch_meaning.specs.Batch.{LoopOptions}
 use Rattle.batch_meaning.specs.Answers.{Answers}
 use Rattle.batch_sound.specs.Theorem.{IsFindingSound}
+use Rattle.fault_words.specs.declared.finding.FaultFinding.{FaultFinding}
+use Rattle.fault_verdicts.specs.Theorem as of_faults
 use Rattle.why_slice.specs.Claims.{Suffices}
 use Rattle.serve_script.specs.Replies.{machine_after}
 use Rattle.daig_machine.specs.Machine.{Machine, Ticket, ticket_of}
@@ -56,6 +58,12 @@ pub record IsDescribed {S : Type 0} (dom : Operations S) (covers : S → Heap �
 abbrev pub IsReportSound : (program : List Procedure) → (report : List Finding) → Type 0
 IsReportSound program report = (f : Finding) → Contains report f → IsFindingSound (routines_of program) f
 
+-- Each finding says what is so in every run of the program; and where the line asks for all of them, each fault with which a run
+-- ends is told as one that may come or after which no run goes on, so that no run fails where none is.
+pub record AreFaultsSound (program : List Procedure) (line : List ℕ) (found : List FaultFinding) : Type 0 where
+  pub each : (f : FaultFinding) → Contains found f → of_faults.IsFaultSound (routines_of program) f
+  pub whole : request_of line ≡ Ok (q.Faults None) → of_faults.IsReportSound (routines_of program) found
+
 -- The line asks what an answer depends on, and these statements are all: another simple statement in the place of one that is
 -- not among them leaves the answer of the present program as it is, where the thresholds of all procedures stay.
 pub record AreCauses {S : Type 0} (dom : Operations S) (m : Machine) (line stmts : List ℕ) : Type 0 where
@@ -64,11 +72,12 @@ pub record AreCauses {S : Type 0} (dom : Operations S) (m : Machine) (line stmts
   pub asks : request_of line ≡ Ok (q.Why (record { at = at; string = string }))
   pub suffice : Suffices dom m.engine m.program at string stmts
 
--- A reply that is a state describes the runs of the present program, one that is a report is sound, and one that is a list of
--- statements has all that the answer depends on.
+-- A reply that is a state describes the runs of the present program, one that is a report, of checks or of faults, is sound, and
+-- one that is a list of statements has all that the answer depends on.
 pub record IsReplySound {S : Type 0} (dom : Operations S) (covers : S → Heap → List Variables → Type 0) (m : Machine) (line : List ℕ) (reply : Reply) : Type 0 where
   pub state : (text : List ℕ) → reply ≡ r.State text → IsDescribed dom covers m line text
   pub report : (report : List Finding) → reply ≡ r.Report report → IsReportSound m.program report
+  pub faults : (found : List FaultFinding) → reply ≡ r.Faults found → AreFaultsSound m.program line found
   pub why : (stmts : List ℕ) → reply ≡ r.Why stmts → AreCauses dom m line stmts
 
 -- so is the reply to the line

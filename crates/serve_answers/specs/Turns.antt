@@ -9,11 +9,14 @@ use Rattle.domain_laws.specs.Operations.{Operations}
 use Rattle.batch_meaning.specs.Values.{Value}
 use Rattle.batch_meaning.specs.Answers.{Answer, Refuses, Answers}
 use Rattle.batch_meaning.specs.Report.{report}
+use Rattle.fault_words.specs.declared.finding.FaultVerdict.{FaultVerdict}
+use Rattle.fault_words.specs.Picking.{with_verdict}
+use Rattle.fault_verdicts.specs.Report.{faults}
 use Rattle.imp_edit.specs.Edited.{next_after}
 use Rattle.imp_edit.specs.Refusals.{edit_refusal}
 use Rattle.imp_edit.specs.declared.error.EditError.{EditError}
 use Rattle.daig_machine.specs.Machine.{Machine, Ticket, ticket_of}
-use Rattle.daig_machine.specs.Turns.{answer_at, after_question, after_close, after_edit, after_last_step, missing_at, with_ticket, redone, after_report, after_step, undone, upstream_at}
+use Rattle.daig_machine.specs.Turns.{answer_at, after_question, after_close, after_edit, after_last_step, missing_at, with_ticket, redone, after_faults, after_report, after_step, undone, upstream_at}
 use Rattle.request_json.specs.declared.request.Query.{Query}
 use Rattle.request_json.specs.declared.reply.Reply.{Reply}
 use Rattle.request_json.specs.declared.reply.Reply.TheVariants as r
@@ -99,6 +102,10 @@ module _ {S : Type 0} (dom : Operations S) where
 
   abbrev pub report_turn : Machine → Outcome
   report_turn m = goes (r.Report (report dom m.engine (routines_of m.program))) (after_report dom m)
+
+  -- what is found of faults, of those that have a verdict where one is given
+  abbrev pub faults_turn : (only : Option FaultVerdict) → Machine → Outcome
+  faults_turn only m = goes (r.Faults (with_verdict only (faults dom m.engine (routines_of m.program)))) (after_faults dom m)
 
   -- ---- tickets
 

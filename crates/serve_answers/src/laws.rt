@@ -7,6 +7,7 @@ ghost use Rattle.serve_answers.specs.Sound.{MomentsAreSound, TurnsAreSound};
 
 use batch_sound::{answers_are_sound, reports_are_sound};
 use domain_laws::Domain;
+use fault_verdicts::faults_are_sound;
 use why_slice::answers_stay;
 
 /// A line that is refused leaves the machine as it is, except a step of a ticket whose location is gone: that closes the
@@ -24,15 +25,16 @@ pub fn machines_stay_fine<D: Domain>()
 
 /// A reply that is a state, to a question or to a step of a ticket, describes each configuration that a run of the present
 /// program reaches there. A reply that is a report calls no check safe that a run fails, and no statement dead that a run
-/// comes to. A reply that is a list of statements has all that the answer depends on: another simple statement in the place
-/// of one that is not listed leaves the answer as it is, where the thresholds of all procedures stay. So it is after any lines
-/// of any script.
+/// comes to. A report of faults tells each fault with which a run ends, and each of its verdicts is so in all runs. A reply
+/// that is a list of statements has all that the answer depends on: another simple statement in the place of one that is not
+/// listed leaves the answer as it is, where the thresholds of all procedures stay. So it is after any lines of any script.
 pub fn replies_are_sound<D: Domain>()
     ensures turn { (d : D) → TurnsAreSound (D.operations d) (D.covers d) }
     ensures moment { (d : D) → MomentsAreSound (D.operations d) (D.covers d) }
 {
     answers_are_sound::<D>();
     reports_are_sound::<D>();
+    faults_are_sound::<D>();
     answers_stay::<D>();
 }
 

@@ -5,7 +5,7 @@ use Rattle.concrete_sem.specs.Values.{Variables, Heap}
 use Rattle.domain_laws.specs.Operations.{Operations}
 use Rattle.batch_meaning.specs.Batch.{LoopOptions}
 use Rattle.batch_meaning.specs.Report.{report}
-use Rattle.fault_report.specs.Report.{faults}
+use Rattle.fault_verdicts.specs.Report.{faults}
 use Rattle.dom_interval_meaning.specs.Covers.{covers as covered_by_intervals}
 use Rattle.dom_interval_meaning.specs.Domain.{intervals}
 use Rattle.dom_interval_words.specs.Words.{interval_port}

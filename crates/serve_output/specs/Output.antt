@@ -4,8 +4,7 @@ use Rattle.imp_syntax.specs.Plain.{Procedure}
 use Rattle.imp_check.specs.Slots.{routines_of}
 use Rattle.batch_meaning.specs.Batch.{LoopOptions}
 use Rattle.batch_meaning.specs.Report.{report}
-use Rattle.fault_report.specs.Report.{faults}
-use Rattle.fault_lines.specs.Line.{faults_text}
+use Rattle.fault_verdicts.specs.Report.{faults}
 use Rattle.io_edge.specs.Outside.{Lacks, Rose}
 use Rattle.serve_script.specs.Lines.{all_lines, whole_lines}
 use Rattle.serve_script.specs.Replies.{replies}
@@ -69,7 +68,7 @@ batch_of settings program = batch_bytes settings.domain (engine_of settings) pro
 
 -- the line of the report of faults
 abbrev pub fault_bytes : DomainName → LoopOptions → List Procedure → List ℕ
-fault_bytes domain engine program = faults_text (faults (meaning_of domain).operations engine (routines_of program))
+fault_bytes domain engine program = reply_text (r.Faults (faults (meaning_of domain).operations engine (routines_of program)))
 
 -- .. by these settings
 abbrev pub faults_of : AnalysisOptions → List Procedure → List ℕ

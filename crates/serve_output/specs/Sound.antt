@@ -14,7 +14,8 @@ use Rattle.cert_check.specs.Verified.{CoversRuns}
 use Rattle.serve_output.specs.Domains.{carried_of, Meaning}
 
 -- At the moment after these lines the line is answered soundly: a state, to a question or to a step of a ticket, describes the
--- runs of the program that is then present, a report is sound, and the statements that an answer depends on are all.
+-- runs of the program that is then present, a report, of checks or of faults, is sound, and the statements that an answer
+-- depends on are all.
 abbrev pub IsSoundAfter : Meaning → Readings → LoopOptions → List Procedure → (before : List (List ℕ)) → (line : List ℕ) → Type 0
 IsSoundAfter domain readings engine program before line =
     IsSoundAt domain.operations domain.covers (machine_after (server domain.operations) (opening readings engine program) before) line

@@ -17,10 +17,10 @@ use dom_interval::Interval;
 use dom_listseg::ListSeg;
 use dom_octagon::Octagon;
 use dom_product::Pair;
-use fault_lines::faults_line;
 use fault_report::fault_report;
 use imp_table::Checked;
 use io_edge::Files;
+use request_json::{Reply, reply_line};
 use serve_command::{AnalysisOptions, DomainName};
 use std::alloc::Global;
 use std::sync::ledger::Ledger;
@@ -37,7 +37,7 @@ fn line_by<D: Named, L: Ledger>(
     ensures bytes { GivesBytes (fault_bytes D.name setting.now.engine program.now) result }
 {
     let findings = fault_report(alloc, domain, program, setting, steps)?;
-    faults_line(alloc, findings)
+    reply_line(alloc, &Reply::Faults(findings))
 }
 
 /// The line of the report of faults, by the domain of the settings. It fails only when memory runs out.

@@ -1,6 +1,7 @@
 -- What the turn of a request is, case by case.
 use Rattle.std.proofs.Common.{◌≡◌, ℕ, ℤ, List, Option, Result, Ok, IfErr, refl, sym, subst}
 use Rattle.imp_syntax.specs.declared.edit.Location.{Location}
+use Rattle.fault_words.specs.declared.finding.FaultVerdict.{FaultVerdict}
 use Rattle.domain_laws.specs.Operations.{Operations}
 use Rattle.daig_machine.specs.Machine.{Machine}
 use Rattle.request_json.specs.declared.request.Query.{Query}
@@ -40,32 +41,34 @@ pub not_filled : {A : Type 0} (p q : Request) → p ≡ q → (Fills (Ok q) → 
 not_filled p q is none fills = absurd (none (subst (λ (request : Request). Fills (Ok request)) is fills))
 
 -- a request that is none of these is for an edit, ..
-pub only_edits : (p : Request) → ((query : Query) → p ≡ asks.State query → ⊥) → (p ≡ asks.Report → ⊥) → (p ≡ asks.Cost → ⊥) → (p ≡ asks.Program → ⊥) → (p ≡ asks.Listing → ⊥) → ((inputs : List ℤ) (fuel : ℕ) (at : Option Location) → p ≡ asks.Run inputs fuel at → ⊥) →
+pub only_edits : (p : Request) → ((query : Query) → p ≡ asks.State query → ⊥) → (p ≡ asks.Report → ⊥) → ((only : Option FaultVerdict) → p ≡ asks.Faults only → ⊥) → (p ≡ asks.Cost → ⊥) → (p ≡ asks.Program → ⊥) → (p ≡ asks.Listing → ⊥) → ((inputs : List ℤ) (fuel : ℕ) (at : Option Location) → p ≡ asks.Run inputs fuel at → ⊥) →
     ((query : Query) → p ≡ asks.Why query → ⊥) → (p ≡ asks.Undo → ⊥) → (p ≡ asks.Redo → ⊥) → ((query : Query) → p ≡ asks.Ask query → ⊥) → ((ticket n : ℕ) → p ≡ asks.Step ticket n → ⊥) → ((ticket : ℕ) → p ≡ asks.Cancel ticket → ⊥) → Edits p
-only_edits (asks.State query) state report cost program listing run why undo redo ask step cancel = absurd (state query refl)
-only_edits asks.Report state report cost program listing run why undo redo ask step cancel = absurd (report refl)
-only_edits asks.Cost state report cost program listing run why undo redo ask step cancel = absurd (cost refl)
-only_edits asks.Program state report cost program listing run why undo redo ask step cancel = absurd (program refl)
-only_edits asks.Listing state report cost program listing run why undo redo ask step cancel = absurd (listing refl)
-only_edits (asks.Run inputs fuel at) state report cost program listing run why undo redo ask step cancel = absurd (run inputs fuel at refl)
-only_edits (asks.Replace id text) state report cost program listing run why undo redo ask step cancel = tt
-only_edits (asks.Insert place text) state report cost program listing run why undo redo ask step cancel = tt
-only_edits (asks.Delete id) state report cost program listing run why undo redo ask step cancel = tt
-only_edits (asks.Guard id text) state report cost program listing run why undo redo ask step cancel = tt
-only_edits (asks.Declare proc name kind) state report cost program listing run why undo redo ask step cancel = tt
-only_edits (asks.Add before text) state report cost program listing run why undo redo ask step cancel = tt
-only_edits (asks.Drop proc) state report cost program listing run why undo redo ask step cancel = tt
-only_edits (asks.Why query) state report cost program listing run why undo redo ask step cancel = absurd (why query refl)
-only_edits asks.Undo state report cost program listing run why undo redo ask step cancel = absurd (undo refl)
-only_edits asks.Redo state report cost program listing run why undo redo ask step cancel = absurd (redo refl)
-only_edits (asks.Ask query) state report cost program listing run why undo redo ask step cancel = absurd (ask query refl)
-only_edits (asks.Step ticket n) state report cost program listing run why undo redo ask step cancel = absurd (step ticket n refl)
-only_edits (asks.Cancel ticket) state report cost program listing run why undo redo ask step cancel = absurd (cancel ticket refl)
+only_edits (asks.State query) state report faults cost program listing run why undo redo ask step cancel = absurd (state query refl)
+only_edits asks.Report state report faults cost program listing run why undo redo ask step cancel = absurd (report refl)
+only_edits (asks.Faults only) state report faults cost program listing run why undo redo ask step cancel = absurd (faults only refl)
+only_edits asks.Cost state report faults cost program listing run why undo redo ask step cancel = absurd (cost refl)
+only_edits asks.Program state report faults cost program listing run why undo redo ask step cancel = absurd (program refl)
+only_edits asks.Listing state report faults cost program listing run why undo redo ask step cancel = absurd (listing refl)
+only_edits (asks.Run inputs fuel at) state report faults cost program listing run why undo redo ask step cancel = absurd (run inputs fuel at refl)
+only_edits (asks.Replace id text) state report faults cost program listing run why undo redo ask step cancel = tt
+only_edits (asks.Insert place text) state report faults cost program listing run why undo redo ask step cancel = tt
+only_edits (asks.Delete id) state report faults cost program listing run why undo redo ask step cancel = tt
+only_edits (asks.Guard id text) state report faults cost program listing run why undo redo ask step cancel = tt
+only_edits (asks.Declare proc name kind) state report faults cost program listing run why undo redo ask step cancel = tt
+only_edits (asks.Add before text) state report faults cost program listing run why undo redo ask step cancel = tt
+only_edits (asks.Drop proc) state report faults cost program listing run why undo redo ask step cancel = tt
+only_edits (asks.Why query) state report faults cost program listing run why undo redo ask step cancel = absurd (why query refl)
+only_edits asks.Undo state report faults cost program listing run why undo redo ask step cancel = absurd (undo refl)
+only_edits asks.Redo state report faults cost program listing run why undo redo ask step cancel = absurd (redo refl)
+only_edits (asks.Ask query) state report faults cost program listing run why undo redo ask step cancel = absurd (ask query refl)
+only_edits (asks.Step ticket n) state report faults cost program listing run why undo redo ask step cancel = absurd (step ticket n refl)
+only_edits (asks.Cancel ticket) state report faults cost program listing run why undo redo ask step cancel = absurd (cancel ticket refl)
 
 -- .. and fills no names
 pub edits_not_filled : (p : Request) → Edits p → Fills (Ok p) → ⊥
 edits_not_filled (asks.State query) edits fills = absurd edits
 edits_not_filled asks.Report edits fills = absurd edits
+edits_not_filled (asks.Faults only) edits fills = absurd edits
 edits_not_filled asks.Cost edits fills = absurd edits
 edits_not_filled asks.Program edits fills = absurd edits
 edits_not_filled asks.Listing edits fills = absurd edits

@@ -31,6 +31,7 @@ module _ {S : Type 0} (dom : Operations S) (readings : Readings) (m : Machine) w
   asked_turn (q.Drop proc) edits = refl
   asked_turn (q.State query) edits = absurd edits
   asked_turn q.Report edits = absurd edits
+  asked_turn (q.Faults only) edits = absurd edits
   asked_turn q.Cost edits = absurd edits
   asked_turn q.Program edits = absurd edits
   asked_turn q.Listing edits = absurd edits

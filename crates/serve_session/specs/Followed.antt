@@ -6,7 +6,7 @@ use Rattle.domain_laws.specs.Operations.{Operations}
 use Rattle.batch_meaning.specs.Answers.{Answer}
 use Rattle.cell_names.specs.Paths.{CellName}
 use Rattle.daig_machine.specs.Machine.{Machine, Ticket, ticket_of}
-use Rattle.daig_machine.specs.Turns.{IsBetween, missing_at, missing_for_report}
+use Rattle.daig_machine.specs.Turns.{IsBetween, missing_at, missing_for_faults, missing_for_report}
 use Rattle.daig_graph.specs.declared.value.Value.{Value}
 use Rattle.daig_query.specs.Answered.{Says}
 use Rattle.daig_session.specs.Sessions.{StandsFor}
@@ -54,6 +54,7 @@ Fills (Err error) = ⊥
 Fills (Ok (q.State query)) = Unit {0}
 Fills (Ok (q.Why query)) = Unit {0}
 Fills (Ok q.Report) = Unit {0}
+Fills (Ok (q.Faults only)) = Unit {0}
 Fills (Ok (q.Step ticket n)) = Unit {0}
 Fills (Ok request) = ⊥
 
@@ -67,6 +68,7 @@ missing_of dom (Err error) m = []
 missing_of dom (Ok (q.State query)) m = missing_at dom query.at query.string m
 missing_of dom (Ok (q.Why query)) m = missing_at dom query.at query.string m
 missing_of dom (Ok q.Report) m = missing_for_report dom m
+missing_of dom (Ok (q.Faults only)) m = missing_for_faults dom m
 missing_of dom (Ok (q.Step ticket n)) m = missing_for_ticket dom (ticket_of ticket m.tickets) m
 missing_of dom (Ok request) m = []
 

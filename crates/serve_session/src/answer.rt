@@ -7,7 +7,7 @@ ghost use Rattle.serve_session.specs.Followed.{FillsOnLine, FillsOnRequest, IsLi
 ghost use Rattle.serve_session.specs.Followed.{OpensAtMostOne};
 
 use crate::edits::edit_request;
-use crate::questions::{report_line, state_line, why_line};
+use crate::questions::{faults_line, report_line, state_line, why_line};
 use crate::tickets::{ask_line, cancel_line, redo_line, step_line, undo_line};
 use crate::told::{cost_line, listing_line, program_line, run_line};
 use crate::written::line_of;
@@ -36,6 +36,7 @@ fn request_line<D: Domain, L: Ledger>(
     match request {
         Request::State(query) => state_line(alloc, session, &query, steps),
         Request::Report => report_line(alloc, session, steps),
+        Request::Faults { only } => faults_line(alloc, session, only, steps),
         Request::Cost => cost_line(alloc, session),
         Request::Program => program_line(alloc, session),
         Request::Listing => listing_line(alloc, session),
@@ -66,8 +67,8 @@ fn unread_line(alloc: Global, error: ReadError) -> Result<Vec<u8>, Memory>
 ///
 /// # Errors
 ///
-/// [`Memory`] alone. A line that asks no question, for no list of statements, for no report and for no step then leaves the
-/// session as it was. After one that does, either some of what was missing is kept, the first of it, and nothing else is
+/// [`Memory`] alone. A line that asks no question, for no list of statements, for no report, of checks or of faults, and for
+/// no step then leaves the session as it was. After one that does, either some of what was missing is kept, the first of it, and nothing else is
 /// changed; or the session stands for the machine after the line, and the reply alone is not written.
 pub fn answer_line<D: Domain, L: Ledger>(
     alloc: Global,

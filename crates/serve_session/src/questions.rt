@@ -1,7 +1,7 @@
 //! Questions, and steps of tickets.
 ghost use Rattle.std.specs.Prelude.{◌≡◌};
-ghost use Rattle.daig_machine.specs.Turns.{missing_for_report};
-ghost use Rattle.serve_answers.specs.Turns.{report_turn, state_turn, why_turn};
+ghost use Rattle.daig_machine.specs.Turns.{missing_for_faults, missing_for_report};
+ghost use Rattle.serve_answers.specs.Turns.{faults_turn, report_turn, state_turn, why_turn};
 ghost use Rattle.serve_session.specs.Followed.{query_refusal, FillsOrTurns, TakesTurn};
 ghost use Rattle.serve_session.specs.Followed.{FillsOnQuery, TellsAnswer, KeepsDomain};
 ghost use Rattle.serve_session.specs.Followed.{OpensAtMostOne};
@@ -11,6 +11,7 @@ use base_values::Memory;
 use daig_graph::Value;
 use daig_session::{QueryError, Session};
 use domain_laws::{Domain, Steps};
+use fault_words::{FaultVerdict, with_verdict};
 use imp_syntax::Location;
 use request_json::{Query, Refusal, Reply};
 use serve_replies::{numbers_of, over_reply, state_reply};
@@ -104,4 +105,23 @@ pub(crate) fn report_line<D: Domain, L: Ledger>(
 {
     let findings = session.report(alloc, steps)?;
     line_of(alloc, Reply::Report(findings))
+}
+
+/// What is found of faults: of those that have this verdict, where one is given.
+pub(crate) fn faults_line<D: Domain, L: Ledger>(
+    alloc: Global,
+    session: &mut Session<D>,
+    only: Option<FaultVerdict>,
+    steps: &mut Steps<L>,
+) -> Result<Vec<u8>, Memory>
+    ensures domain { KeepsDomain session.old session.new }
+    ensures rises { OpensAtMostOne session.old session.new }
+    ensures turn { TakesTurn D.operations session.old session.new
+        (λ dom. faults_turn dom only) result }
+    ensures between { FillsOrTurns D.operations session.old session.new missing_for_faults
+        (λ dom. faults_turn dom only) result }
+{
+    let findings = session.faults(alloc, steps)?;
+    let told = with_verdict(alloc, only, findings)?;
+    line_of(alloc, Reply::Faults(told))
 }

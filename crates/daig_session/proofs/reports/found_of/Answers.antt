@@ -1,5 +1,5 @@
 use Rattle.std.proofs.Common.{subst}
-use Rattle.daig_session.specs.Reports.{Tells}
+use Rattle.daig_session.specs.Places.{Tells}
 use Rattle.daig_session.proofs.reports.found_of.Goals as goal
 
 pub returns-in-Ok : goal.returns-in-Ok

@@ -1,7 +1,7 @@
 use Rattle.std.proofs.Common.{◌≡◌, ◌+◌, ◌++◌, drop}
 use Rattle.imp_slots.specs.Sizes.{code_size}
 use Rattle.imp_slots.specs.BlockViews.{code_of, node_size}
-use Rattle.fault_report.specs.Statements.{evaluated_in}
+use Rattle.fault_verdicts.specs.Statements.{evaluated_in}
 use Rattle.fault_report.proofs.collect.+statements.Given as goal
 
 abbrev pub decreases-add_statements : goal.decreases-add_statements

@@ -1,5 +1,5 @@
 use Rattle.std.proofs.Common.{◌≡◌, ◌++◌, drop}
-use Rattle.fault_report.specs.Statements.{evaluated_statements}
+use Rattle.fault_verdicts.specs.Statements.{evaluated_statements}
 use Rattle.fault_report.proofs.collect.statements_of.Given as goal
 
 abbrev pub invariant-loop-routine : goal.invariant-loop-routine

@@ -1,6 +1,6 @@
 use Rattle.std.proofs.Common.{◌≡◌, ◌++◌, drop}
 use Rattle.imp_check.specs.Slots.{routines_of}
-use Rattle.fault_report.specs.Report.{findings_of}
+use Rattle.fault_verdicts.specs.Report.{findings_of}
 use Rattle.fault_report.proofs.report.findings_of.Given as goal
 
 abbrev pub invariant-loop-x : goal.invariant-loop-x

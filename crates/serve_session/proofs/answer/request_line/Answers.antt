@@ -36,6 +36,16 @@ unfolding request_turn
 returns-in-Report-clause-between g c = λ readings m fills h.
     halted c.report_line.result (λ v. v.items) (g.D.Domain.operations c.args.session.now.engine.domain) m _ readings c.args.request q.Report c.in-Report.is (c.report_line.ensures.between m h)
 
+pub returns-in-Faults-clause-turn : goal.returns-in-Faults-clause-turn
+unfolding request_turn
+returns-in-Faults-clause-turn g c = λ readings m h.
+    turned c.faults_line.result (λ v. v.items) (g.D.Domain.operations c.args.session.now.engine.domain) m _ readings c.args.request (q.Faults c.in-Faults.only) c.in-Faults.is (c.faults_line.ensures.turn m h)
+
+pub returns-in-Faults-clause-between : goal.returns-in-Faults-clause-between
+unfolding request_turn
+returns-in-Faults-clause-between g c = λ readings m fills h.
+    halted c.faults_line.result (λ v. v.items) (g.D.Domain.operations c.args.session.now.engine.domain) m _ readings c.args.request (q.Faults c.in-Faults.only) c.in-Faults.is (c.faults_line.ensures.between m h)
+
 pub returns-in-Undo-clause-turn : goal.returns-in-Undo-clause-turn
 unfolding request_turn
 returns-in-Undo-clause-turn g c = λ readings m h.
@@ -99,6 +109,9 @@ returns-in-Why-clause-unchanged g c = λ m h other. filled_not c.args.request (q
 pub returns-in-Report-clause-unchanged : goal.returns-in-Report-clause-unchanged
 returns-in-Report-clause-unchanged g c = λ m h other. filled_not c.args.request q.Report c.in-Report.is tt other
 
+pub returns-in-Faults-clause-unchanged : goal.returns-in-Faults-clause-unchanged
+returns-in-Faults-clause-unchanged g c = λ m h other. filled_not c.args.request (q.Faults c.in-Faults.only) c.in-Faults.is tt other
+
 pub returns-in-Step-clause-unchanged : goal.returns-in-Step-clause-unchanged
 returns-in-Step-clause-unchanged g c = λ m h other. filled_not c.args.request (q.Step c.in-Step.ticket c.in-Step.n) c.in-Step.is tt other
 
@@ -129,11 +142,11 @@ returns-in-Run-clause-between g c = λ readings m fills h. not_filled c.args.req
 pub returns-in_default-clause-turn : goal.returns-in_default-clause-turn
 returns-in_default-clause-turn g c = λ readings m h.
     let other = c.in_default in
-    let edits = only_edits c.args.request other.not-State other.not-Report other.not-Cost other.not-Program other.not-Listing other.not-Run other.not-Why other.not-Undo other.not-Redo other.not-Ask other.not-Step other.not-Cancel in
+    let edits = only_edits c.args.request other.not-State other.not-Report other.not-Faults other.not-Cost other.not-Program other.not-Listing other.not-Run other.not-Why other.not-Undo other.not-Redo other.not-Ask other.not-Step other.not-Cancel in
     c.edit_request.ensures.turn readings m edits h
 
 pub returns-in_default-clause-between : goal.returns-in_default-clause-between
 returns-in_default-clause-between g c = λ readings m fills h.
     let other = c.in_default in
-    let edits = only_edits c.args.request other.not-State other.not-Report other.not-Cost other.not-Program other.not-Listing other.not-Run other.not-Why other.not-Undo other.not-Redo other.not-Ask other.not-Step other.not-Cancel in
+    let edits = only_edits c.args.request other.not-State other.not-Report other.not-Faults other.not-Cost other.not-Program other.not-Listing other.not-Run other.not-Why other.not-Undo other.not-Redo other.not-Ask other.not-Step other.not-Cancel in
     absurd (edits_not_filled c.args.request edits fills)

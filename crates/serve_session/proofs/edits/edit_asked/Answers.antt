@@ -55,6 +55,7 @@ returns-clause-makes c = λ readings.
     (elim c.args.request as (λ (z : Request). c.args.request ≡ z → Makes (edit_asked readings c.args.next z) (Err (t.Refused refusal.NoRequest))) [
       | q.State query ↦ λ is. refl
       | q.Report ↦ λ is. refl
+      | q.Faults only ↦ λ is. refl
       | q.Cost ↦ λ is. refl
       | q.Program ↦ λ is. refl
       | q.Listing ↦ λ is. refl

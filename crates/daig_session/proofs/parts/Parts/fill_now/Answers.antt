@@ -12,7 +12,7 @@ use Rattle.daig_machine.specs.Turns.{missing_at, IsBetween}
 use Rattle.daig_session.specs.Books.{flow_in}
 use Rattle.daig_session.specs.Going.{IsAsked, IsGoing, IsRefused}
 use Rattle.daig_session.specs.Holds.{Holds, IsReady}
-use Rattle.daig_session.specs.Reports.{IsUnticked}
+use Rattle.daig_session.specs.Places.{IsUnticked}
 use Rattle.daig_session.specs.Turns.{Fails}
 use Rattle.daig_session.proofs.Answering.{between_some, fails_refused, no_steps}
 use Rattle.daig_session.proofs.Filled.{asked_holds, fills_ready, missing_here}

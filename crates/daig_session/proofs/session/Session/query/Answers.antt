@@ -9,7 +9,7 @@ use Rattle.daig_query.specs.Filled.{cells_added}
 use Rattle.daig_machine.specs.Turns.{after_question, answer_at, targets_of}
 use Rattle.daig_session.specs.Books.{flow_in}
 use Rattle.daig_session.specs.Holds.{Holds}
-use Rattle.daig_session.specs.Reports.{IsUnticked}
+use Rattle.daig_session.specs.Places.{IsUnticked}
 use Rattle.daig_session.specs.Turns.{Questions}
 use Rattle.daig_session.proofs.Answering.{most_here, says_here, work_both, work_first, work_here}
 use Rattle.daig_session.proofs.Filled.{answered_costing, ready_costing}

@@ -1,4 +1,4 @@
-use Rattle.std.proofs.Common.{◌≡◌, ◌-◌, ◌++◌, List, sym, subst}
+use Rattle.std.proofs.Common.{◌≡◌, ◌≤◌, ◌+◌, ◌*◌, ◌-◌, ◌++◌, List, length, sym, subst}
 use Rattle.std.specs.Prelude.{Contains}
 use Rattle.imp_syntax.specs.Plain.{Procedure}
 use Rattle.imp_check.specs.Slots.{routines_of}
@@ -8,9 +8,11 @@ use Rattle.daig_machine.specs.Machine.{keeping}
 use Rattle.daig_machine.specs.Turns.{IsBetween, missing_for_report, after_report}
 use Rattle.daig_session.specs.Books.{machine_of}
 use Rattle.daig_session.specs.Holds.{Holds}
+use Rattle.daig_session.specs.Places.{HoldsWith}
+use Rattle.daig_session.specs.Reports.{checked_chains, places_of}
 use Rattle.daig_session.proofs.Filled.{ready_costing}
 use Rattle.daig_session.proofs.Standing.{names, stands}
-use Rattle.daig_session.proofs.Reporting.{as_filled, ended_holds, failed_holds, same_ticket}
+use Rattle.daig_session.proofs.Reporting.{as_filled, ended_holds, failed_holds, report_missing, same_ticket}
 use Rattle.daig_session.proofs.session.Session.report_now.Goals as goal
 
 pub overflow_sub-self : goal.overflow_sub-self
@@ -23,7 +25,8 @@ overflow_sub-self g c =
     let stood = stands dom s.engine.store s.book c.ready.ensures.ready in
     let xs = missing_for_report dom here in
     let then = keeping (here.kept ++ xs) new.book.cost here in
-    let count = as_filled dom here new.engine.store new.book c.kept_count-kept.result c.kept_count.result (c.kept_count-kept.ensures.is here stood) (c.kept_count.ensures.is then (subst (λ d. Holds (ops d) new.engine.store new.book then) (sym c.all_findings.ensures.setup.0) (c.in-Ok.ensures.keeps_all here stood))) in
+    let all = subst (HoldsWith dom here new.engine.store new.book) (report_missing dom here) (c.in-Ok.ensures.keeps_all here stood) in
+    let count = as_filled dom here new.engine.store new.book xs c.kept_count-kept.result c.kept_count.result (c.kept_count-kept.ensures.is here stood) (c.kept_count.ensures.is then (subst (λ d. Holds (ops d) new.engine.store new.book then) (sym c.all_findings.ensures.setup.0) all)) in
     count.0
 
 pub invariant_of-self : goal.invariant_of-self
@@ -37,7 +40,7 @@ returns-in-Ok-clause-next_ticket g c =
     let ops = g.D.Domain.operations in
     let dom = ops s.engine.domain in
     let new = c.all_findings.new.self in
-    subst (λ p. p.book.tickets.next ≡ s.book.tickets.next) (sym c.self.view_is) (same_ticket dom s.engine.store new.engine.store s.book new.book (λ (ps : List Procedure). checked_statements (routines_of ps)) c.ready.ensures.ready c.all_findings.ensures.keeps_part)
+    subst (λ p. p.book.tickets.next ≡ s.book.tickets.next) (sym c.self.view_is) (same_ticket dom s.engine.store new.engine.store s.book new.book (λ (ps : List Procedure). places_of (checked_statements (routines_of ps))) c.ready.ensures.ready c.all_findings.ensures.keeps_part)
 
 pub returns-in-Err-clause-next_ticket : goal.returns-in-Err-clause-next_ticket
 returns-in-Err-clause-next_ticket g c =
@@ -45,7 +48,7 @@ returns-in-Err-clause-next_ticket g c =
     let ops = g.D.Domain.operations in
     let dom = ops s.engine.domain in
     let new = c.all_findings.new.self in
-    subst (λ p. p.book.tickets.next ≡ s.book.tickets.next) (sym c.self.view_is) (same_ticket dom s.engine.store new.engine.store s.book new.book (λ (ps : List Procedure). checked_statements (routines_of ps)) c.ready.ensures.ready c.all_findings.ensures.keeps_part)
+    subst (λ p. p.book.tickets.next ≡ s.book.tickets.next) (sym c.self.view_is) (same_ticket dom s.engine.store new.engine.store s.book new.book (λ (ps : List Procedure). places_of (checked_statements (routines_of ps))) c.ready.ensures.ready c.all_findings.ensures.keeps_part)
 
 pub returns-in-Ok-clause-reports : goal.returns-in-Ok-clause-reports
 returns-in-Ok-clause-reports g c = λ m h.
@@ -55,11 +58,12 @@ returns-in-Ok-clause-reports g c = λ m h.
     let new = c.all_findings.new.self in
     let xs = missing_for_report dom m in
     let then = keeping (m.kept ++ xs) new.book.cost m in
-    let count = as_filled dom m new.engine.store new.book c.kept_count-kept.result c.kept_count.result (c.kept_count-kept.ensures.is m h) (c.kept_count.ensures.is then (subst (λ d. Holds (ops d) new.engine.store new.book then) (sym c.all_findings.ensures.setup.0) (c.in-Ok.ensures.keeps_all m h))) in
+    let all = subst (HoldsWith dom m new.engine.store new.book) (report_missing dom m) (c.in-Ok.ensures.keeps_all m h) in
+    let count = as_filled dom m new.engine.store new.book xs c.kept_count-kept.result c.kept_count.result (c.kept_count-kept.ensures.is m h) (c.kept_count.ensures.is then (subst (λ d. Holds (ops d) new.engine.store new.book then) (sym c.all_findings.ensures.setup.0) all)) in
     let cost = c.kept_count.result - c.kept_count-kept.result in (
       c.in-Ok.ensures.found m h,
       subst (λ p. Holds (ops p.engine.domain) p.engine.store (record p.book { cost = cost }) (after_report dom m)) (sym c.self.view_is)
-          (subst (λ d. Holds (ops d) new.engine.store (record new.book { cost = cost }) (after_report dom m)) (sym c.all_findings.ensures.setup.0) (ended_holds dom m new.engine.store new.book cost (c.in-Ok.ensures.keeps_all m h) count.1)),
+          (subst (λ d. Holds (ops d) new.engine.store (record new.book { cost = cost }) (after_report dom m)) (sym c.all_findings.ensures.setup.0) (ended_holds dom m new.engine.store new.book cost xs all count.1)),
     )
 
 pub returns-in-Ok-clause-sound : goal.returns-in-Ok-clause-sound
@@ -73,7 +77,10 @@ returns-in-Ok-clause-sound g c = λ f there.
     c.reports_are_sound.ensures.sound s.engine.domain s.book.setting.engine (routines_of s.book.history.now) f c.ready.ensures.ready.order.fine.fit (subst (λ (fs : List Finding). Contains fs f) (c.in-Ok.ensures.found here stood) there)
 
 pub returns-in-Ok-clause-ticked : goal.returns-in-Ok-clause-ticked
-returns-in-Ok-clause-ticked g c = λ m h. c.in-Ok.ensures.ticked m h
+returns-in-Ok-clause-ticked g c = λ m h.
+    let s = c.args.self.now in
+    let dom = g.D.Domain.operations s.engine.domain in
+    subst (λ xs. c.all_findings.new.steps ≤ c.args.steps.now + g.D.Domain.counted s.engine.domain * (length xs + 2 * checked_chains m)) (report_missing dom m) (c.in-Ok.ensures.ticked m h)
 
 pub returns-in-Err-clause-reports : goal.returns-in-Err-clause-reports
 returns-in-Err-clause-reports g c = λ m h.
@@ -84,4 +91,4 @@ returns-in-Err-clause-reports g c = λ m h.
     let cost = c.cost-cost.result in
     subst (λ p. IsBetween (missing_for_report dom m) m (Holds (ops p.engine.domain) p.engine.store (record p.book { cost = cost }))) (sym c.self.view_is)
     (subst (λ d. IsBetween (missing_for_report dom m) m (Holds (ops d) new.engine.store (record new.book { cost = cost }))) (sym c.all_findings.ensures.setup.0) (
-    failed_holds dom m new.engine.store new.book cost (c.all_findings.ensures.keeps_part m h) (c.cost-cost.ensures.is m h)))
+    subst (λ ys. IsBetween ys m (Holds dom new.engine.store (record new.book { cost = cost }))) (report_missing dom m) (failed_holds dom m new.engine.store new.book cost (places_of (checked_statements (routines_of m.program))) (c.all_findings.ensures.keeps_part m h) (c.cost-cost.ensures.is m h))))

@@ -12,7 +12,7 @@ use Rattle.why_slice.specs.Claims.{Suffices}
 use Rattle.daig_machine.specs.Turns.{after_question}
 use Rattle.daig_session.specs.Books.{flow_in}
 use Rattle.daig_session.specs.Holds.{Holds}
-use Rattle.daig_session.specs.Reports.{IsUnticked}
+use Rattle.daig_session.specs.Places.{IsUnticked}
 use Rattle.daig_session.specs.Turns.{Explains}
 use Rattle.daig_session.proofs.Explained.{answered_here, listed_is, upstream_here}
 use Rattle.daig_session.proofs.Filled.{answered_costing, ready_costing}

@@ -1,9 +1,0 @@
-use Rattle.std.proofs.Common.{◌≡◌, ◌++◌, map, take}
-use Rattle.batch_meaning.specs.Answers.{Answer}
-use Rattle.fault_report.specs.Report.{fault_finding}
-use Rattle.fault_report.specs.Known.{IsKnown}
-use Rattle.fault_report.proofs.report.add_findings.Given as goal
-
-abbrev pub invariant-loop-kind : goal.invariant-loop-kind
-invariant-loop-kind g l =
-    (a : Answer g.row.D-State.Denot) → IsKnown a l.known → l.found ≡ l.initial.found ++ map (fault_finding (g.D.Domain.operations l.dom) a l.x) (take l.kind-index l.kinds)
