@@ -25,6 +25,8 @@ LOOPS = (
     "proc main() {\n  var i: int;\n  var a: array;\n  a = array 10;\n"
     "  while (i < 10) {\n    a[i] = i;\n    i = i + 1;\n  }\n  assert i == 10;\n}\n"
 )
+# What is said of an assertion that holds in no run.
+FAILS = "the assertion fails in every run that comes here"
 
 
 class Ran(NamedTuple):
@@ -104,6 +106,22 @@ for number in range({lines}):
     sys.stdout.buffer.flush()
 served.kill()
 sys.exit({status})
+"""
+
+
+# A program that knows no request `faults`.
+OLDER = """
+import subprocess, sys
+served = subprocess.Popen([{program!r}, *sys.argv[1:]], stdin=subprocess.PIPE, stdout=subprocess.PIPE)
+for line in sys.stdin.buffer:
+    reply = b'{{"refused":3}}\\n'
+    if b'"faults"' not in line:
+        served.stdin.write(line)
+        served.stdin.flush()
+        reply = served.stdout.readline()
+    sys.stdout.buffer.write(reply)
+    sys.stdout.buffer.flush()
+served.kill()
 """
 
 

@@ -20,7 +20,7 @@ def test_budget() -> None:
     assert len(notes) == 1 and notes[0]["range"]["start"]["line"] == 2, told
     assert "budget of 1 rounds" in notes[0]["message"] and "--budget" in notes[0]["message"]
     assert "budget of 1 rounds" in hover(client, 5, 4)
-    assert [it.get("code") for it in told] == ["budget"] and "1 check there may fail or not" in notes[0]["message"]
+    assert [it.get("code") for it in told] == ["budget"] and "2 checks there may fail or not" in notes[0]["message"]
     client.close()
 
 
@@ -52,7 +52,7 @@ def test_broken() -> None:
     hints = client.request("textDocument/inlayHint", {"textDocument": {"uri": URI}, "range": where})
     assert [it["label"] for it in hints] == ["before: 0 ≤ i ≤ 10"], hints
     client.change(URI, 4, [{"text": COUNTING.replace("i == 10", "i == 11")}])
-    assert [(it["severity"], it["code"]) for it in client.diagnostics(4)] == [(2, "assert")]
+    assert [(it["severity"], it["code"]) for it in client.diagnostics(4)] == [(1, "assert")]
     result = client.command("daig.serverProgram", URI)
     assert result["counts"]["starts"] == 1 and result["counts"]["requests"] == 1, result
     client.close()

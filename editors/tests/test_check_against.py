@@ -9,7 +9,7 @@ from daig_editor.checking.comparison import analyse_against
 from daig_editor.checking.revisions import OldText
 from daig_editor.reports.finding import CheckedFile, Finding
 from daig_editor.server.process import Settings
-from tests.check_tool import EXAMPLES, LOOPS, NO_PROGRAM, SAFE, UNSAFE, check, folder
+from tests.check_tool import EXAMPLES, FAILS, LOOPS, NO_PROGRAM, SAFE, UNSAFE, check, folder
 from tests.program import changes, program
 from tests.random_sources import ChangeMaker, SourceMaker
 
@@ -17,6 +17,13 @@ from tests.random_sources import ChangeMaker, SourceMaker
 def told(checked: CheckedFile) -> list[Finding]:
     """All that is told of a file except for how many cells were computed."""
     return [it for it in checked.findings if it.key.check != "cells"]
+
+
+def same(finding: Finding) -> tuple[object, ...]:
+    """What is the same of a finding with the old text and without it; a slight one weighs more where it is new."""
+    level = "" if finding.is_slight else finding.level.value
+    causes = () if finding.is_slight else finding.causes
+    return finding.span, finding.rule, level, finding.message, finding.key, finding.known, causes
 
 
 def test_against_two_analyses() -> None:
@@ -35,12 +42,7 @@ def test_against_two_analyses() -> None:
         by_edits, whole = (asyncio.run(analyse_against("new.imp", after, before, wanted, it)) for it in (True, False))
         assert told(by_edits) == told(whole) and by_edits.tally == whole.tally, (number, old, new)
         plain = asyncio.run(analyse("new.imp", after, wanted))
-        found = [
-            (it.rule, it.level, it.span, it.message, it.key, it.known, it.causes)
-            for it in told(by_edits)
-            if it.rule != "change"
-        ]
-        assert found == [(it.rule, it.level, it.span, it.message, it.key, it.known, it.causes) for it in plain.findings]
+        assert sorted(same(it) for it in told(by_edits) if it.rule != "change") == sorted(map(same, plain.findings))
         edited += told(by_edits) != by_edits.findings
     assert edited
 
@@ -67,7 +69,7 @@ def test_against_words() -> None:
     with folder(old_imp=LOOPS, new_imp=LOOPS.replace("i < 10", "i < 9")) as here:
         found = check("--against", "old.imp", "new.imp", where=here)
         lines = found.out.splitlines()
-        assert found.status == 1 and "new.imp:9:3: warning: the assertion may fail [assert]" in lines, found.out
+        assert found.status == 1 and lines[0] == f"new.imp:9:3: error: {FAILS} [assert]", found.out
         assert "      = before the change: safe" in lines, found.out
         assert "new.imp:5:3: note: the state at the head of this loop changed [change]" in lines, found.out
         assert (
@@ -76,7 +78,7 @@ def test_against_words() -> None:
         ), found.out
         back = check("--against", "new.imp", "old.imp", where=here)
         assert back.status == 0, back
-        assert "old.imp:9:3: note: safe now; before the change: the assertion may fail [change]" in back.out, back.out
+        assert f"old.imp:9:3: note: safe now; before the change: {FAILS} [change]" in back.out, back.out
         added = check(
             "--against", "old.imp", "-", where=here, text=LOOPS.replace("a[i] = i;", "a[i] = i; a[i + 1] = i;")
         )

@@ -7,7 +7,7 @@ from pathlib import Path
 from xml.etree import ElementTree
 
 from daig_editor.checking.patterns import Patterns
-from tests.check_tool import DEAD, LOOPS, NO_PROGRAM, SAFE, UNSAFE, check, folder
+from tests.check_tool import DEAD, FAILS, LOOPS, NO_PROGRAM, SAFE, UNSAFE, check, folder
 from tests.client import Client
 from tests.program import program
 
@@ -33,7 +33,7 @@ def test_ignored() -> None:
         assert told == ["b.imp:4:3: note: nothing to ignore: no finding of bounds stands here [ignore]"], told
         over = LOOPS.replace("10) {", "10) { // daig: ignore[budget]")
         found = check("--budget", 1, "--domain", "interval", "-", where=here, text=over)
-        assert found.status == 0 and "2 not known" in found.err, found
+        assert found.status == 0 and "3 not known" in found.err, found
 
 
 def test_ignored_in_the_editor() -> None:
@@ -164,14 +164,14 @@ def test_new() -> None:
             ("// more\n" + UNSAFE, 0),
             (UNSAFE.replace("i == 3", "i == 4"), 0),
             (UNSAFE.replace("}\n", "  assert i == 5;\n}\n"), 1),
-            (UNSAFE.replace("i = input", "i = 4"), 0),
+            (UNSAFE.replace("i = input", "i = 4"), 1),
             (NO_PROGRAM, 2),
         ):
             (here / "new.imp").write_text(text)
             assert brief("--against", "old.imp", "--new", "new.imp", where=here)[0] == status, text
         (here / "new.imp").write_text(UNSAFE.replace("}\n", "  assert i == 5;\n}\n"))
         status, told, summary = brief("-a", "old.imp", "-n", "new.imp", where=here)
-        assert [it for it in told if "[assert]" in it] == ["new.imp:5:3: warning: the assertion may fail [assert]"], told
+        assert [it for it in told if "[assert]" in it] == [f"new.imp:5:3: error: {FAILS} [assert]"], told
         assert "1 finding known from before" in summary, summary
         (here / "old.imp").write_text(LOOPS)
         (here / "new.imp").write_text(LOOPS.replace("i < 10", "i < 11"))
@@ -210,7 +210,7 @@ def test_against_a_revision() -> None:
         (here / "below/c.imp").write_text(LOOPS.replace("i < 10", "i < 9"))
         (here / "d.imp").write_text(UNSAFE)
         status, told, _ = brief("--against", "HEAD", "--new", ".", where=here)
-        assert status == 1 and "./below/c.imp:9:3: warning: the assertion may fail [assert]" in told, told
+        assert status == 1 and told[0] == f"./below/c.imp:9:3: error: {FAILS} [assert]", told
         assert "./d.imp:1:1: note: new: there is no HEAD:./d.imp [change]" in told, told
         assert not [it for it in told if it.startswith(("./a.imp", "./b.imp"))], told
         assert brief("--against", "HEAD", "c.imp", where=here / "below")[0] == 1
@@ -228,7 +228,7 @@ def test_most_findings() -> None:
     text = UNSAFE.replace("}\n", "  if (1 > 2) {\n    assert i == 4;\n  }\n  assert i == 5;\n}\n")
     with folder(a_imp=text, b_imp=UNSAFE, c_imp=NO_PROGRAM) as here:
         status, told, summary = brief("--max-findings", 2, "a.imp", "b.imp", where=here)
-        assert status == 1 and [it.split(" ")[1] for it in told] == ["warning:", "warning:"], told
+        assert status == 1 and [it.split(" ")[1] for it in told] == ["error:", "warning:"], told
         assert "; 2 findings more, not told" in summary, summary
         status, told, _ = brief("--max-findings", 0, "a.imp", where=here)
         assert (status, told) == (1, [])

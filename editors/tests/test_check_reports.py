@@ -9,7 +9,7 @@ from html.parser import HTMLParser
 from pathlib import Path
 from typing import Any
 
-from tests.check_tool import DEAD, EXAMPLES, LOOPS, NO_PROGRAM, SAFE, TOP, UNSAFE, check, folder
+from tests.check_tool import DEAD, EXAMPLES, FAILS, LOOPS, NO_PROGRAM, SAFE, TOP, UNSAFE, check, folder
 from tests.program import program
 
 GOLDEN = Path(__file__).resolve().parent / "golden"
@@ -31,7 +31,9 @@ def test_golden() -> None:
         if os.environ.get("DAIG_GOLDEN") == "write":
             path.write_text(told)
         assert found.status == 1 and told == path.read_text(), f"{form}: see {path}"
-        assert found.err == "14 files, 22 checks: 20 safe, 2 may fail, 0 never reached\n", found.err
+        assert found.err.startswith("14 files, 40 checks: 34 safe, 3 may fail, 2 always fail, 1 never reached; "), found.err
+        assert found.err.endswith("; no run can fail in asking.imp, calls.imp, counting.imp, editing.imp, first.imp, "
+                                  "pushing.imp, reversing.imp, reviewing.imp and 2 more\n"), found.err
 
 
 def test_text() -> None:
@@ -99,6 +101,21 @@ def test_many_cases() -> None:
         many = int(told[first].split()[-2])
         assert many > 2 and all(it.startswith("      =   ") for it in told[first + 1 : first + 1 + many]), told
         assert len(told[first + 1 + many].split("      =   ")) == 1, told
+        text = text.replace("r = new;", "r = new;\n    while (x != 3) {\n      p = new;\n      p.next = r;\n      r = p;\n      x = input;\n    }")
+        told = check("-", where=here, text=text).out.splitlines()
+        assert any("1 or more cells" in it for it in told) and not any(it.startswith("      =   more") for it in told), told
+
+
+def test_many_facts() -> None:
+    """Of much that is known of numbers what has a variable of the statement is told first; JSON has all."""
+    names = "abcdefghijkl"
+    lines = [f"  var {it}: int;\n" for it in names] + [f"  {it} = input;\n  assert {it} < 9;\n" for it in names]
+    with folder(a_imp=f"proc main() {{\n{''.join(lines)}  assert l != k;\n}}\n") as here:
+        told = check("--domain", "interval", "a.imp", where=here).out.splitlines()
+        known = next(it for it in reversed(told) if "known here: " in it)
+        assert known == "      = known here: k ≤ 8, l ≤ 8, a ≤ 8, b ≤ 8, c ≤ 8, d ≤ 8, e ≤ 8, f ≤ 8 and 4 more", known
+        objects = check("--format", "json", "--domain", "interval", "a.imp", where=here).objects
+        assert str(objects[-1]["known"]).count("≤") == 12, objects[-1]
 
 
 def test_bounds() -> None:
@@ -114,7 +131,7 @@ def test_bounds() -> None:
             len(result["relatedLocations"]) == 100
             and "; of 151 related places 100 are told" in result["message"]["text"]
         )
-        found = check("many.imp", "--format", "json", where=here).objects
+        found = check("many.imp", "--format", "json", "--select", "assert", where=here).objects
         assert len(found) == 205 and found[199]["dependsOn"] and not found[200]["dependsOn"], found[199:201]
 
 
@@ -127,7 +144,7 @@ def test_baseline() -> None:
         assert check("--baseline", "old.sarif", "b.imp", where=here).status == 2
         (here / "a.imp").write_text("// more\n" + UNSAFE.replace("}\n", "  assert i == 4;\n}\n"))
         found = check("--baseline", "old.sarif", "a.imp", "--format", "brief", where=here)
-        assert found.status == 1 and found.out == "a.imp:6:3: warning: the assertion may fail [assert]\n", found
+        assert found.status == 1 and found.out == f"a.imp:6:3: error: {FAILS} [assert]\n", found
         for name in ("bad", "other", "none", "a.imp", "/dev/null"):
             found = check("--baseline", name, "a.imp", where=here)
             assert found.status == 2 and found.out == "" and found.err.startswith(f"daig-check: {name}: "), (
@@ -164,7 +181,7 @@ URI = Form(r"(https?|file)://[!-~]+")
 REFERENCE = Form(r"[!-~]+")
 # What GitHub takes: of each text so many characters, and no more results, rules and places.
 SHORT = Form(r"(?s).{1,1024}")
-MOST = {"results": 25_000, "rules": 25_000, "relatedLocations": 1_000, "tags": 20, "locations": 1_000}
+MOST = {"results": 25_000, "artifacts": 100_000, "rules": 25_000, "relatedLocations": 1_000, "tags": 20, "locations": 1_000}
 TEXT = {"text": WORDS}
 REGION = {"startLine": int, "startColumn": int, "endLine": int, "endColumn": int}
 LOCATION = {
@@ -178,8 +195,10 @@ RESULT = {
     "level": ("none", "note", "warning", "error"),
     "message": TEXT,
     "locations": [LOCATION],
+    "rank": float,
     "relatedLocations": [LOCATION],
     "partialFingerprints": {"daig/v1": Form("[0-9a-f]{32}"), "primaryLocationLineHash": Form("[0-9a-f]{16}:1")},
+    "codeFlows?": [{"threadFlows": [{"locations": [{"location": LOCATION}]}]}],
     "baselineState?": ("new", "unchanged", "updated", "absent"),
 }
 RULE = {
@@ -213,7 +232,11 @@ LOG = {
             "originalUriBaseIds?": {"SRCROOT": {"uri": Form(r"file:///.*/")}},
             "columnKind": ("utf16CodeUnits", "unicodeCodePoints"),
             "invocations": [{"executionSuccessful": bool}],
+            "artifacts": [
+                {"location": {"uri": REFERENCE, "uriBaseId?": ("SRCROOT",)}, "properties": {"daig/noRunCanFail": bool}}
+            ],
             "results": [RESULT],
+            "properties": {"daig/faults": ("all", "checks")},
         }
     ],
 }

@@ -50,7 +50,7 @@ def test_try() -> None:
             "--try", 4, "--budget", 1, "--domain", "interval", "-", where=here, text=LOOPS.replace("i == 10", "i == 9")
         )
         assert (
-            "error: the assertion fails in each run" in over.out and "1 check after it is not known" in over.out
+            "error: the assertion fails in each run" in over.out and "2 checks after it are not known" in over.out
         ), over
 
 
@@ -70,10 +70,11 @@ def test_runs_by_default() -> None:
             (here / "b.imp").write_text(f"{begin}  {line}\n}}\n")
             found = check_process("--format brief b.imp", here)
             assert found.status == 1 and f": error: {words} [{rule}]\n" in found.out, (line, found)
-            assert check_process("--try 0 b.imp", here).status == 0, "the analysis alone does not tell it"
+            assert check_process("--try 0 --faults checks b.imp", here).status == 0, "reports do not tell it"
         ignored = f"{begin}  x = 10 / x; // daig: ignore[zero] as it is to be\n}}\n"
         assert check("--try", 1, "-", where=here, text=ignored).status == 0
-        found = check("--format", "json", "-", where=here, text=UNSAFE.replace("i = input", "i = 4"))
+        fails = UNSAFE.replace("i = input", "i = 4")
+        found = check("--format", "json", "--faults", "checks", "-", where=here, text=fails)
         assert found.objects[0]["notes"] == ["certain: no run that comes here goes on"], found.out
 
 
@@ -227,5 +228,6 @@ def test_progress() -> None:
         seen = os.read(ours, 65_536).decode()
         os.close(ours)
         assert "\r\x1b[K[2/2] " in seen and "\x1b[1;35mwarning:\x1b[0m" in seen, seen
-        assert seen.endswith("\r\x1b[K2 files, 2 checks: 1 safe, 1 may fail, 0 never reached\r\n"), seen
+        summary = "2 files, 2 checks: 1 safe, 1 may fail, 0 never reached; no run can fail in b.imp"
+        assert seen.endswith(f"\r\x1b[K{summary}\r\n"), seen
         assert "\x1b" not in "".join(map(str, check("a.imp", where=here)))

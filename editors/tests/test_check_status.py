@@ -29,15 +29,17 @@ time.sleep(300)
 def test_statuses() -> None:
     """0 where nothing may fail, 1 for a finding, 2 for a file that is no program; the highest wins."""
     with folder(a_imp=SAFE, b_imp=UNSAFE, c_imp=NO_PROGRAM, d_imp=DEAD) as here:
-        assert check("a.imp", where=here) == (0, "", "1 file, 1 check: 1 safe, 0 may fail, 0 never reached\n")
+        assert check("a.imp", where=here) == (
+            0, "", "1 file, 1 check: 1 safe, 0 may fail, 0 never reached; no run can fail\n"
+        )
         assert check("a.imp", "b.imp", where=here).status == 1
         found = check("a.imp", "b.imp", "c.imp", where=here)
         assert found.status == 2 and "; 1 file could not be checked" in found.err, found
         assert check("d.imp", where=here).status == 0 and check("--dead", "d.imp", where=here).status == 1
         assert check("--quiet", "a.imp", where=here) == (0, "", "")
         over = check("--budget", 1, "--domain", "interval", "-", where=here, text=LOOPS)
-        assert over.status == 1 and "2 checks after it are not known" in over.out, over
-        assert "1 may fail" not in over.err and "2 not known" in over.err, over
+        assert over.status == 1 and "3 checks after it are not known" in over.out, over
+        assert "1 may fail" not in over.err and "3 not known" in over.err, over
 
 
 def test_files() -> None:

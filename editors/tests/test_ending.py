@@ -47,6 +47,8 @@ class Silent:
         """Keeps it too."""
         self.logged.append(text)
 
+    show_once = show
+
 
 @contextmanager
 def bounded(what: object) -> Iterator[None]:

@@ -61,7 +61,9 @@ def test_incomplete_report() -> None:
     """A report that leaves checks out makes no text look safe."""
     with tempfile.TemporaryDirectory() as folder:
         for report in ("[]", '[{"check":"assert","id":1,"verdict":"safe"},{"check":"assert","id":1,"verdict":"safe"}]'):
-            stub = script(folder, f"while read line; do echo '{{\"report\":{report},\"state\":\"any\",\"cost\":0,\"kept\":0}}'; done\n")
+            faults = report.replace("check", "fault")
+            reply = f'{{"report":{report},"faults":{faults},"state":"any","cost":0,"kept":0}}'
+            stub = script(folder, f"while read line; do echo '{reply}'; done\n")
             text = FAILING.replace("assert", "assert i < 9;\n  assert")
             client, told = opened({"daig": stub}, text)
             assert [it["severity"] for it in told] == [1] and "report is not of this program" in told[0]["message"], told

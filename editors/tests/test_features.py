@@ -193,8 +193,9 @@ def test_signature() -> None:
 def test_causes_and_runs() -> None:
     """A finding tells what it hangs on, and a run that fails makes it an error with its inputs."""
     client, told = opened({}, TEXT)
-    assert [(it["code"], it["severity"]) for it in told] == [("assert", 2)], told
-    found = client.published(1, lambda told: told[0]["severity"] == 1)[0]
+    assert [(it["code"], it["severity"]) for it in told] == [("assert", 2), ("overflow", 3)], told
+    told = client.published(1, lambda told: told[0]["severity"] == 1)
+    found = next(it for it in told if it["code"] == "assert")
     assert "the assertion fails with input" in found["message"], found
     hung = [it["location"]["range"]["start"]["line"] for it in found["relatedInformation"]]
     assert hung == [19, 18, 15, 14, 13, 7, 3], "the nearest come first"
@@ -206,24 +207,30 @@ def test_causes_and_runs() -> None:
     assert [it["range"]["start"]["line"] for it in told if it["code"] == "why"] == hung[::-1]
     assert any(it["command"] == "daig.hideCauses" for it in client.request("textDocument/codeAction", where))
     client.command("daig.hideCauses", URI)
-    assert len(client.last_published()) == 1
+    assert len(client.last_published()) == 2
     client.close()
 
 
 def test_other_fault() -> None:
     """A run that ends at a check for another fault, here a division by zero, is none in which the check fails."""
-    client, told = opened({}, "proc main() {\n  var x: int;\n  x = input;\n  assert 10 / x != 7;\n}\n")
-    assert [it["severity"] for it in told] == [2]
-    told = client.published(1, lambda told: "relatedInformation" in told[0])
-    assert [it["severity"] for it in told] == [2], told
-    client.close()
+    text = "proc main() {\n  var x: int;\n  x = input;\n  assert 10 / x != 7;\n}\n"
+    for faults, before, rested in (("checks", ["assert"], [2]), ("all", ["zero", "assert"], [1, 2])):
+        client, told = opened({"faults": faults}, text)
+        assert [(it["code"], it["severity"]) for it in told] == [(it, 2) for it in before], told
+        told = client.published(1, lambda told: "relatedInformation" in told[0])
+        assert [it["severity"] for it in told] == rested and [it["code"] for it in told] == before, told
+        client.close()
 
 
 def test_fails_always() -> None:
     """A check after which nothing is left is told to fail in every run that comes there."""
-    client, _ = opened({"runs": 0}, "proc main() {\n  var p: list;\n  var x: int;\n  x = p.item;\n}\n")
+    text = "proc main() {\n  var p: list;\n  var x: int;\n  x = p.item;\n}\n"
+    client, _ = opened({"runs": 0, "faults": "checks"}, text)
     told = client.published(1, lambda told: "no run that comes here goes on" in told[0]["message"])
     assert told[0]["severity"] == 2
+    client.close()
+    client, told = opened({"runs": 0}, text)
+    assert "in every run that comes here" in told[0]["message"] and told[0]["severity"] == 1, told
     client.close()
 
 
@@ -232,7 +239,7 @@ def test_over_is_folded() -> None:
     checks = "".join(f"  assert i == {k};\n" for k in range(20))
     text = f"proc main() {{\n  var i: int;\n  while (i < 10) {{\n    i = i + 1;\n  }}\n{checks}}}\n"
     client, told = opened({"budget": 1}, text)
-    assert [(it["code"], it["severity"]) for it in told] == [("budget", 2)] and "20 checks" in told[0]["message"], told
+    assert [(it["code"], it["severity"]) for it in told] == [("budget", 2)] and "21 checks" in told[0]["message"], told
     client.close()
 
 
@@ -261,7 +268,7 @@ def test_pulled_diagnostics() -> None:
     client = Client({"daig": program()}, abilities)
     client.open(URI, TEXT)
     report = client.request("textDocument/diagnostic", {"textDocument": {"uri": URI}})
-    assert report["kind"] == "full" and [it["code"] for it in report["items"]] == ["assert"], report
+    assert report["kind"] == "full" and [it["code"] for it in report["items"]] == ["assert", "overflow"], report
     client.change(URI, 2, [{"text": TEXT.replace("assert n == 20;", "assert n == ;")}])
     report = client.request("textDocument/diagnostic", {"textDocument": {"uri": URI}})
     assert [it["severity"] for it in report["items"] if "code" not in it] == [1], report

@@ -84,7 +84,7 @@ def test_unexpected_words() -> None:
 
 def test_checked_words() -> None:
     """Which name is unknown, and which kind is wrong: the place is within the statement that the server names."""
-    client, _ = opened({}, FRONT + "\n}\n")
+    client, _ = opened({"faults": "checks"}, FRONT + "\n}\n")
     for version, (statement, word, words) in enumerate(CHECKED, 2):
         client.change(URI, version, [{"text": FRONT + statement + "\n}\n"}])
         diagnostics = client.diagnostics(version)

@@ -149,7 +149,7 @@ local function restarted()
 end
 
 local function run()
-  vim.g.daig = { daig = os.getenv("DAIG_PROGRAM"), domain = "octagon", compareEvery = 1, runs = 0 }
+  vim.g.daig = { daig = os.getenv("DAIG_PROGRAM"), domain = "octagon", faults = "checks", compareEvery = 1, runs = 0 }
   vim.opt.runtimepath:prepend(here .. "/../nvim")
   vim.cmd("filetype off | filetype plugin indent on | syntax on")
   vim.o.report = 9999

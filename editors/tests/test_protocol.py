@@ -12,14 +12,17 @@ from dataclasses import dataclass, field
 from pathlib import Path
 from random import Random
 
+from daig_editor.language.checks import SLIGHT, rule_of
 from daig_editor.language.places import SourceText
 from daig_editor.language.text import TextReader, span_of_fault
 from daig_editor.language.tree import number_from_one
+from daig_editor.server.verdicts import Verdict, told
 from tests.client import Client, Json
 from tests.program import changes, program
 from tests.random_sources import ChangeMaker, SourceMaker, TextChange
 
-SCRIPT = b'{"do":"program"}\n{"do":"report"}\n'
+SCRIPT = b'{"do":"program"}\n{"do":"faults"}\n'
+SEVERITIES = {"fails": 1, "may": 2, "dead": 4}
 CHANGES_OF_ONE_SOURCE = 50
 
 
@@ -28,7 +31,7 @@ class Truth:
     """What a new server says of a text."""
 
     program: str | None
-    report: list[Json]
+    faults: list[Json]
     refusal: Json | None
 
 
@@ -40,7 +43,7 @@ def truth(daig: str, domain: str, folder: Path, text: bytes) -> Truth:
     done = subprocess.run(words, input=SCRIPT, capture_output=True, check=False)
     said = [json.loads(it) for it in done.stdout.splitlines()]
     if "program" in said[0]:
-        return Truth(said[0]["program"], said[1]["report"], None)
+        return Truth(said[0]["program"], said[1]["faults"], None)
     return Truth(None, [], said[0])
 
 
@@ -105,34 +108,35 @@ class Session:
 
     def compare(self, tally: Tally) -> None:
         """Compares what the language server says of the present text with what a new server says."""
-        told = self.client.diagnostics(self.version)
+        shown = self.client.diagnostics(self.version)
         data = self.text.encode()
         true = truth(self.daig, self.domain, self.folder, data)
         tally.changes += 1
         if true.program is not None:
             tally.programs += 1
             self.good_text, self.good_program = self.text, true.program
-            self.compare_report(told, true.report, data)
+            self.compare_faults(shown, true.faults, data)
         else:
-            self.compare_refusal(told, true.refusal or {}, data)
+            self.compare_refusal(shown, true.refusal or {}, data)
         result = self.client.command("daig.serverProgram", self.uri)
         assert isinstance(result, dict)
         assert result["program"] == self.good_program, f"{result['program']}\nis not\n{self.good_program}"
 
-    def compare_report(self, told: list[Json], report: list[Json], data: bytes) -> None:
-        """The diagnostics are those of a new report, at the statements of the text."""
+    def compare_faults(self, shown: list[Json], faults: list[Json], data: bytes) -> None:
+        """The diagnostics are those of new verdicts, at the statements of the text."""
         program = self.reader.read(data)
         number_from_one(program)
         heads = {it.stmt.number: it.head for it in program.placed()}
         source = SourceText.of(data, False)
-        severities = {"may": 2, "dead": 4}
-        wanted = [
-            (source.range(heads[int(str(it["id"]))]), it["check"], severities[str(it["verdict"])])
-            for it in report
-            if it["verdict"] != "safe"
+        verdicts = told(Verdict(it["id"], rule_of(it["fault"]), it["verdict"]) for it in faults)
+        wanted = [(str(source.range(heads[number])), rule, SEVERITIES[said]) for number, rule, said in verdicts]
+        # A slight one is information, or a warning where the last change made it.
+        has = [
+            (str(it["range"]), it["code"], 2 if it["severity"] == 3 and it["code"] == SLIGHT else it["severity"])
+            for it in shown
+            if it.get("code") != "budget"
         ]
-        has = [(it["range"], it["code"], it["severity"]) for it in told if it.get("code") != "budget"]
-        assert has == wanted, f"{has}\nis not\n{wanted}\n{self.text}"
+        assert sorted(has) == sorted(wanted), f"{has}\nis not\n{wanted}\n{self.text}"
 
     def compare_refusal(self, told: list[Json], refusal: Json, data: bytes) -> None:
         """There is one error, which stands where a new server's refusal points to."""

@@ -11,7 +11,7 @@ const { register } = require("./providers.js");
 const { diagnosticsOf } = require("./convert.js");
 
 const LANGUAGE = "imp";
-const SETTINGS = ["daig", "domain", "widening", "delay", "budget", "memory", "patience", "runs"];
+const SETTINGS = ["daig", "faults", "domain", "widening", "delay", "budget", "memory", "patience", "runs"];
 // A server that ends by itself is started anew so often, and then no more.
 const MOST_STARTS = 5;
 

@@ -1,31 +1,34 @@
 """Checks a file: a server is started on it and asked for what may fail, what is known there, and what it depends on."""
 from __future__ import annotations
 
+from collections import Counter
 from contextlib import asynccontextmanager, contextmanager
 from dataclasses import dataclass
 from typing import AsyncIterator, Iterator, Mapping
 
-from daig_editor.checking.asking import NEVER_REACHED, BadReply, Over, Served, Verdict, ordinals
+from daig_editor.checking.asking import NEVER_REACHED, BadReply, Over, Served, ordinals
 from daig_editor.checking.refused import read_program, refused, too_long
 from daig_editor.checking.relevance import Relevance
 from daig_editor.checking.words import (
     DEAD,
     FAILS_ALWAYS,
-    check_words,
-    fault_words,
     over_notes,
     over_words,
     state_words,
     told_states,
     verdict_words,
 )
+from daig_editor.language.checks import SLIGHT, evaluated_at
 from daig_editor.language.places import SourceText
 from daig_editor.language.tokens import GREATEST_SOURCE
-from daig_editor.language.tree import Program, StmtKind, number_from_one
+from daig_editor.language.tree import Program, Span, Stmt, StmtKind, number_from_one
+from daig_editor.language.words import fault_words
 from daig_editor.reports.finding import CheckedFile, Finding, Key, Level, StateLine, Tally, trouble
 from daig_editor.reports.tool import RULES
+from daig_editor.server.choices import Faults
 from daig_editor.server.serving import Gone, NotStarted, Refused, Settings, Start
-from daig_editor.server.trying import FAULTS, FUEL, Failure, failing_runs, input_lists
+from daig_editor.server.trying import FUEL, Failure, failing_runs, input_lists
+from daig_editor.server.verdicts import Verdict, told
 
 # What a finding depends on is asked for so many findings of a file: each may depend on all before it.
 MOST_WHY = 200
@@ -33,8 +36,8 @@ MOST_WHY = 200
 FUEL_OF_ARRAYS = 2_000
 # What is known in each call of a procedure is told for so many findings of a file, where there are at most so many calls.
 MOST_BY_CALL, MOST_CALLS = 50, 8
-# The check and the verdict that each statement had, by its number now.
-OldVerdicts = Mapping[int, tuple[str, str]]
+# The verdict that each statement had by each rule, by its number now.
+OldVerdicts = Mapping[tuple[int, str], str]
 
 
 @dataclass(frozen=True)
@@ -44,6 +47,7 @@ class Wanted:
     those of a run that is tried before the others. `start` starts a server, of many beside each other where it is None."""
 
     settings: Settings
+    faults: Faults = Faults.ALL
     dead: bool = False
     tries: int = 0
     inputs: tuple[int, ...] | None = None
@@ -139,7 +143,9 @@ class _Analysis:
         self._served = served
         self._wanted = wanted
         self._unknown: dict[Over, int] = {}
-        self._fails: dict[int, tuple[int, ...]] = {}
+        self._fails: dict[tuple[int, str], tuple[int, ...]] = {}
+        self._not_safe: Counter[int] = Counter()
+        self._certain: set[int] = set()
         self._asked_why = 0
         self._relevance = Relevance(served.places)
         self._calls: dict[str, list[int]] = {}
@@ -152,21 +158,31 @@ class _Analysis:
         end = await self._served.state("end main")
         if isinstance(end, Over):
             self._unknown[end] = 0
-        report = await self._served.report()
-        which = ordinals(self._served.program, ((it.number, it.check) for it in report))
-        self._checked.tally = _tally(report)
-        others = await self._try_runs({it.number: it.check for it in report})
-        for it in report:
-            if it.verdict != "safe" or it.number in self._fails:
-                await self._add(it, which[it.number])
+        verdicts = await self._served.verdicts(self._wanted.faults)
+        which = ordinals(self._served.program, ((it.number, it.rule) for it in verdicts))
+        self._checked.tally = _tally(verdicts)
+        self._not_safe.update(it.number for it in verdicts if it.verdict != "safe")
+        self._certain.update(it.number for it in verdicts if it.verdict == "fails")
+        others = await self._try_runs({(it.number, it.rule) for it in verdicts})
+        for it in told(verdicts, self._fails):
+            await self._add(it, which[it.number, it.rule])
         await self._add_others(others)
         self._add_overs()
-        self._checked.findings.sort(key=lambda it: it.span)
+        self._checked.sort()
+        self._checked.is_older = self._served.is_older
+        self._checked.tells_all = self._wanted.faults is not Faults.CHECKS and not self._served.is_older
+        self._checked.cannot_fail = self._cannot_fail(verdicts, isinstance(end, Over) or bool(others))
         if self._wanted.states:
             await self._add_states()
 
-    async def _try_runs(self, checks: dict[int, str]) -> list[Failure]:
-        """Tries runs; answers those that fail by a fault that is none of a check."""
+    def _cannot_fail(self, verdicts: list[Verdict], is_open: bool) -> bool:
+        """Whether no run ends with a fault: all are judged, in all procedures, and none may come."""
+        if is_open or self._fails or not self._checked.tells_all:
+            return False
+        return all(it.verdict in ("safe", "dead") for it in verdicts) and _calls_all(self._served.program)
+
+    async def _try_runs(self, judged: set[tuple[int, str]]) -> list[Failure]:
+        """Tries runs; answers those that fail by a fault that is not judged."""
         given, text = self._wanted.inputs, self._checked.source.data
         lists = [list(given)] if given is not None else []
         lists += input_lists(text, self._wanted.tries) if self._wanted.tries else []
@@ -174,21 +190,21 @@ class _Analysis:
         failures = await failing_runs(self._served.server.ask, lists, lambda _number, _fault: True, fuel)
         if any(it.number not in self._served.places for it in failures):
             raise BadReply("its run ends at no statement")
-        self._fails = {it.number: it.inputs for it in failures if FAULTS.get(checks.get(it.number, "")) == it.fault}
-        return [it for it in failures if FAULTS.get(checks.get(it.number, "")) != it.fault]
+        self._fails = {(it.number, it.rule): it.inputs for it in failures if (it.number, it.rule) in judged}
+        return [it for it in failures if (it.number, it.rule) not in judged]
 
     async def _add_others(self, failures: list[Failure]) -> None:
-        """Adds the findings of runs that fail by a fault that is none of a check."""
+        """Adds the findings of runs that fail by a fault that is not judged."""
         which = ordinals(self._served.program, sorted((it.number, it.fault) for it in failures))
         for it in failures:
             place = self._served.places[it.number]
-            state = await self._served.state(f"before {it.number}")
+            state = await self._served.state(evaluated_at(place.stmt))
             finding = Finding(
                 it.fault if it.fault in RULES else "run",
                 Level.ERROR,
                 place.placed.head,
-                fault_words(it.fault, it.inputs),
-                Key(place.proc.name, place.stmt.text, it.fault, which[it.number]),
+                fault_words(it.fault, "may", it.inputs),
+                Key(place.proc.name, place.stmt.text, it.fault, which[it.number, it.fault]),
                 told_states(state),
                 inputs=it.inputs,
                 number=it.number,
@@ -196,67 +212,90 @@ class _Analysis:
             self._checked.findings.append(finding)
 
     async def _add(self, verdict: Verdict, ordinal: int) -> None:
-        """Adds the finding of a check that is not safe, or that fails in a run."""
+        """Adds the finding of a fault that may come, that comes in a run, or that is never reached."""
         place = self._served.places[verdict.number]
-        key = Key(place.proc.name, place.stmt.text, verdict.check, ordinal)
-        if verdict.verdict == "dead" and verdict.number not in self._fails:
+        key = Key(place.proc.name, place.stmt.text, verdict.rule, ordinal)
+        fails = (verdict.number, verdict.rule) in self._fails
+        if verdict.verdict == "dead" and not fails:
             level = Level.WARNING if self._wanted.dead else Level.NOTE
             notes, number = self._old_notes(verdict), verdict.number
-            dead = Finding(verdict.check, level, place.placed.head, DEAD, key, notes=notes, number=number)
+            dead = Finding(verdict.rule, level, place.placed.head, DEAD, key, notes=notes, number=number)
             self._checked.findings.append(dead)
             return
-        known = await self._served.state(f"before {verdict.number}")
-        if isinstance(known, Over) and verdict.number not in self._fails:
+        known = await self._served.state(evaluated_at(place.stmt))
+        if isinstance(known, Over) and not fails:
             self._unknown[known] = self._unknown.get(known, 0) + 1
             self._checked.tally.may -= 1
             self._checked.tally.unknown += 1
             return
-        self._checked.findings.append(await self._may(verdict, key, told_states(known)))
+        self._checked.findings.append(await self._open(verdict, key, told_states(known)))
 
-    async def _may(self, verdict: Verdict, key: Key, known: tuple[str, ...]) -> Finding:
-        """The finding of a check that may fail, or that fails in a run."""
-        number, places = verdict.number, self._served.places
-        self._asked_why += 1
-        asked = self._wanted.causes and self._asked_why <= MOST_WHY
-        why = await self._served.why(f"before {number}") if asked else []
-        after = await self._served.state(f"after {number}")
-        inputs = self._fails.get(number)
+    async def _open(self, verdict: Verdict, key: Key, known: tuple[str, ...]) -> Finding:
+        """The finding of a fault that may come, or that comes in a run."""
+        number = verdict.number
+        place, inputs = self._served.places[number], self._fails.get((number, verdict.rule))
+        is_certain = verdict.verdict == "fails"
+        is_new = self._is_new(verdict)
+        ends = is_certain or (number not in self._certain and not await self._goes_on(place.stmt))
+        level = Level.ERROR if is_certain or inputs is not None else Level.WARNING
+        is_slight = level is Level.WARNING and verdict.rule == SLIGHT and not ends
+        if is_slight and not is_new and self._wanted.faults is not Faults.STRICT:
+            level = Level.NOTE
+        notes = [FAILS_ALWAYS] if ends and not (is_certain and inputs is None) else []
+        causes: tuple[Span, ...] = ()
+        if level is not Level.NOTE:
+            causes = await self._causes(place.stmt)
+            notes = [*await self._by_call(place.stmt), *notes]
         return Finding(
-            verdict.check,
-            Level.WARNING if inputs is None else Level.ERROR,
-            places[number].placed.head,
-            check_words(verdict.check, inputs),
+            verdict.rule,
+            level,
+            place.placed.head,
+            fault_words(verdict.rule, verdict.verdict, inputs, self._not_safe[number] == 1),
             key,
             known,
-            causes=tuple(places[it].placed.head for it in self._relevance.ordered(number, set(why) - {number})),
-            notes=(
-                *await self._by_call(number),
-                *((FAILS_ALWAYS,) if after == NEVER_REACHED else ()),
-                *self._old_notes(verdict),
-            ),
+            causes,
+            notes=(*notes, *self._old_notes(verdict)),
             inputs=inputs,
             number=number,
+            is_new=is_new,
+            is_slight=is_slight,
         )
 
-    async def _by_call(self, number: int) -> list[str]:
-        """What is known before a statement in each call of its procedure, where that differs."""
-        calls = self._calls.get(self._served.places[number].proc.name, [])
+    async def _goes_on(self, stmt: Stmt) -> bool:
+        """Whether a run may go on after a statement, where that is the next thing that it does."""
+        return stmt.kind is not StmtKind.SIMPLE or bool(stmt.callee) or await self._served.goes_on(f"after {stmt.number}")
+
+    async def _causes(self, stmt: Stmt) -> tuple[Span, ...]:
+        """What is known at a statement depends on these places, for the first findings of a file."""
+        self._asked_why += 1
+        if not self._wanted.causes or self._asked_why > MOST_WHY:
+            return ()
+        numbers = set(await self._served.why(evaluated_at(stmt))) - {stmt.number}
+        return tuple(self._served.places[it].placed.head for it in self._relevance.ordered(stmt.number, numbers))
+
+    async def _by_call(self, stmt: Stmt) -> list[str]:
+        """What is known at a statement in each call of its procedure, where that differs."""
+        calls = self._calls.get(self._served.places[stmt.number].proc.name, [])
         if not 2 <= len(calls) <= MOST_CALLS or self._asked_why > MOST_BY_CALL or not self._wanted.causes:
             return []
-        states = [await self._served.state(f"before {number}", it) for it in calls]
+        states = [await self._served.state(evaluated_at(stmt), it) for it in calls]
         if len({state_words(it) for it in states}) == 1:
             return []
         lines = [(self._line(call), state_words(state)) for call, state in zip(calls, states) if state != NEVER_REACHED]
         return [f"called from line {line}: {words}" for line, words in lines]
 
+    def _is_new(self, verdict: Verdict) -> bool:
+        """Whether a fault may come now, and could not before a change."""
+        return self._old is not None and self._old.get((verdict.number, verdict.rule), "safe") in ("safe", "dead")
+
     def _old_notes(self, verdict: Verdict) -> tuple[str, ...]:
-        """What the check was before a change, where it was something else."""
+        """What the verdict was before a change, where it was something else."""
         if self._old is None:
             return ()
-        old = self._old.get(verdict.number)
+        old = self._old.get((verdict.number, verdict.rule))
         if old is None:
             return ("new with the change",)
-        return () if old == (verdict.check, verdict.verdict) else (f"before the change: {verdict_words(*old)}",)
+        return () if old == verdict.verdict else (f"before the change: {verdict_words(verdict.rule, old)}",)
 
     def _add_overs(self) -> None:
         """Adds a finding for each loop that used up its budget, with how many checks are not known for it."""
@@ -265,7 +304,7 @@ class _Analysis:
         for loop in loops:
             place = self._served.places[loop]
             unknown = {it: many for it, many in self._unknown.items() if it.loop == loop}
-            key = Key(place.proc.name, place.stmt.text, "budget", which[loop])
+            key = Key(place.proc.name, place.stmt.text, "budget", which[loop, "budget"])
             words, notes = over_words(self._wanted.settings.budget), over_notes(unknown, self._line)
             finding = Finding("budget", Level.WARNING, place.placed.head, words, key, notes=notes, number=loop)
             self._checked.findings.append(finding)
@@ -280,17 +319,26 @@ class _Analysis:
 
     async def _add_states(self) -> None:
         """Adds what is known before each statement, and at the head of each loop."""
-        for number, place in self._served.places.items():
-            at = "head" if place.stmt.kind is StmtKind.WHILE else "before"
-            state = await self._served.state(f"{at} {number}")
+        for place in self._served.places.values():
+            state = await self._served.state(evaluated_at(place.stmt))
             lines = (state_words(state),) if isinstance(state, Over) else state
             self._checked.states.append(StateLine(place.placed.head, lines))
 
 
-def _tally(report: list[Verdict]) -> Tally:
+def _tally(found: list[Verdict]) -> Tally:
     """How many checks have each verdict."""
-    verdicts = [it.verdict for it in report]
-    return Tally(len(verdicts), verdicts.count("safe"), verdicts.count("may"), verdicts.count("dead"))
+    verdicts = [it.verdict for it in found]
+    safe, may, fails, dead = (verdicts.count(it) for it in ("safe", "may", "fails", "dead"))
+    return Tally(len(verdicts), safe, may, fails, dead)
+
+
+def _calls_all(program: Program) -> bool:
+    """Whether calls lead from main to all procedures."""
+    called = {"main"}
+    for proc in reversed(program.procs):
+        if proc.name in called:
+            called |= {it.callee for it in proc.statements() if it.callee}
+    return len(called) == len(program.procs)
 
 
 def _makes_arrays_often(program: Program) -> bool:

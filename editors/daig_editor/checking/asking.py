@@ -4,12 +4,14 @@ from __future__ import annotations
 from dataclasses import dataclass
 from typing import Iterable, NamedTuple
 
-from daig_editor.language.checks import check_of
+from daig_editor.language.checks import check_of, rule_of, rules_of
 from daig_editor.language.tree import Placed, Proc, Program, Stmt
-from daig_editor.language.words import NEVER, state_lines
-from daig_editor.server.serving import Reply, Server
+from daig_editor.language.words import NEVER, is_never, state_lines
+from daig_editor.server.choices import Faults
+from daig_editor.server.serving import UNKNOWN_REQUEST, Reply, Server
+from daig_editor.server.verdicts import Verdict
 
-VERDICTS = ("safe", "may", "dead")
+VERDICTS = ("safe", "may", "dead", "fails")
 
 
 class BadReply(Exception):
@@ -22,14 +24,6 @@ class Over:
 
     loop: int
     chain: tuple[int, ...]
-
-
-class Verdict(NamedTuple):
-    """What the report says of a statement."""
-
-    number: int
-    check: str
-    verdict: str
 
 
 class Place(NamedTuple):
@@ -49,10 +43,14 @@ NEVER_REACHED = (NEVER,)
 
 
 class Served:
-    """A running server, and the program that it has, whose statements are numbered as the server's are."""
+    """A running server, and the program that it has, whose statements are numbered as the server's are.
+
+    `is_older`: it was asked for all faults, and knows those of checks alone.
+    """
 
     def __init__(self, server: Server, program: Program) -> None:
         self.server = server
+        self.is_older = False
         self.take(program)
 
     def take(self, program: Program) -> None:
@@ -80,14 +78,31 @@ class Served:
             raise BadReply(f"it answers {str(reply)[:80]} where a state is asked")
         return Over(loop, tuple(it for it in chain if it in self.places))
 
-    async def report(self) -> list[Verdict]:
-        """The verdicts of all checks; each check of the program has one, in the order of the text."""
+    async def goes_on(self, at: str) -> bool:
+        """Whether a run may come to a location."""
+        return not is_never(str((await self.server.ask(do="state", at=at)).get("state", "")))
+
+    async def verdicts(self, faults: Faults) -> list[Verdict]:
+        """The verdicts of all faults, or of checks alone, in the order of the text; each fault of the program has one."""
+        if faults is not Faults.CHECKS and not self.is_older:
+            reply = await self.server.ask(do="faults")
+            self.is_older = reply.get("refused") == UNKNOWN_REQUEST
+            if not self.is_older:
+                wanted = [(it.stmt, rules_of(it.stmt)) for it in self.program.placed()]
+                return self._read(reply.get("faults"), "fault", wanted)
         rows = (await self.server.ask(do="report")).get("report")
-        if not isinstance(rows, list) or not all(isinstance(it, dict) for it in rows):
+        checks = [(it.stmt, check_of(it.stmt)) for it in self.program.placed()]
+        return self._read(rows, "check", [(stmt, [check]) for stmt, check in checks if check])
+
+    def _read(self, rows: object, name: str, wanted: list[tuple[Stmt, list[str]]]) -> list[Verdict]:
+        """Rows with a verdict each, of these statements and rules; the rules of a statement come in any order."""
+        if not isinstance(rows, list) or not all(isinstance(it, dict) and isinstance(it.get(name), str) for it in rows):
             raise BadReply("it answers no report")
-        found = [Verdict(it.get("id"), it.get("check"), it.get("verdict")) for it in rows]
-        wanted = [(it.stmt.number, check) for it in self.program.placed() if (check := check_of(it.stmt))]
-        if [(it.number, it.check) for it in found] != wanted or any(it.verdict not in VERDICTS for it in found):
+        found = [Verdict(it.get("id"), rule_of(it[name]), it.get("verdict")) for it in rows]
+        numbers = [stmt.number for stmt, rules in wanted for _ in rules]
+        if [it.number for it in found] != numbers or any(it.verdict not in VERDICTS for it in found):
+            raise BadReply("its report is not of this program")
+        if {(it.number, it.rule) for it in found} != {(stmt.number, rule) for stmt, rules in wanted for rule in rules}:
             raise BadReply("its report is not of this program")
         return found
 
@@ -106,13 +121,13 @@ class Served:
         return kept
 
 
-def ordinals(program: Program, told: Iterable[tuple[int, str]]) -> dict[int, int]:
-    """The number of each told statement, from 0, among those of its procedure that print alike and have its check."""
+def ordinals(program: Program, told: Iterable[tuple[int, str]]) -> dict[tuple[int, str], int]:
+    """The number of each told statement and rule, from 0, among those of its procedure that print alike, by this rule."""
     procs = {it.number: (proc.name, it.text) for proc in program.procs for it in proc.statements()}
     many: dict[tuple[str, str, str], int] = {}
-    found: dict[int, int] = {}
-    for number, check in told:
-        kind = (*procs[number], check)
-        found[number] = many.get(kind, 0)
-        many[kind] = found[number] + 1
+    found: dict[tuple[int, str], int] = {}
+    for number, rule in told:
+        kind = (*procs[number], rule)
+        found[number, rule] = many.get(kind, 0)
+        many[kind] = found[number, rule] + 1
     return found

@@ -4,7 +4,7 @@ from __future__ import annotations
 from dataclasses import dataclass, field, replace
 
 from daig_editor.checking.analysis import Wanted, add_findings, analyse, served, told_in
-from daig_editor.checking.asking import Served, State, Verdict, ordinals
+from daig_editor.checking.asking import Served, State, ordinals
 from daig_editor.checking.matching import Matches, Spot
 from daig_editor.checking.refused import read_program
 from daig_editor.checking.revisions import OldText
@@ -15,6 +15,7 @@ from daig_editor.language.tree import Program, Span, number_from_one
 from daig_editor.reports.finding import WHOLE_FILE, CheckedFile, Finding, Key, Level, trouble
 from daig_editor.reports.shown import plural
 from daig_editor.reports.tool import CHECK_RULES
+from daig_editor.server.verdicts import Verdict
 
 SPOTS = {
     "head": "the state at the head of this loop changed",
@@ -33,7 +34,7 @@ class _Known:
     """What is known of a program: the verdicts by their statements, the states by their locations, and the levels of
     findings by their statements and rules, where new ones are to be told from them."""
 
-    verdicts: dict[int, Verdict]
+    verdicts: dict[tuple[int, str], Verdict]
     states: dict[str, State]
     levels: dict[tuple[int, str], Level] = field(default_factory=dict)
 
@@ -76,7 +77,7 @@ class _Comparison:
     ) -> _Comparison:
         """A comparison, for which all is asked before the change; `source` is the text then."""
         matches = Matches(server.program, program)
-        old = await _known(server, [it.old for it in matches.told()])
+        old = await _known(server, wanted, [it.old for it in matches.told()])
         if wanted.new:
             before = CheckedFile(checked.name, SourceText.of(source, True))
             await add_findings(before, server, replace(wanted, states=False, causes=False))
@@ -110,24 +111,23 @@ class _Comparison:
     async def _tell(self, server: Served) -> None:
         """Adds the findings of the new text, and what changed."""
         kept = await server.cells()
-        new = await _known(server, [])
+        new = await _known(server, self.wanted, [])
         all_cells = await server.cells()
+        before = {it.new.number: it.old.number for it in self.matches.pairs}
         old = self.old.verdicts
-        same = {it.new.number: old[it.old.number] for it in self.matches.pairs if it.old.number in old}
-        await add_findings(
-            self.checked, server, self.wanted, {it: (was.check, was.verdict) for it, was in same.items()}
-        )
+        same = {(now, rule): old[before[now], rule] for now, rule in new.verdicts if (before.get(now), rule) in old}
+        await add_findings(self.checked, server, self.wanted, {it: was.verdict for it, was in same.items()})
         if self.wanted.new:
             self._leave_out_old()
-        which = ordinals(self.program, ((it.number, it.check) for it in new.verdicts.values()))
-        for it in new.verdicts.values():
-            was = same.get(it.number)
-            if was and it.verdict == "safe" and was.verdict != "safe":
-                self._add_safe(server, it, was, which[it.number])
+        which = ordinals(self.program, new.verdicts)
+        for it, now in new.verdicts.items():
+            was = same.get(it)
+            if was and now.verdict == "safe" and was.verdict != "safe":
+                self._add_safe(server, now, was, which[it])
         for spot in self.matches.told():
             await self._add_state(server, spot)
-        self.checked.findings.sort(key=lambda it: it.span)
         self.checked.findings.append(_cells(all_cells - kept, all_cells))
+        self.checked.sort()
 
     def _leave_out_old(self) -> None:
         """Leaves out the findings that were there before the change, at least as bad as they are now."""
@@ -145,8 +145,8 @@ class _Comparison:
     def _add_safe(self, server: Served, now: Verdict, was: Verdict, ordinal: int) -> None:
         """Adds that a check is safe now."""
         place = server.places[now.number]
-        key = Key(place.proc.name, place.stmt.text, f"{now.check} change", ordinal)
-        words = f"safe now; before the change: {verdict_words(was.check, was.verdict)}"
+        key = Key(place.proc.name, place.stmt.text, f"{now.rule} change", ordinal)
+        words = f"safe now; before the change: {verdict_words(was.rule, was.verdict)}"
         self._add(place.placed.head, words, key)
 
     async def _add_state(self, server: Served, spot: Spot) -> None:
@@ -173,10 +173,10 @@ class _Comparison:
         self.checked.findings.append(Finding("change", Level.NOTE, span, words, key, notes=notes))
 
 
-async def _known(server: Served, locations: list[str]) -> _Known:
+async def _known(server: Served, wanted: Wanted, locations: list[str]) -> _Known:
     """What is known of the server's program, at these locations."""
     await server.state("end main")
-    verdicts = {it.number: it for it in await server.report()}
+    verdicts = {(it.number, it.rule): it for it in await server.verdicts(wanted.faults)}
     return _Known(verdicts, {it: await server.state(it) for it in locations})
 
 

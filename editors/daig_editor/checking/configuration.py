@@ -12,7 +12,7 @@ from functools import lru_cache
 from typing import Callable
 
 from daig_editor.checking.patterns import Patterns
-from daig_editor.server.choices import DOMAINS
+from daig_editor.server.choices import DOMAINS, FAULTS
 from daig_editor.reports.project import CONFIGURATION
 from daig_editor.reports.suggestion import meant
 from daig_editor.reports.tool import RULES
@@ -33,6 +33,7 @@ class Configuration:
     include: Patterns
     exclude: Patterns
     select: frozenset[str] | None = None
+    faults: str | None = None
     domain: str | None = None
     budget: int | None = None
 
@@ -105,11 +106,13 @@ def _configuration(folder: str, tables: dict[str, object]) -> Configuration:
         found[name] = _KEYS[name](name, value)
     plain = Configuration.default(folder)
     include, exclude = found.get("include"), found.get("exclude")
-    select, domain, budget = found.get("select"), found.get("domain"), found.get("budget")
+    select, faults = found.get("select"), found.get("faults")
+    domain, budget = found.get("domain"), found.get("budget")
     return Configuration(
         Patterns(folder, tuple(include)) if isinstance(include, list) else plain.include,
         Patterns(folder, tuple(exclude)) if isinstance(exclude, list) else plain.exclude,
         frozenset(select) if isinstance(select, list) else None,
+        faults if isinstance(faults, str) else None,
         domain if isinstance(domain, str) else None,
         budget if isinstance(budget, int) else None,
     )
@@ -130,11 +133,15 @@ def _rules(name: str, value: object) -> list[str]:
     return _words(name, value)
 
 
-def _domain(name: str, value: object) -> str:
-    """A domain."""
-    if isinstance(value, str) and value in DOMAINS:
-        return value
-    raise BadConfiguration(f"{name}: one of {', '.join(DOMAINS)} is wanted{meant(str(value), DOMAINS)}")
+def _one_of(words: tuple[str, ...]) -> Callable[[str, object], str]:
+    """Reads one of some words."""
+
+    def read(name: str, value: object) -> str:
+        if isinstance(value, str) and value in words:
+            return value
+        raise BadConfiguration(f"{name}: one of {', '.join(words)} is wanted{meant(str(value), words)}")
+
+    return read
 
 
 def _budget(name: str, value: object) -> int:
@@ -148,6 +155,7 @@ _KEYS: dict[str, Callable[[str, object], object]] = {
     "include": _words,
     "exclude": _words,
     "select": _rules,
-    "domain": _domain,
+    "faults": _one_of(FAULTS),
+    "domain": _one_of(DOMAINS),
     "budget": _budget,
 }

@@ -1,10 +1,11 @@
 """Which findings of a file are told: not those that a comment ignores, that are of other rules, or that are known."""
 from __future__ import annotations
 
-from dataclasses import dataclass
+from dataclasses import dataclass, replace
 
+from daig_editor.checking.baseline import Baseline
 from daig_editor.language.ignores import Ignore, ignores_of, lines_of_span
-from daig_editor.reports.finding import TROUBLE, TROUBLE_RULES, WHOLE_FILE, CheckedFile, Finding, Key, Level
+from daig_editor.reports.finding import TROUBLE, TROUBLE_RULES, CheckedFile, Finding, Key, Level
 from daig_editor.reports.suggestion import meant
 from daig_editor.reports.tool import CHECK_RULES, IGNORE_RULE
 
@@ -13,10 +14,10 @@ _LEVELS = (Level.ERROR, Level.WARNING, Level.NOTE)
 
 @dataclass(frozen=True)
 class Selection:
-    """The rules that are told, all where it is None, and the fingerprints of a baseline's findings, if there is one."""
+    """The rules that are told, all where it is None, and the baseline, if there is one."""
 
     rules: frozenset[str] | None = None
-    known: frozenset[str] | None = None
+    baseline: Baseline | None = None
 
     def tells(self, rule: str) -> bool:
         """Whether findings of a rule are told. Why a file is not checked is always told."""
@@ -30,11 +31,19 @@ class Selection:
         # What changed, and why a file could not be checked, is always told.
         new = [it for it in told if it.status == TROUBLE or it.rule == "change" or not self._knows(checked, it)]
         checked.known_before += len(told) - len(new)
-        checked.findings, checked.has_baseline = new, self.known is not None
+        checked.findings, checked.has_baseline = new, self.baseline is not None
+        if self.baseline and self.baseline.tells_all:
+            checked.findings = [_raised(it) for it in new]
+        checked.sort()
 
     def _knows(self, checked: CheckedFile, finding: Finding) -> bool:
         """Whether a finding is a known one."""
-        return self.known is not None and checked.fingerprint(finding) in self.known
+        return self.baseline is not None and checked.fingerprint(finding) in self.baseline.known
+
+
+def _raised(finding: Finding) -> Finding:
+    """A finding that the baseline would have: a slight one weighs more where it is new."""
+    return replace(finding, level=Level.WARNING, is_new=True) if finding.is_slight else finding
 
 
 class Limit:
@@ -48,7 +57,7 @@ class Limit:
         if self._left is None or len(checked.findings) <= self._left:
             self._left = None if self._left is None else self._left - len(checked.findings)
             return
-        order = sorted(checked.findings, key=lambda it: (it.status != TROUBLE, _LEVELS.index(it.level)))
+        order = sorted(checked.findings, key=lambda it: (it.status != TROUBLE, _LEVELS.index(it.level), it.weight))
         always = sum(it.status == TROUBLE for it in order)
         first = {id(it) for it in order[: max(self._left, always)]}
         untold = [it for it in checked.findings if id(it) not in first]
@@ -78,7 +87,7 @@ def _ignore(checked: CheckedFile, selection: Selection) -> None:
     analysed = checked.status != TROUBLE
     for number, comment in enumerate(comments):
         told += _of_comment(comment, number, [it for it in comment.rules if (comment, it) in used], selection, analysed)
-    checked.findings = sorted(told, key=lambda it: (it.span == WHOLE_FILE, it.span))
+    checked.findings = told
 
 
 def _of_comment(

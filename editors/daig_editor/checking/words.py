@@ -4,7 +4,7 @@ from __future__ import annotations
 from typing import Callable, Mapping
 
 from daig_editor.checking.asking import Over, State
-from daig_editor.language.words import ANYTHING, CHECKS, FAILS, NO_VARIABLES, inputs_words
+from daig_editor.language.words import ANYTHING, NO_VARIABLES, fault_words
 from daig_editor.reports.shown import plural
 
 DEAD = "never reached"
@@ -12,19 +12,11 @@ FAILS_ALWAYS = "certain: no run that comes here goes on"
 TELLS_NOTHING = (NO_VARIABLES, ANYTHING)
 
 
-def check_words(check: str, inputs: tuple[int, ...] | None = None) -> str:
-    """What a check says that may fail, or that fails in a run with these inputs and no further ones."""
-    return CHECKS[check] if inputs is None else f"{FAILS[check]} {inputs_words(inputs)}"
-
-
-def fault_words(fault: str, inputs: tuple[int, ...]) -> str:
-    """What a run says that fails by a fault which is none of a check."""
-    return f"{FAILS.get(fault, f'a run ends by the fault {fault}')} {inputs_words(inputs)}"
-
-
-def verdict_words(check: str, verdict: str) -> str:
+def verdict_words(rule: str, verdict: str) -> str:
     """A verdict in words."""
-    return {"may": check_words(check), "dead": DEAD}.get(verdict, "safe")
+    if verdict == "safe":
+        return verdict
+    return DEAD if verdict == "dead" else fault_words(rule, verdict)
 
 
 def over_words(budget: int) -> str:

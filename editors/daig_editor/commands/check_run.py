@@ -17,7 +17,7 @@ from daig_editor.checking.program import program_to_ask
 from daig_editor.checking.selection import Limit, Selection
 from daig_editor.checking.sources import Source, bytes_of, sources_of, standard_input
 from daig_editor.checking.sources import Wanted as WantedFiles
-from daig_editor.server.choices import DOMAIN
+from daig_editor.server.choices import DOMAIN, Faults
 from daig_editor.reports.finding import CheckedFile, troubled
 from daig_editor.reports.output import Output, output_to
 from daig_editor.reports.progress import Progress
@@ -78,7 +78,7 @@ class Run:
         """Raises `Wrong`, `BadBaseline`, `BadConfiguration` or `NoProgramFound`."""
         self._args = args
         self._configurations = Configurations(args.isolated, args.config)
-        self._known = read_baseline(args.baseline) if args.baseline else None
+        self._baseline = read_baseline(args.baseline) if args.baseline else None
         exclude = Patterns(os.getcwd(), tuple(it for words in args.exclude for it in words))
         files = WantedFiles(self._configurations, exclude, args.force_exclude)
         self._sources = sources_of(args.files, files)
@@ -88,8 +88,9 @@ class Run:
         self._input = standard_input() if STANDARD_INPUT in args.files else b""
         self._against = self._old_texts() if args.against is not None else None
         settings = Settings(program_to_ask(args.program), widening=args.widening, delay=args.delay, memory=args.memory)
-        states = args.format == "html"
-        self._wanted = Wanted(settings, args.dead, args.tries, args.inputs, states, new=args.new)
+        self._wanted = Wanted(
+            settings, dead=args.dead, tries=args.tries, inputs=args.inputs, states=args.format == "html", new=args.new
+        )
         self._test_output()
 
     def _old_texts(self) -> Against:
@@ -142,13 +143,14 @@ class Run:
     async def _check(self, source: Source) -> CheckedFile:
         """All that is told of one file."""
         configuration = self._configurations.of(os.path.dirname(source.name) or ".")
-        wanted = replace(self._wanted, settings=self._settings(configuration))
+        faults = Faults(self._args.faults or configuration.faults or Faults.ALL.value)
+        wanted = replace(self._wanted, settings=self._settings(configuration), faults=faults)
         checked = await self._analysed(source, wanted)
         if self._args.cert:
             from daig_editor.checking.certificates import certify
 
             await certify(checked, self._args.cert, wanted.settings)
-        Selection(self._args.select or configuration.select, self._known).apply(checked)
+        Selection(self._args.select or configuration.select, self._baseline).apply(checked)
         return checked
 
     def _settings(self, configuration: Configuration) -> Settings:

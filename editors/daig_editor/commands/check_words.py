@@ -5,7 +5,7 @@ import argparse
 import os
 from typing import Callable, Iterable, NoReturn
 
-from daig_editor.server.choices import DOMAIN, DOMAINS, WIDENINGS
+from daig_editor.server.choices import DOMAIN, DOMAINS, FAULTS, WIDENINGS
 from daig_editor.reports.suggestion import meant
 from daig_editor.reports.tool import NAME, RULES, VERSION, explained
 
@@ -19,15 +19,15 @@ FORMAT_HELP = (
 )
 PROGRAM_HELP = "the program daig (default: $DAIG_PROGRAM, else the one beside daig-check, else that on the PATH)"
 USAGE = f"{NAME} [OPTIONS] FILE|FOLDER|- .."
-DESCRIPTION = "Checks .imp files: says which checks may fail, what is known there, and what that depends on."
+DESCRIPTION = "Checks .imp files: says how a run may fail, what is known there, and what that depends on."
 EPILOG = """\
 status:
-  0  no check may fail
-  1  a finding: a check may fail, a loop used up its budget, no certificate holds
+  0  nothing but notes, as of numbers that may pass the limits of 64 bits
+  1  a finding: a run may fail, a loop used up its budget, no certificate holds
   2  wrong words, a file that cannot be read or is no program, or no answer from the program daig
 The highest one counts.
 
-The nearest daig.toml above a file may say include, exclude, select, domain and budget; a comment
+The nearest daig.toml above a file may say include, exclude, select, faults, domain and budget; a comment
 `// daig: ignore[RULE] reason` leaves out findings of its line.
 
 examples:
@@ -129,6 +129,13 @@ def _add_report(group: argparse._ArgumentGroup) -> None:
     group.add_argument("--output", "-o", metavar="PATH", help="write the report there, whole or not at all")
     group.add_argument(
         "--select", type=_rules, metavar="RULES", help="tell findings of these rules alone, with commas between them"
+    )
+    _choice(
+        group,
+        "--faults",
+        FAULTS,
+        metavar="WHICH",
+        help="all (default), strict (a number that may pass its limits counts too), or those of checks alone",
     )
     group.add_argument("--dead", action="store_true", help="checks that are never reached count as findings too")
     group.add_argument("--baseline", "-b", metavar="OLD.sarif", help="leave out the findings of an earlier report")

@@ -41,8 +41,8 @@ class Stmt:
 
     `text` is the statement as the server prints it, or the condition of an `if` or a loop. `head` is the span up to
     the `{` of an `if` or a loop, and the whole span of a simple statement; both spans count from the start of the
-    outermost statement around. `key` is equal exactly where the trees are. `checks` is how many checks there are in it, -1
-    where they were not counted.
+    outermost statement around. `key` is equal exactly where the trees are. `checks` and `faults` are how many of these there
+    are in it, -1 where they were not counted.
     """
 
     kind: StmtKind
@@ -55,6 +55,7 @@ class Stmt:
     key: object = None
     number: int = 0
     checks: int = field(default=-1, compare=False)
+    faults: int = field(default=-1, compare=False)
 
     def within(self) -> Iterator[Stmt]:
         """This statement and all inside it, in the order of the text."""

@@ -31,10 +31,13 @@ REFUSALS = {
     "Depth": "a chain of more than 8 calls",
     "Chains": "more than 4,096 chains of calls",
 }
-CHECKS = {
+MAY_FAIL = {
     "bounds": "the index may be outside the array",
     "null": "the list may be null",
     "assert": "the assertion may fail",
+    "overflow": "a number may pass the limits of 64 bits",
+    "zero": "the divisor may be zero",
+    "length": "the length of the array may be below 0 or above 1,000,000",
 }
 FAILS = {
     "bounds": "the index is outside the array",
@@ -51,14 +54,26 @@ def refusal_words(name: str) -> str:
     return f"{REFUSALS.get(name, 'refused')} ({name})"
 
 
-def finding_words(check: str, verdict: str, inputs: Sequence[int] | None = None, always: bool = False) -> str:
-    """What a verdict of a check says; `inputs` are those of a run that fails, `always` where every run there does."""
-    if verdict == "dead":
-        return f"never reached ({check})"
-    words = CHECKS.get(check, "the check may fail")
+def fault_words(rule: str, verdict: str, inputs: Sequence[int] | None = None, alone: bool = True) -> str:
+    """What is said of a fault: that it may come, that it comes in a run with these inputs, or that it comes in every run
+    that comes here; unless it is `alone`, another fault of the same statement may come before it."""
+    if inputs is None and verdict != "fails":
+        return MAY_FAIL.get(rule, f"a run may end by the fault {rule}")
+    words = FAILS.get(rule, f"a run ends by the fault {rule}")
     if inputs is not None:
-        words = f"{FAILS.get(check, 'the check fails')} {inputs_words(inputs)}"
-    return f"{words}{'; no run that comes here goes on' if always else ''} ({check})"
+        return f"{words} {inputs_words(inputs)}"
+    return f"{words}{'' if alone else ', or another fault comes first,'} in every run that comes here"
+
+
+def finding_words(
+    rule: str, verdict: str, inputs: Sequence[int] | None = None, ends: bool = False, alone: bool = True
+) -> str:
+    """What an editor says of a verdict, with its rule; `ends`: no run goes on after the statement."""
+    if verdict == "dead":
+        return f"{NEVER} ({rule})"
+    is_said = inputs is None and verdict == "fails"
+    more = "; no run that comes here goes on" if ends and not is_said else ""
+    return f"{fault_words(rule, verdict, inputs, alone)}{more} ({rule})"
 
 
 def inputs_words(inputs: Sequence[int]) -> str:

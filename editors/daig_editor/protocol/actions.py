@@ -56,7 +56,7 @@ def finding_at(document: Document, start: int, end: int) -> tuple[Placed, Span] 
         return None
     for finding in report.findings:
         span = shift.span(finding.place.head)
-        if span and span.start <= end and start <= span.end and finding.verdict == "may":
+        if span and span.start <= end and start <= span.end and finding.verdict != "dead":
             return finding.place, span
     return None
 

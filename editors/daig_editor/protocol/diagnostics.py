@@ -5,6 +5,7 @@ from daig_editor.language.places import Shift
 from daig_editor.language.tree import Placed, Span
 from daig_editor.language.words import finding_words
 from daig_editor.protocol.wire import Json
+from daig_editor.server.choices import Faults
 from daig_editor.server.document import Document
 from daig_editor.server.findings import Finding, Report
 
@@ -14,6 +15,7 @@ SOURCE = "daig"
 RUNNING = "the analysis still runs: what may fail in the present text is not known yet"
 PARTLY = "the analysis still runs: what fails in a run is shown; what else may fail in the present text is not known yet"
 SO_FAR = "; found before the end of the analysis"
+NEW = "; new with the last change"
 MOST_RELATED = 20
 
 
@@ -69,14 +71,22 @@ def _related(document: Document, span: Span, message: str) -> Json:
 
 
 def _finding(document: Document, shift: Shift, finding: Finding, span: Span, partial: bool) -> Json:
-    """A check that may fail, or fails in a run that was seen, or a statement that is never reached."""
-    words = finding_words(finding.check, finding.verdict, finding.inputs, finding.always) + (SO_FAR if partial else "")
+    """A fault that may come, or comes in a run that was seen, or a statement that is never reached."""
+    words = finding_words(finding.rule, finding.verdict, finding.inputs, finding.ends, finding.alone)
+    words += (NEW if finding.is_new else "") + (SO_FAR if partial else "")
     if finding.verdict == "dead":
-        return _diagnostic(document, span, HINT, words, code=finding.check, tags=[UNNECESSARY])
+        return _diagnostic(document, span, HINT, words, code=finding.rule, tags=[UNNECESSARY])
     places = [shift.span(it.head) for it in finding.causes[:MOST_RELATED]]
     related = [_related(document, it, "hangs on this") for it in places if it]
-    severity = WARNING if finding.inputs is None else ERROR
-    return _diagnostic(document, span, severity, words, related, code=finding.check)
+    return _diagnostic(document, span, _severity(document, finding), words, related, code=finding.rule)
+
+
+def _severity(document: Document, finding: Finding) -> int:
+    """How bad a fault is that may come, or comes."""
+    if finding.is_certain:
+        return ERROR
+    is_slight = finding.is_slight and document.options.faults is not Faults.STRICT
+    return INFORMATION if is_slight else WARNING
 
 
 def _shown(document: Document, shift: Shift, of: Placed, causes: list[Placed]) -> list[Json]:

@@ -45,6 +45,7 @@ class LanguageServer:
         self._settings: GivenSettings = read_options(None)
         self._initialized = False
         self._stopped = False
+        self._said: set[str] = set()
         self._documents: dict[str, Document] = {}
         self._tasks: dict[object, asyncio.Task[None]] = {}
         self._others: set[asyncio.Task[None]] = set()
@@ -172,6 +173,12 @@ class LanguageServer:
     def show(self, text: str) -> None:
         """Something for the user."""
         self._client.show(text)
+
+    def show_once(self, text: str) -> None:
+        """Something for the user, which is said once."""
+        if text not in self._said:
+            self._said.add(text)
+            self._client.show(text)
 
     def work(self, document: Document, words: str | None, percent: int) -> None:
         """Long work on a document is so far."""

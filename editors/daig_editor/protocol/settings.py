@@ -4,11 +4,11 @@ from __future__ import annotations
 import os
 import shutil
 
-from daig_editor.server.choices import DOMAIN, DOMAINS, WIDENINGS, found_program
+from daig_editor.server.choices import DOMAIN, DOMAINS, FAULTS, WIDENINGS, Faults, found_program
 from daig_editor.server.process import Settings
 from daig_editor.server.watching import Options
 
-NAMES = ("daig", "domain", "widening", "delay", "budget", "memory", "patience", "runs", "compareEvery")
+NAMES = ("daig", "faults", "domain", "widening", "delay", "budget", "memory", "patience", "runs", "compareEvery")
 MOST_MEMORY = 2**20
 
 
@@ -32,7 +32,8 @@ class GivenSettings:
             patience=self._number("patience", 1, 86_400, 120),
         )
         compare_every = self._number("compareEvery", 1, 1_000_000, 100)
-        self.options = Options(settings, compare_every, self._number("runs", 0, 1000, 32))
+        faults = Faults(self._word("faults", FAULTS, Faults.ALL.value))
+        self.options = Options(settings, faults, compare_every, self._number("runs", 0, 1000, 32))
 
     @property
     def settings(self) -> Settings:

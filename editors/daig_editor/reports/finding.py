@@ -3,7 +3,7 @@ from __future__ import annotations
 
 import json
 from dataclasses import dataclass, field, fields
-from enum import Enum
+from enum import Enum, IntEnum
 from functools import cached_property
 from typing import NamedTuple
 
@@ -25,6 +25,15 @@ class Level(Enum):
     NOTE = "note"
 
 
+class Weight(IntEnum):
+    """What is told first: what is certain, then what a change made, then the rest, of which slight things come last."""
+
+    CERTAIN = 0
+    NEW = 1
+    PLAIN = 2
+    SLIGHT = 3
+
+
 class Key(NamedTuple):
     """By what a finding is known again, with its file: moved lines, layout and comments are no part of it."""
 
@@ -39,7 +48,7 @@ class Finding:
     """One finding. `known` are the states before it, `causes` what they depend on, what matters most first, `inputs` those of a run that fails.
 
     `related` are other places, each with what it is. `number` is that of the statement in the program that was asked, 0
-    of none.
+    of none. `is_new`: it was safe before a change; `is_slight`: it weighs less than others of its level.
     """
 
     rule: str
@@ -53,6 +62,15 @@ class Finding:
     related: tuple[tuple[Span, str], ...] = ()
     inputs: tuple[int, ...] | None = None
     number: int = field(default=0, compare=False)
+    is_new: bool = False
+    is_slight: bool = False
+
+    @property
+    def weight(self) -> Weight:
+        """What it is told before or after."""
+        if self.level is Level.ERROR:
+            return Weight.CERTAIN
+        return Weight.NEW if self.is_new else Weight.SLIGHT if self.is_slight else Weight.PLAIN
 
     @property
     def status(self) -> int:
@@ -64,7 +82,8 @@ class Finding:
 
 @dataclass
 class Tally:
-    """How many checks there are of each verdict; one that is not known stands after a loop that used up its budget.
+    """How many checks there are of each verdict; one that is not known stands after a loop that used up its budget. Each
+    fault that a statement can end a run with is one.
 
     `certified` certificates held, `rewritten` ones were written.
     """
@@ -72,6 +91,7 @@ class Tally:
     checks: int = 0
     safe: int = 0
     may: int = 0
+    fails: int = 0
     dead: int = 0
     unknown: int = 0
     certified: int = 0
@@ -96,7 +116,8 @@ class CheckedFile:
 
     `known_before` counts those that a baseline or the old text has, `ignored` those that a comment ignores, `unselected`
     those of rules that are not wanted, `untold` those beyond the most that are told. `has_baseline`: those that are told
-    are in no baseline.
+    are in no baseline. `tells_all`: all faults are known; `is_older`: the program that was asked knows those of checks
+    alone. `cannot_fail`: no run ends with a fault.
     """
 
     name: str
@@ -110,6 +131,13 @@ class CheckedFile:
     untold: int = 0
     untold_status: int = CLEAN
     has_baseline: bool = False
+    tells_all: bool = False
+    is_older: bool = False
+    cannot_fail: bool = False
+
+    def sort(self) -> None:
+        """Puts the findings into the order in which they are told; what is of the whole file comes after its places."""
+        self.findings.sort(key=lambda it: (it.weight, it.span == WHOLE_FILE, it.span))
 
     @property
     def status(self) -> int:

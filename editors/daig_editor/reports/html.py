@@ -8,7 +8,7 @@ from typing import Iterator, TypeVar
 from daig_editor.language.places import SourceText
 from daig_editor.language.tree import Span
 from daig_editor.reports.finding import CheckedFile, Finding, Level
-from daig_editor.reports.report import Totals
+from daig_editor.reports.report import CANNOT_FAIL, Totals
 from daig_editor.reports.shown import shown
 from daig_editor.reports.text import details
 from daig_editor.reports.tool import NAME, VERSION
@@ -76,7 +76,7 @@ class HtmlReport:
     def _index(self) -> Iterator[str]:
         """A line for each file."""
         yield '<table class="index">\n<tr><th>file</th><th>checks</th><th>safe</th><th>may fail</th>'
-        yield "<th>never reached</th><th>not known</th></tr>"
+        yield "<th>always fail</th><th>never reached</th><th>not known</th><th></th></tr>"
         for number, it in enumerate(self._files):
             yield f'<tr><td><a href="#f{number}">{_text(it.name)}</a></td>{_counts(it)}</tr>'
         yield "</table>"
@@ -85,6 +85,7 @@ class HtmlReport:
         """The files."""
         for number, it in enumerate(self._files):
             yield f'<section id="f{number}">\n<h2>{_text(it.name)}</h2>'
+            yield from [f'<p class="safe">{CANNOT_FAIL}</p>'] * it.cannot_fail
             yield '<div class="file">\n<table class="code">'
             yield from _rows(it, number)
             yield "</table>\n</div>\n</section>"
@@ -104,10 +105,11 @@ def _text(text: str) -> str:
 def _counts(checked: CheckedFile) -> str:
     """The cells of a file's counts."""
     if checked.status == 2:
-        return '<td class="bad" colspan="5">could not be checked</td>'
+        return '<td class="bad" colspan="7">could not be checked</td>'
     tally = checked.tally
-    cells = [(tally.checks, ""), (tally.safe, "safe"), (tally.may, "may"), (tally.dead, ""), (tally.unknown, "may")]
-    return "".join(f'<td class="{name if many else ""}">{many}</td>' for many, name in cells)
+    cells = [(tally.checks, ""), (tally.safe, "safe"), (tally.may, "may"), (tally.fails, "bad"), (tally.dead, "")]
+    counts = "".join(f'<td class="{name if many else ""}">{many}</td>' for many, name in [*cells, (tally.unknown, "may")])
+    return counts + f'<td class="safe">{CANNOT_FAIL if checked.cannot_fail else ""}</td>'
 
 
 def _rows(checked: CheckedFile, file: int) -> Iterator[str]:

@@ -6,6 +6,7 @@ from xml.sax.saxutils import escape, quoteattr
 
 from daig_editor.reports.finding import TROUBLE, CheckedFile, Finding, Level
 from daig_editor.reports.json_lines import utf8_name
+from daig_editor.reports.report import CANNOT_FAIL
 from daig_editor.reports.shown import shown
 from daig_editor.reports.text import details
 from daig_editor.reports.tool import NAME
@@ -45,7 +46,7 @@ def _cases(checked: CheckedFile) -> Iterator[str]:
     """The cases of a file, or one that passes where nothing was found."""
     where = f"classname={_name(checked.name)}"
     if not checked.findings:
-        yield f'    <testcase {where} name="nothing was found"/>'
+        yield f'    <testcase {where} name="{CANNOT_FAIL if checked.cannot_fail else "nothing was found"}"/>'
     for it in checked.findings:
         line = checked.source.line_of(it.span.start) + 1
         kind = "error" if it.status == TROUBLE else "failure" if _is_failure(it) else "system-out"

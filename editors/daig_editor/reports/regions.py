@@ -1,7 +1,7 @@
 """Lines and columns of spans, counted from 1: in bytes as compilers do, or in UTF-16 units as SARIF does."""
 from __future__ import annotations
 
-from typing import NamedTuple
+from typing import Iterable, NamedTuple
 
 from daig_editor.language.places import SourceText
 from daig_editor.language.tree import Span
@@ -26,7 +26,7 @@ def utf16_region(source: SourceText, span: Span) -> Region:
     return Region(*_utf16_place(source, span.start), *_utf16_place(source, span.end))
 
 
-def lines_of(source: SourceText, spans: tuple[Span, ...]) -> list[int]:
+def lines_of(source: SourceText, spans: Iterable[Span]) -> list[int]:
     """The lines where spans begin, in their order, each once."""
     return list(dict.fromkeys(source.line_of(it.start) + 1 for it in spans))
 

@@ -8,10 +8,11 @@ from urllib.parse import quote
 
 from daig_editor.language.places import SourceText
 from daig_editor.language.tree import Span
-from daig_editor.reports.finding import TROUBLE, CheckedFile, Finding
+from daig_editor.reports.finding import TROUBLE, CheckedFile, Finding, Weight
 from daig_editor.reports.project import ProjectPath
 from daig_editor.reports.regions import utf16_region
-from daig_editor.reports.tool import NAME, PRINT, RULES, VERSION, Rule
+from daig_editor.reports.tool import CANNOT_FAIL_PROPERTY, FAULTS_PROPERTY, NAME, PRINT, RULES, VERSION, Rule
+from daig_editor.server.choices import Faults
 
 Json = dict[str, object]
 SCHEMA = "https://json.schemastore.org/sarif-2.1.0.json"
@@ -20,6 +21,8 @@ LINE_PRINT = "primaryLocationLineHash"
 BASE = "SRCROOT"
 # Code hosts take so many places of a result; of these so many are linked in its message.
 MOST_RELATED, MOST_LINKED = 100, 5
+# What comes first of the findings, as a number from 0 to 100.
+RANKS = {Weight.CERTAIN: 95.0, Weight.NEW: 75.0, Weight.PLAIN: 50.0, Weight.SLIGHT: 10.0}
 DOCUMENTS = Path(__file__).resolve().parents[3] / "docs"
 
 
@@ -28,6 +31,7 @@ class SarifReport:
 
     def __init__(self) -> None:
         self._results: list[Json] = []
+        self._files: list[CheckedFile] = []
         self._status = 0
         self._project = ""
 
@@ -35,6 +39,7 @@ class SarifReport:
         """Keeps a file's results."""
         self._project = self._project or checked.path.project
         self._results += [_Result(checked, it, self._project).result() for it in checked.findings]
+        self._files.append(checked)
         self._status = max(self._status, checked.status)
         return ""
 
@@ -50,8 +55,16 @@ class SarifReport:
         }
         if self._project:
             run["originalUriBaseIds"] = {BASE: {"uri": _file_uri(self._project.rstrip("/")) + "/"}}
+        run["artifacts"] = [self._artifact(it) for it in self._files if it.status != TROUBLE]
         run["results"] = self._results
+        tells_all = all(it.tells_all for it in self._files if it.status != TROUBLE)
+        run["properties"] = {FAULTS_PROPERTY: (Faults.ALL if tells_all else Faults.CHECKS).value}
         return json.dumps({"$schema": SCHEMA, "version": "2.1.0", "runs": [run]}, indent=1, ensure_ascii=False) + "\n"
+
+    def _artifact(self, checked: CheckedFile) -> Json:
+        """A file that was checked, and whether no run of it ends with a fault."""
+        location = _artifact(checked.path, self._project)
+        return {"location": location, "properties": {CANNOT_FAIL_PROPERTY: checked.cannot_fail}}
 
 
 def _rule(rule: Rule) -> Json:
@@ -99,6 +112,7 @@ class _Result:
             "ruleId": it.rule,
             "ruleIndex": list(RULES).index(it.rule),
             "level": it.level.value,
+            "rank": RANKS[it.weight],
             "message": {"text": self._words(related)},
             "locations": [self._location(it.span)],
             "relatedLocations": [self._related(number, *place) for number, place in enumerate(related)],

@@ -1,6 +1,7 @@
 """The report as compilers write it, for people; and in a line each, for an editor's list of errors."""
 from __future__ import annotations
 
+import re
 from typing import Iterator
 
 from daig_editor.language.places import SourceText
@@ -12,8 +13,10 @@ from daig_editor.reports.shown import shown, width
 COLOURS = {Level.ERROR: "1;31", Level.WARNING: "1;35", Level.NOTE: "1;36"}
 # So many lines that a finding depends on are told; JSON has all.
 MOST_LINES = 12
-# Between the cases of a state; so many stand in one line, and so many are told at most.
-CASES, MOST_IN_LINE, MOST_CASES = " or ", 2, 12
+# Between the cases of a state, of which one may be `1 or more cells`; so many stand in one line, and so many are told.
+CASES, MOST_IN_LINE, MOST_CASES = re.compile(r" or (?!more cells)"), 2, 12
+# Of more facts than so many, those with a variable of the statement are told first, and JSON has all.
+MOST_FACTS, NAME = 8, re.compile(r"[A-Za-z_]\w*")
 BOLD, GREEN = "1", "1;32"
 
 
@@ -69,7 +72,7 @@ def heading(checked: CheckedFile, finding: Finding, colour: bool = False) -> str
 
 def details(source: SourceText, finding: Finding) -> Iterator[str]:
     """What is said below a finding."""
-    yield from (line for it in finding.known for line in _known(it))
+    yield from (line for it in finding.known for line in _known(_likeliest(it, finding.key.statement)))
     lines = lines_of(source, finding.causes)
     if lines:
         more = f" and {len(lines) - MOST_LINES} more" if len(lines) > MOST_LINES else ""
@@ -78,9 +81,19 @@ def details(source: SourceText, finding: Finding) -> Iterator[str]:
     yield from finding.notes
 
 
+def _likeliest(state: str, statement: str) -> str:
+    """What is known of numbers, without what matters least where it is much; what is known of lists stays whole."""
+    facts = state.split(", ")
+    if len(facts) <= MOST_FACTS or any(":" in it or "null" in it for it in facts):
+        return state
+    names = set(NAME.findall(statement)) - {"len"}
+    told = sorted(facts, key=lambda it: names.isdisjoint(NAME.findall(it)))[:MOST_FACTS]
+    return f"{', '.join(told)} and {len(facts) - MOST_FACTS} more"
+
+
 def _known(state: str) -> Iterator[str]:
     """What is known, in a line, or in one for each case where there are many."""
-    cases = state.split(CASES)
+    cases = CASES.split(state)
     if len(cases) <= MOST_IN_LINE:
         yield f"known here: {state}"
         return

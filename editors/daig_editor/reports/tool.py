@@ -5,8 +5,9 @@ from dataclasses import dataclass
 
 NAME = "daig-check"
 VERSION = "1.0"
-# The name of the fingerprint in SARIF.
-PRINT = "daig/v1"
+# The names of the fingerprint in SARIF, of a run's property which says what faults it tells, and of a file's which says
+# that no run of it ends with one.
+PRINT, FAULTS_PROPERTY, CANNOT_FAIL_PROPERTY = "daig/v1", "daig/faults", "daig/noRunCanFail"
 
 
 @dataclass(frozen=True)
@@ -47,27 +48,26 @@ _RULES = (
     ),
     Rule(
         "overflow",
-        "A number passes the limits of 64 bits in a run.",
-        "A run that was tried ends at the statement with the fault `overflow`. Its inputs stand in the finding. That no\n"
-        "such finding is there says nothing: only what happens in a run is told.",
-        "error",
-        "very-high",
+        "A number may pass the limits of 64 bits.",
+        "An operator, `+ - * / %` or the sign `-`, has a result from -2^63 to 2^63 - 1, and nothing shows it in every\n"
+        "run. A run where it has not ends there with the fault `overflow`. Where no bound of an input is known nearly\n"
+        "every sum may, so such a finding is a note, but where it is certain, new with a change, or wanted by\n"
+        "`--faults strict`. A test of the operands before it, `if (x < 1000) {`, makes it safe.",
+        "note",
+        "low",
     ),
     Rule(
         "zero",
-        "A number is divided by zero in a run.",
-        "A run that was tried ends at the statement with the fault `zero`: a division, or a remainder, by 0. Its inputs\n"
-        "stand in the finding. That no such finding is there says nothing: only what happens in a run is told.",
-        "error",
-        "very-high",
+        "A number may be divided by zero.",
+        "A division or a remainder, `/` or `%`, has a divisor, and nothing shows that it is not 0 in every run. A run\n"
+        "where it is 0 ends there with the fault `zero`. Most domains know ranges, from which a 0 in the middle cannot\n"
+        "be taken away: a test `if (d > 0) {` helps where `if (d != 0) {` does not.",
     ),
     Rule(
         "length",
-        "The length of a new array is out of range in a run.",
-        "A run that was tried ends at the statement with the fault `length`: an array of fewer than 0 or more than\n"
-        "1,000,000 elements. That no such finding is there says nothing: only what happens in a run is told.",
-        "error",
-        "very-high",
+        "The length of a new array may be out of range.",
+        "An array is made, `a = array e;`, and nothing shows that e is from 0 to 1,000,000 in every run. A run where it\n"
+        "is not ends there with the fault `length`. A test of both limits before it helps.",
     ),
     Rule(
         "budget",

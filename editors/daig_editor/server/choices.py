@@ -1,12 +1,24 @@
-"""What a server can be started with, and which program it is where none is named."""
+"""What a server can be started with and asked, and which program it is where none is named."""
 from __future__ import annotations
 
 import os
 import shutil
+from enum import Enum
 
 DOMAINS = ("interval", "octagon", "listseg", "interval+listseg", "octagon+listseg")
 WIDENINGS = ("plain", "thresholds")
 DOMAIN = "octagon+listseg"
+
+
+class Faults(Enum):
+    """Which faults are told: all; all, where a number that may pass its limits is a warning as well; or those of checks."""
+
+    ALL = "all"
+    STRICT = "strict"
+    CHECKS = "checks"
+
+
+FAULTS = tuple(it.value for it in Faults)
 _TOP = os.path.dirname(os.path.dirname(os.path.dirname(os.path.dirname(os.path.realpath(__file__)))))
 
 

@@ -10,6 +10,7 @@ from __future__ import annotations
 import asyncio
 import traceback
 
+from daig_editor.language.checks import evaluated_at
 from daig_editor.language.outline import Outline
 from daig_editor.language.places import Shift, SourceText
 from daig_editor.language.refusals import (
@@ -26,6 +27,7 @@ from daig_editor.server.calls import CallChoice
 from daig_editor.server.ending import cancelled
 from daig_editor.server.findings import Report
 from daig_editor.server.judging import Judge, causes_of, heaviest
+from daig_editor.server.news import News
 from daig_editor.server.process import DaigProcess, Gone, NotStarted, Refused, Reply
 from daig_editor.server.session import Good, Session
 from daig_editor.server.stages import Stages
@@ -58,7 +60,10 @@ class Document:
         self.session = Session(options.settings, options.compare_every, watcher.log)
         self.calls = CallChoice(self.session, watcher.show)
         self._asker = Asker(self.session)
-        self._judge = Judge(self.session, self._asker, self._test_worker, self._stage, self._tell_partly)
+        self._news = News()
+        self._judge = Judge(
+            self.session, self._asker, self._news, self._test_worker, self._stage, self._tell_partly, watcher.show_once
+        )
         self._reader = TextReader()
         self._outline: Outline | None = None
         self._unconfirmed: Fault | None = None
@@ -66,6 +71,8 @@ class Document:
         self._working = -1
         self._given_up = -1
         self._losses = 0
+        # The last report, while its statements have the numbers of the server's.
+        self._numbered: Report | None = None
         self._place: Placed | None = None
         self._complained = ""
         self._drifted: Trouble | None = None
@@ -80,6 +87,7 @@ class Document:
         self.text, self.version = text, version
         self.shown = self._drifted = self.trouble = self.partial = None
         self._losses = 0
+        self._news.change()
         self._begin_anew()
 
     def _begin_anew(self) -> None:
@@ -200,6 +208,7 @@ class Document:
         else:
             self.refusal = self.trouble = None
             self.calls.follow(replaced)
+            self._news.follow(replaced)
 
     def _refuse(self, refusal: Refusal) -> None:
         """The text is no program."""
@@ -217,6 +226,8 @@ class Document:
             self._complain(Trouble(f"daig serve cannot be asked: {why}"))
             return
         self.refusal = self.trouble = None
+        self._news.forget()
+        self._numbered = None
         if program is None:
             self.watcher.log(f"the server takes a text that this editor cannot read: {fault}")
         self.calls.find(kept)
@@ -290,7 +301,8 @@ class Document:
             good = self.session.good
             telling = asyncio.create_task(self._tell_running())
             try:
-                self.report = await self._judge.report(good, self.options.runs) if good else None
+                self.report = await self._judge.report(good, self.options, self._numbered) if good else None
+                self._numbered = self.report
             finally:
                 telling.cancel()
                 self.partial = None
@@ -332,7 +344,11 @@ class Document:
         if self._unconfirmed:
             await self._confirm(self._unconfirmed)
         elif self.report and self.refusal is None and self.session.good:
-            explained = await self._judge.explained(self.session.good, self.report, self.options.runs)
+            good, options = self.session.good, self.options
+            report = await self._judge.completed(good, self.report, options)
+            explained = await self._judge.explained(good, report, options.runs)
+            self._news.rest(explained.may_come)
+            self._numbered = explained
             if explained != self.report:
                 self.report = explained
                 self.watcher.publish(self)
@@ -358,11 +374,11 @@ class Document:
 
     async def causes(self, place: Placed) -> Causes | None:
         """What the state before a statement of the last good program hangs on."""
-        changes, good, number = self._stages.changes, self.session.good, place.stmt.number
+        changes, good, stmt = self._stages.changes, self.session.good, place.stmt
         if good is None:
             return None
-        await self.state(f"before {number}")
-        found = await causes_of(self.session.ask, good, number)
+        await self.state(evaluated_at(stmt))
+        found = await causes_of(self.session.ask, good, stmt)
         if changes != self._stages.changes:
             raise Outdated
         return Causes(place, found)

@@ -1,26 +1,44 @@
-"""What the server finds in a program: checks that may fail, and the loop that used up its budget."""
+"""What the server finds in a program: faults that may come, and the loop that used up its budget."""
 from __future__ import annotations
 
 from dataclasses import dataclass, field
 
+from daig_editor.language.checks import SLIGHT
 from daig_editor.language.places import SourceText
 from daig_editor.language.tree import Placed
 
 
 @dataclass(frozen=True)
 class Finding:
-    """What the report says of a statement, and what was found out about it since.
+    """What is said of a fault at a statement, by its rule, and what was found out about it since.
 
-    `always`: it fails in every run that comes there. `inputs`: those of a run that fails there. `causes`: the
-    statements that its verdict hangs on.
+    `ends`: no run goes on after the statement. `inputs`: those of a run that fails there. `causes`: the statements that
+    its verdict hangs on. `alone`: no other fault may come there. `is_new`: it was safe before the last change.
     """
 
     place: Placed
-    check: str
+    rule: str
     verdict: str
-    always: bool = False
+    ends: bool = False
     inputs: tuple[int, ...] | None = None
     causes: tuple[Placed, ...] = ()
+    alone: bool = True
+    is_new: bool = False
+
+    @property
+    def is_certain(self) -> bool:
+        """Whether each run that comes there fails, or some run is known that does."""
+        return self.verdict == "fails" or self.inputs is not None
+
+    @property
+    def is_slight(self) -> bool:
+        """Whether it weighs less than others, since nearly every sum may pass the limits."""
+        return self.rule == SLIGHT and self.verdict == "may" and not (self.is_certain or self.ends or self.is_new)
+
+    @property
+    def weight(self) -> tuple[bool, bool, bool]:
+        """What is told first has the least: what is certain, what the last change made, the rest, what is slight."""
+        return not self.is_certain, not self.is_new, self.is_slight
 
 
 @dataclass(frozen=True)
@@ -33,7 +51,7 @@ class Over:
 
 @dataclass
 class Tally:
-    """How many checks a procedure has, and how many of them are safe."""
+    """How many checks a procedure has, and how many of them are safe; each fault that may come at a statement is one."""
 
     checks: int = 0
     safe: int = 0
@@ -43,7 +61,8 @@ class Tally:
 class Report:
     """The findings on a text but the safe ones, the loop that used up its budget, and the checks of each procedure.
 
-    `partial`: the analysis still runs, and more may be found.
+    `partial`: the analysis still runs, and more may be found. `is_whole`: all faults that are wanted are judged in it.
+    `may_come` are all that may, by statement and rule.
     """
 
     text: SourceText
@@ -51,3 +70,5 @@ class Report:
     over: Over | None
     tallies: dict[str, Tally] = field(default_factory=dict)
     partial: bool = False
+    is_whole: bool = True
+    may_come: frozenset[tuple[int, str]] = frozenset()

@@ -1,26 +1,37 @@
-"""Asks for the report on a program: first what it needs, in small steps and by stages, then what is known beyond it."""
+"""Asks for the faults of a program: first what this needs, in small steps and by stages, then what is known beyond it."""
 from __future__ import annotations
 
+from collections import Counter
 from dataclasses import replace
-from typing import Callable
+from typing import Any, Callable
 
-from daig_editor.language.checks import check_of, many_checks
+from daig_editor.language.checks import CHECKS, check_of, evaluated_at, many_checks, many_faults, rule_of, rules_of
 from daig_editor.language.ignores import ignored_rules, lines_of_span
 from daig_editor.language.tree import Placed, Program, Stmt, StmtKind
 from daig_editor.language.words import is_never, over_words
 from daig_editor.server.asking import Asker, TookLong
+from daig_editor.server.choices import Faults
 from daig_editor.server.findings import Finding, Over, Report, Tally
+from daig_editor.server.news import News
 from daig_editor.server.process import Gone, Reply
+from daig_editor.server.serving import UNKNOWN_REQUEST
 from daig_editor.server.session import Good, Session
-from daig_editor.server.trying import Ask, failing_checks
+from daig_editor.server.trying import Ask, failing_rules
+from daig_editor.server.verdicts import Verdict, told
+from daig_editor.server.watching import Options
 
 # A question that takes longer than so many seconds is asked by stages, of which the user is told.
 LONG_WORK = 1.0
 MOST_STAGES = 8
 MOST_EXPLAINED = 60
+OLDER = "this `daig` is older: of the faults it tells those of bounds, null and assert alone"
+# All faults are asked after each change where a program has so many at most; of more, when the text rests.
+MOST_AT_ONCE = 500
 # So many runs are tried while a long analysis runs, for what fails in one is known before its end.
 RUNS_MEANWHILE = 8
 
+# What the server says of a fault or a check at a statement.
+Row = dict[str, Any]
 Stage = Callable[[Placed | None, int, int], None]
 Partly = Callable[[Report], None]
 
@@ -28,36 +39,93 @@ Partly = Callable[[Report], None]
 class Judge:
     """Judges the program of a session. `test` raises where the text is another one; `stage` hears what is computed:
     up to which statement, how much of a hundred that is, and how many cells it took so far; `partly` hears what is
-    found before the end of a long analysis."""
+    found before the end of a long analysis, and `say` what the user should know. `news` knows what the last change made."""
 
     def __init__(
-        self, session: Session, asker: Asker, test: Callable[[], None], stage: Stage, partly: Partly
+        self,
+        session: Session,
+        asker: Asker,
+        news: News,
+        test: Callable[[], None],
+        stage: Stage,
+        partly: Partly,
+        say: Callable[[str], None],
     ) -> None:
         self._session = session
         self._asker = asker
+        self._news = news
         self._test = test
         self._stage = stage
         self._partly = partly
+        self._say = say
         self._cells = 0
         self._place: Placed | None = None
         self._percent = 0
 
-    async def report(self, good: Good, runs: int) -> Report:
-        """The report on the last good program. Where it takes long, some of so many runs are tried before its end."""
-        answer = await self._whole(good, runs)
-        found = (await self._ask(do="report")).get("report", [])
-        said = [it for it in found if isinstance(it, dict)] if isinstance(found, list) else []
-        if len({str(it.get("id")) for it in said}) != many_checks(good.program):
-            raise Gone("its report is not of this program")
-        told = [it for it in said if it["verdict"] != "safe"]
-        numbers = {it["id"] for it in told} | {it for it in [answer.get("over")] if isinstance(it, int)}
-        places = good.program.find_all(numbers)
-        findings = [Finding(places[it["id"]], it["check"], it["verdict"]) for it in told]
+    async def report(self, good: Good, options: Options, before: Report | None) -> Report:
+        """The report on the last good program. Where it takes long, some runs are tried before its end.
+
+        Of a program with many faults it has those of checks, and keeps the others of the report `before`.
+        """
+        answer = await self._whole(good, options)
+        wanted = options.faults
+        if wanted is not Faults.CHECKS and many_faults(good.program) <= MOST_AT_ONCE:
+            return await self._reported(good, answer, wanted)
+        report = await self._reported(good, answer, Faults.CHECKS)
+        if wanted is Faults.CHECKS:
+            return report
+        kept = {(it.place.stmt.number, it.rule): it for it in before.findings if it.rule not in CHECKS} if before else {}
+        places = good.program.find_all({number for number, _ in kept})
+        found = [
+            replace(it, place=places[number], is_new=self._news.has(number, rule))
+            for (number, rule), it in kept.items()
+            if number in places
+        ]
+        return _told(replace(report, findings=report.findings + found, is_whole=False))
+
+    async def completed(self, good: Good, report: Report, options: Options) -> Report:
+        """A report with all faults that are wanted."""
+        if report.is_whole:
+            return report
+        return await self._reported(good, await self._state("end main"), options.faults)
+
+    async def _reported(self, good: Good, answer: Reply, faults: Faults) -> Report:
+        """The report; `answer` is the state at the end of the program."""
+        rows = await self._rows(good.program, faults)
+        open_rows = [it for it in rows if it["verdict"] != "safe"]
+        verdicts = [Verdict(it["id"], rule_of(it.get("fault") or it["check"]), it["verdict"]) for it in open_rows]
+        numbers = {it.number for it in verdicts}
+        places = good.program.find_all(numbers | {it for it in [answer.get("over")] if isinstance(it, int)})
+        many = Counter(it.number for it in verdicts)
+        findings = [self._finding(it, places[it.number], many[it.number] == 1) for it in told(verdicts)]
         over = None
         if "over" in answer:
             findings, unknown = await self._known(findings)
             over = Over(places[int(str(answer["over"]))], self.over_text(answer, unknown))
-        return _without_ignored(Report(good.text, findings, over, _tallies(good.program, said)))
+        may_come = frozenset((it.number, it.rule) for it in verdicts if it.verdict != "dead")
+        return _told(Report(good.text, findings, over, _tallies(good.program, rows), may_come=may_come))
+
+    def _finding(self, verdict: Verdict, place: Placed, alone: bool) -> Finding:
+        """The finding that a verdict is."""
+        number, rule, said = verdict
+        is_new = said != "dead" and self._news.has(number, rule)
+        return Finding(place, rule, said, ends=said == "fails", alone=alone, is_new=is_new)
+
+    async def _rows(self, program: Program, faults: Faults) -> list[Row]:
+        """The verdicts of all faults, or of checks alone, as the server says them."""
+        name, wanted = "faults", many_faults
+        reply = await self._ask(do="faults") if faults is not Faults.CHECKS else {"refused": UNKNOWN_REQUEST}
+        if reply.get("refused") == UNKNOWN_REQUEST:
+            if faults is not Faults.CHECKS:
+                self._say(OLDER)
+            name, wanted = "report", many_checks
+            reply = await self._ask(do="report")
+        rows = reply.get(name)
+        if not isinstance(rows, list) or not all(isinstance(it, dict) for it in rows):
+            raise Gone("it answers no report")
+        if not len({(it.get("id"), it.get("fault")) for it in rows}) == len(rows) == wanted(program):
+            raise Gone("its report is not of this program")
+        return rows
 
     def over_text(self, reply: Reply, unknown: int = 0) -> str:
         """What an Over says, in words."""
@@ -79,13 +147,13 @@ class Judge:
 
     # The whole program, by stages where it takes long.
 
-    async def _whole(self, good: Good, runs: int) -> Reply:
+    async def _whole(self, good: Good, options: Options) -> Reply:
         """The state at the end of the program, for which nearly all has to be computed."""
         try:
             return await self._asker.state("end main", [], self._test, None, LONG_WORK)
         except TookLong:
             self._cells = 0
-        await self._try_runs(good, min(runs, RUNS_MEANWHILE))
+        await self._try_runs(good, options)
         stages = _stages(good.program)
         for number, place in enumerate(stages):
             self._enter(place, number * 100 // len(stages))
@@ -93,13 +161,15 @@ class Judge:
         self._enter(None, 99)
         return await self._asker.state("end main", [], self._test, self._stepped)
 
-    async def _try_runs(self, good: Good, runs: int) -> None:
-        """Tells of the checks that fail in runs."""
-        checks = {it.number: check for it in good.program.statements() if (check := check_of(it))}
-        inputs = await failing_checks(self._ask, good.text.data, checks, runs)
-        places = sorted(good.program.find_all(set(inputs)).values(), key=lambda it: it.head.start)
-        found = [Finding(it, checks[it.stmt.number], "may", inputs=inputs[it.stmt.number]) for it in places]
-        partly = _without_ignored(Report(good.text, found, None, partial=True))
+    async def _try_runs(self, good: Good, options: Options) -> None:
+        """Tells of what fails in runs."""
+        rules = _checks if options.faults is Faults.CHECKS else rules_of
+        wanted = {(it.number, rule) for it in good.program.statements() for rule in rules(it)}
+        inputs = await failing_rules(self._ask, good.text.data, wanted, min(options.runs, RUNS_MEANWHILE))
+        places = good.program.find_all({number for number, _ in inputs})
+        found = [Finding(places[n], rule, "may", inputs=with_inputs) for (n, rule), with_inputs in inputs.items()]
+        found.sort(key=lambda it: it.place.head.start)
+        partly = _told(Report(good.text, found, None, partial=True))
         if partly.findings:
             self._partly(partly)
 
@@ -119,28 +189,41 @@ class Judge:
         """The findings where a state is known, and at how many nothing is."""
         known = []
         for it in findings:
-            if it.verdict != "may" or "over" not in await self._state(f"before {it.place.stmt.number}"):
+            if it.verdict != "may" or "over" not in await self._state(evaluated_at(it.place.stmt)):
                 known.append(it)
         return known, len(findings) - len(known)
 
     async def explained(self, good: Good, report: Report, runs: int) -> Report:
         """The report with causes, with inputs of runs that fail, and with what fails always."""
-        told = [it for it in report.findings if it.verdict == "may"][:MOST_EXPLAINED]
-        checks = {it.place.stmt.number: it.check for it in told}
-        inputs = await failing_checks(self._ask, good.text.data, checks, runs)
-        explained = {it.place.stmt.number: await self._explain(good, it, inputs) for it in told}
-        findings = [explained.get(it.place.stmt.number, it) for it in report.findings]
-        return replace(report, findings=findings)
+        inputs = await failing_rules(self._ask, good.text.data, set(report.may_come), runs)
+        findings = [replace(it, inputs=inputs.get((it.place.stmt.number, it.rule))) for it in report.findings]
+        findings.sort(key=lambda it: (it.weight, it.verdict == "dead"))
+        first = [it for it in findings if it.verdict != "dead"][:MOST_EXPLAINED]
+        certain = {it.place.stmt.number for it in findings if it.verdict == "fails"}
+        explained = {id(it): await self._explain(good, it, certain) for it in first}
+        return _told(replace(report, findings=[explained.get(id(it), it) for it in findings]))
 
-    async def _explain(self, good: Good, finding: Finding, inputs: dict[int, tuple[int, ...]]) -> Finding:
-        """One finding with what is known about it."""
-        number = finding.place.stmt.number
-        begin = finding.place.head.start
-        causes = await causes_of(self._ask, good, number)
+    async def _explain(self, good: Good, finding: Finding, certain: set[int]) -> Finding:
+        """One finding with what is known about it; at `certain` statements it is known that no run goes on."""
+        stmt, begin = finding.place.stmt, finding.place.head.start
+        causes = await causes_of(self._ask, good, stmt)
         causes.sort(key=lambda it: (it.head.start > begin, abs(begin - it.head.start)))
-        after = await self._state(f"after {number}")
-        always = is_never(str(after["state"])) if "state" in after else False
-        return replace(finding, always=always, inputs=inputs.get(number), causes=tuple(causes))
+        ends = finding.ends
+        if stmt.number not in certain and stmt.kind is StmtKind.SIMPLE and not stmt.callee:
+            ends = is_never(str((await self._state(f"after {stmt.number}")).get("state", "")))
+        return replace(finding, ends=ends, causes=tuple(causes))
+
+
+def _checks(stmt: Stmt) -> list[str]:
+    """The check of a statement, if it has one."""
+    check = check_of(stmt)
+    return [check] if check else []
+
+
+def _told(report: Report) -> Report:
+    """A report in the order in which it is told, without what comments of its text ignore."""
+    report = _without_ignored(report)
+    return replace(report, findings=sorted(report.findings, key=lambda it: (it.weight, it.place.head.start)))
 
 
 def _without_ignored(report: Report) -> Report:
@@ -153,15 +236,15 @@ def _without_ignored(report: Report) -> Report:
         """Whether no comment ignores a rule's finding at a place."""
         return not any(rule in rules.get(it, ()) for it in lines_of_span(report.text, place.head))
 
-    found = [it for it in report.findings if is_told(it.place, it.check)]
+    found = [it for it in report.findings if is_told(it.place, it.rule)]
     over = report.over if report.over and is_told(report.over.loop, "budget") else None
     return replace(report, findings=found, over=over)
 
 
-async def causes_of(ask: Ask, good: Good, number: int) -> list[Placed]:
-    """The statements that the state before a statement hangs on, in the order of the text."""
-    why = (await ask(do="why", at=f"before {number}")).get("why")
-    numbers = {it for it in why if it != number} if isinstance(why, list) else set()
+async def causes_of(ask: Ask, good: Good, stmt: Stmt) -> list[Placed]:
+    """The statements that the state at a statement hangs on, in the order of the text."""
+    why = (await ask(do="why", at=evaluated_at(stmt))).get("why")
+    numbers = {it for it in why if it != stmt.number} if isinstance(why, list) else set()
     return sorted(good.program.find_all(numbers).values(), key=lambda it: it.head.start)
 
 
@@ -186,13 +269,14 @@ def _depth(stmt: Stmt) -> int:
     return inner + (stmt.kind is StmtKind.WHILE)
 
 
-def _tallies(program: Program, said: list[Reply]) -> dict[str, Tally]:
-    """How many checks each procedure has, and how many are safe. The report is in the order of the text."""
-    tallies: dict[str, Tally] = {}
-    verdicts = {int(str(it["id"])): it["verdict"] for it in said}
-    for proc in program.procs if len(program.procs) > 1 else []:
-        numbers = [it.number for it in proc.statements() if it.number in verdicts]
-        tallies[proc.name] = Tally(len(numbers), sum(verdicts[it] == "safe" for it in numbers))
+def _tallies(program: Program, rows: list[Row]) -> dict[str, Tally]:
+    """How many checks each procedure has, and how many are safe."""
     if len(program.procs) == 1:
-        tallies["main"] = Tally(len(said), sum(it["verdict"] == "safe" for it in said))
+        return {"main": Tally(len(rows), sum(it["verdict"] == "safe" for it in rows))}
+    owners = {it.number: proc.name for proc in program.procs for it in proc.statements()}
+    tallies = {proc.name: Tally() for proc in program.procs}
+    for it in rows:
+        tally = tallies[owners[it["id"]]]
+        tally.checks += 1
+        tally.safe += it["verdict"] == "safe"
     return tallies

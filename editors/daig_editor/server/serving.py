@@ -18,6 +18,8 @@ LONGEST_REPLY = 64 * 2**20
 LONGEST_SILENCE = 5.0
 MEBIBYTE = 2**20
 MEMORY_STATUS = 6
+# How a server refuses a request that it does not know.
+UNKNOWN_REQUEST = 3
 STATUS_WORDS = {
     2: "its options are refused",
     4: "its input failed",

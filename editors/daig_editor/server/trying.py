@@ -9,6 +9,7 @@ from itertools import islice
 from random import Random
 from typing import Awaitable, Callable, Iterable, Iterator, NamedTuple
 
+from daig_editor.language.checks import rule_of
 from daig_editor.language.tokens import GREATEST_NUMBER, tokens
 
 Ask = Callable[..., Awaitable[dict[str, object]]]
@@ -47,6 +48,11 @@ class Failure(NamedTuple):
     fault: str
     inputs: tuple[int, ...]
 
+    @property
+    def rule(self) -> str:
+        """The rule that tells the fault."""
+        return rule_of(self.fault)
+
 
 async def failing_runs(
     ask: Ask, lists: Iterable[list[int]], wanted: Callable[[int, str], bool], fuel: int = FUEL, most: int | None = None
@@ -80,18 +86,16 @@ async def _shortest(ask: Ask, inputs: list[int], failed: dict[str, object], fuel
     return tuple(inputs[:high])
 
 
-# The fault of a run in which a check fails. A run may also end at a statement for another one, such as `overflow`.
-FAULTS = {"bounds": "index", "null": "null", "assert": "assert"}
-
-
-async def failing_checks(ask: Ask, text: bytes, checks: dict[int, str], many: int) -> dict[int, tuple[int, ...]]:
-    """Inputs with which checks fail, by the statements of those for which so many lists of inputs show some."""
-    if not checks or not many:
+async def failing_rules(
+    ask: Ask, text: bytes, wanted: set[tuple[int, str]], many: int
+) -> dict[tuple[int, str], tuple[int, ...]]:
+    """Inputs with which runs fail, by statement and rule, of those that are wanted and that so many lists of inputs show."""
+    if not wanted or not many:
         return {}
 
-    def is_check(number: int, fault: str) -> bool:
-        """Whether a fault is that of a statement's check."""
-        return FAULTS.get(checks.get(number, "")) == fault
+    def is_wanted(number: int, fault: str) -> bool:
+        """Whether a fault is one of those that are wanted."""
+        return (number, rule_of(fault)) in wanted
 
-    found = await failing_runs(ask, input_lists(text, many), is_check, most=len(checks))
-    return {it.number: it.inputs for it in found}
+    found = await failing_runs(ask, input_lists(text, many), is_wanted, most=len(wanted))
+    return {(it.number, it.rule): it.inputs for it in found}

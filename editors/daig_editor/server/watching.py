@@ -5,6 +5,7 @@ from dataclasses import dataclass
 from typing import TYPE_CHECKING, Protocol
 
 from daig_editor.language.tree import Placed, Span
+from daig_editor.server.choices import Faults
 from daig_editor.server.process import Settings
 
 if TYPE_CHECKING:
@@ -13,9 +14,11 @@ if TYPE_CHECKING:
 
 @dataclass(frozen=True)
 class Options:
-    """How documents are served: how often a server's program is compared with the text, and how many runs are tried."""
+    """How documents are served: which faults are told, how often a server's program is compared with the text, and how
+    many runs are tried."""
 
     settings: Settings
+    faults: Faults = Faults.ALL
     compare_every: int = 100
     runs: int = 32
 
@@ -51,3 +54,6 @@ class Watcher(Protocol):
 
     def show(self, text: str) -> None:
         """Something that the user should see."""
+
+    def show_once(self, text: str) -> None:
+        """Something that the user should see, however many files it is of."""
