@@ -3,13 +3,14 @@ from __future__ import annotations
 
 from collections import Counter
 from contextlib import asynccontextmanager, contextmanager
-from dataclasses import dataclass
-from typing import AsyncIterator, Iterator, Mapping
+from dataclasses import dataclass, replace
+from typing import TYPE_CHECKING, AsyncIterator, Iterator, Mapping
 
 from daig_editor.checking.asking import NEVER_REACHED, BadReply, Over, Served, ordinals
 from daig_editor.checking.refused import read_program, refused, too_long
 from daig_editor.checking.relevance import Relevance
 from daig_editor.checking.words import (
+    CALLED_HERE,
     DEAD,
     FAILS_ALWAYS,
     over_notes,
@@ -18,7 +19,7 @@ from daig_editor.checking.words import (
     told_states,
     verdict_words,
 )
-from daig_editor.language.checks import SLIGHT, evaluated_at
+from daig_editor.language.checks import SLIGHT, evaluated_at, fault_of
 from daig_editor.language.places import SourceText
 from daig_editor.language.tokens import GREATEST_SOURCE
 from daig_editor.language.tree import Program, Span, Stmt, StmtKind, number_from_one
@@ -30,12 +31,17 @@ from daig_editor.server.serving import Gone, NotStarted, Refused, Settings, Star
 from daig_editor.server.trying import FUEL, Failure, failing_runs, input_lists
 from daig_editor.server.verdicts import Verdict, told
 
+if TYPE_CHECKING:
+    from daig_editor.language.following import Followed
+
 # What a finding depends on is asked for so many findings of a file: each may depend on all before it.
 MOST_WHY = 200
 # A run has so many steps at most where arrays are made again and again, each of which may take as long as a thousand.
 FUEL_OF_ARRAYS = 2_000
 # What is known in each call of a procedure is told for so many findings of a file, where there are at most so many calls.
 MOST_BY_CALL, MOST_CALLS = 50, 8
+# So many runs that fail are followed.
+MOST_FOLLOWED = 20
 # The verdict that each statement had by each rule, by its number now.
 OldVerdicts = Mapping[tuple[int, str], str]
 
@@ -144,6 +150,7 @@ class _Analysis:
         self._wanted = wanted
         self._unknown: dict[Over, int] = {}
         self._fails: dict[tuple[int, str], tuple[int, ...]] = {}
+        self._runs: dict[tuple[int, ...], Followed | None] = {}
         self._not_safe: Counter[int] = Counter()
         self._certain: set[int] = set()
         self._asked_why = 0
@@ -209,7 +216,26 @@ class _Analysis:
                 inputs=it.inputs,
                 number=it.number,
             )
-            self._checked.findings.append(finding)
+            self._checked.findings.append(self._with_run(finding, it.fault))
+
+    def _with_run(self, finding: Finding, fault: str) -> Finding:
+        """A finding with the way and the values of its run, where this is followed to the same end."""
+        if finding.inputs is None:
+            return finding
+        if finding.inputs not in self._runs and len(self._runs) < MOST_FOLLOWED:
+            from daig_editor.language.following import followed  # wanted only where a run fails
+
+            self._runs[finding.inputs] = followed(self._served.program, finding.inputs)
+        run = self._runs.get(finding.inputs)
+        if run is None or (run.number, run.fault) != (finding.number, fault):
+            return finding
+        places = self._served.places
+        return replace(
+            finding,
+            values=run.values,
+            path=tuple((places[it.number].placed.head, it.words) for it in run.steps),
+            related=tuple((places[it].placed.head, CALLED_HERE) for it in run.calls),
+        )
 
     async def _add(self, verdict: Verdict, ordinal: int) -> None:
         """Adds the finding of a fault that may come, that comes in a run, or that is never reached."""
@@ -228,7 +254,8 @@ class _Analysis:
             self._checked.tally.may -= 1
             self._checked.tally.unknown += 1
             return
-        self._checked.findings.append(await self._open(verdict, key, told_states(known)))
+        finding = await self._open(verdict, key, told_states(known))
+        self._checked.findings.append(self._with_run(finding, fault_of(verdict.rule)))
 
     async def _open(self, verdict: Verdict, key: Key, known: tuple[str, ...]) -> Finding:
         """The finding of a fault that may come, or that comes in a run."""

@@ -8,6 +8,7 @@ from daig_editor.language.words import ANYTHING, NO_VARIABLES, fault_words
 from daig_editor.reports.shown import plural
 
 DEAD = "never reached"
+CALLED_HERE = "in this run called here"
 FAILS_ALWAYS = "certain: no run that comes here goes on"
 TELLS_NOTHING = (NO_VARIABLES, ANYTHING)
 

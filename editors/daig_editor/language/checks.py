@@ -21,6 +21,11 @@ def rule_of(fault: str) -> str:
     return "bounds" if fault == "index" else fault
 
 
+def fault_of(rule: str) -> str:
+    """The fault of a run that a rule tells."""
+    return "index" if rule == "bounds" else rule
+
+
 def evaluated_at(stmt: Stmt) -> str:
     """The location where a statement is evaluated: a loop's condition at its head."""
     return f"{'head' if stmt.kind is StmtKind.WHILE else 'before'} {stmt.number}"

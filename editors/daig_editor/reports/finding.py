@@ -47,7 +47,8 @@ class Key(NamedTuple):
 class Finding:
     """One finding. `known` are the states before it, `causes` what they depend on, what matters most first, `inputs` those of a run that fails.
 
-    `related` are other places, each with what it is. `number` is that of the statement in the program that was asked, 0
+    `related` are other places, each with what it is; `path` are the last places of the run, with what is set there, and
+    `values` what its variables are at its end. `number` is that of the statement in the program that was asked, 0
     of none. `is_new`: it was safe before a change; `is_slight`: it weighs less than others of its level.
     """
 
@@ -61,6 +62,8 @@ class Finding:
     notes: tuple[str, ...] = ()
     related: tuple[tuple[Span, str], ...] = ()
     inputs: tuple[int, ...] | None = None
+    values: tuple[str, ...] = ()
+    path: tuple[tuple[Span, str], ...] = ()
     number: int = field(default=0, compare=False)
     is_new: bool = False
     is_slight: bool = False

@@ -38,6 +38,8 @@ def _fields(checked: CheckedFile, finding: Finding) -> dict[str, object]:
         "dependsOn": lines_of(checked.source, finding.causes),
         "related": [{"line": checked.source.line_of(span.start) + 1, "message": it} for span, it in finding.related],
         "notes": list(finding.notes),
+        "values": list(finding.values),
+        "path": [checked.source.line_of(span.start) + 1 for span, _ in finding.path],
         "inputs": None if finding.inputs is None else list(finding.inputs),
         "fingerprint": checked.fingerprint(finding),
     }

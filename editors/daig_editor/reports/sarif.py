@@ -4,6 +4,7 @@ from __future__ import annotations
 import json
 import os
 from pathlib import Path
+from typing import Iterator
 from urllib.parse import quote
 
 from daig_editor.language.places import SourceText
@@ -118,9 +119,22 @@ class _Result:
             "relatedLocations": [self._related(number, *place) for number, place in enumerate(related)],
             "partialFingerprints": {PRINT: printed, LINE_PRINT: f"{printed[:16]}:1"},
         }
+        if it.path:
+            flow = [{"location": self._step(*step)} for step in self._path()]
+            result["codeFlows"] = [{"threadFlows": [{"locations": flow}]}]
         if checked.has_baseline:
             result["baselineState"] = "new"
         return result
+
+    def _path(self) -> Iterator[tuple[Span, str]]:
+        """The places of the run, each with what is set there, or how it ends."""
+        *before, (last, _) = self._finding.path
+        yield from ((span, words or "the run comes here") for span, words in before)
+        yield last, f"the run ends here: {', '.join(self._finding.values) or 'there are no variables'}"
+
+    def _step(self, span: Span, words: str) -> Json:
+        """A place of the run, with what is said of it."""
+        return {"message": {"text": words}, **self._location(span)}
 
     def _words(self, related: list[tuple[Span, str]]) -> str:
         """A finding's words with what is known there, and links to the first related places."""
@@ -143,7 +157,7 @@ class _Result:
 
     def _related(self, number: int, span: Span, words: str) -> Json:
         """Another place, with what it is."""
-        return {"id": number, "message": {"text": words}, **self._location(span)}
+        return {"id": number, **self._step(span, words)}
 
 
 def _plain(text: str) -> str:

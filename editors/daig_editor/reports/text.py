@@ -78,7 +78,16 @@ def details(source: SourceText, finding: Finding) -> Iterator[str]:
         more = f" and {len(lines) - MOST_LINES} more" if len(lines) > MOST_LINES else ""
         yield f"depends on line{'s' if len(lines) > 1 else ''} {', '.join(map(str, lines[:MOST_LINES]))}{more}"
     yield from (f"{words}: line {source.line_of(span.start) + 1}" for span, words in finding.related)
+    if finding.path:
+        yield f"in this run: {_likeliest(', '.join(finding.values), finding.key.statement)}"
+        yield f"it comes here by line{_way(lines_of(source, [span for span, _ in reversed(finding.path)]))}"
     yield from finding.notes
+
+
+def _way(lines: list[int]) -> str:
+    """The lines by which a run comes to the first of them, each where it is done last."""
+    more = "s .., " if len(lines) > MOST_LINES else "s " if len(lines) > 1 else " "
+    return more + ", ".join(map(str, reversed(lines[:MOST_LINES])))
 
 
 def _likeliest(state: str, statement: str) -> str:
