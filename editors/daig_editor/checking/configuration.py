@@ -57,6 +57,11 @@ class Configurations:
         return _nearest(os.path.abspath(folder))
 
 
+def forget_configurations() -> None:
+    """Lets files be read anew, which may be others now."""
+    _nearest.cache_clear()
+
+
 @lru_cache(maxsize=None)
 def _nearest(folder: str) -> Configuration:
     """The configuration of a whole path of a folder."""

@@ -45,11 +45,11 @@ def _reported(document: Document, report: Report) -> list[Json]:
     told = []
     shift = Shift.between(report.text.data, document.text.data)
     over = shift.span(report.over.loop.head) if report.over else None
-    if report.over and over:
+    if report.over and over and document.options.tells("budget"):
         told.append(_diagnostic(document, over, WARNING, report.over.words, code="budget"))
     for finding in report.findings:
         span = shift.span(finding.place.head)
-        if span:
+        if span and document.options.tells(finding.rule):
             told.append(_finding(document, shift, finding, span, report.partial))
     if document.shown and not report.partial:
         told += _shown(document, shift, document.shown.of, document.shown.causes)

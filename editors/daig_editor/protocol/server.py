@@ -5,6 +5,7 @@ import asyncio
 import traceback
 from typing import Awaitable, Callable
 
+from daig_editor.checking.configuration import BadConfiguration, forget_configurations
 from daig_editor.language.places import SourceText
 from daig_editor.protocol.actions import execute
 from daig_editor.protocol.client import INFO_MESSAGE, Abilities, Client
@@ -31,7 +32,7 @@ from daig_editor.protocol.wire import (
 from daig_editor.server.asking import Outdated
 from daig_editor.server.document import Document
 from daig_editor.server.process import Gone
-from daig_editor.server.watching import Trouble
+from daig_editor.server.watching import Options, Trouble
 
 DRIFTED = "a change of this text could not be read: save the file, or close and open it again"
 SECTION = "daig"
@@ -226,11 +227,24 @@ class LanguageServer:
 
     async def _reconfigure(self, given: Json) -> None:
         """Serves all files by new settings, where they are others."""
-        before = self._settings.options
         self._read_settings({name: value for name, value in given.items() if value is not None})
-        if self._settings.options != before:
-            for document in list(self._documents.values()):
-                await document.reload(self._settings.options)
+        for document in list(self._documents.values()):
+            await self._follow_options(document)
+
+    async def _follow_options(self, document: Document) -> None:
+        """Serves a file by its options, where they are others."""
+        options = self._options_of(document.uri)
+        if options != document.options:
+            await document.reload(options)
+
+    def _options_of(self, uri: str) -> Options:
+        """The options of a file. Where its `daig.toml` is wrong that is shown, and the settings alone stand."""
+        forget_configurations()
+        try:
+            return self._settings.options_of(uri)
+        except BadConfiguration as why:
+            self.show_once(str(why))
+            return self._settings.options
 
     async def shutdown(self, _params: Json) -> None:
         """Ends the servers."""
@@ -256,7 +270,7 @@ class LanguageServer:
         if old:
             await old.close()
         number = version if type(version) is int else 0
-        self._documents[uri] = Document(uri, text, number, self._settings.options, self)
+        self._documents[uri] = Document(uri, text, number, self._options_of(uri), self)
 
     async def did_change(self, params: Json) -> None:
         """A file has changed in some places, one after the other."""
@@ -269,8 +283,9 @@ class LanguageServer:
         self._set_text(document, document.text.changed(changes), version)
 
     async def did_save(self, params: Json) -> None:
-        """A file is saved: its text is known again."""
+        """A file is saved: its text is known again, and so are the options of its folder."""
         document, words = self._document(params), params.get("text")
+        await self._follow_options(document)
         if isinstance(words, str):
             data = words.encode("utf-8", "replace")
             if data != document.text.data or document.drifted:

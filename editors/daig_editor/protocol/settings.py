@@ -3,7 +3,10 @@ from __future__ import annotations
 
 import os
 import shutil
+from dataclasses import replace
+from urllib.parse import unquote, urlsplit
 
+from daig_editor.checking.configuration import Configurations
 from daig_editor.server.choices import DOMAIN, DOMAINS, FAULTS, WIDENINGS, Faults, found_program
 from daig_editor.server.process import Settings
 from daig_editor.server.watching import Options
@@ -34,6 +37,21 @@ class GivenSettings:
         compare_every = self._number("compareEvery", 1, 1_000_000, 100)
         faults = Faults(self._word("faults", FAULTS, Faults.ALL.value))
         self.options = Options(settings, faults, compare_every, self._number("runs", 0, 1000, 32))
+
+    def options_of(self, uri: str) -> Options:
+        """The options of a file: by the client's settings, else by the nearest `daig.toml` above it; raises
+        `BadConfiguration`."""
+        parts = urlsplit(uri)
+        if parts.scheme != "file" or not parts.path:
+            return self.options
+        found = Configurations().of(os.path.dirname(unquote(parts.path)))
+        options, settings = self.options, self.options.settings
+        if found.domain and "domain" not in self._given:
+            settings = replace(settings, domain=found.domain)
+        if found.budget and "budget" not in self._given:
+            settings = replace(settings, budget=found.budget)
+        faults = Faults(found.faults) if found.faults and "faults" not in self._given else options.faults
+        return replace(options, settings=settings, faults=faults, select=found.select)
 
     @property
     def settings(self) -> Settings:

@@ -14,13 +14,18 @@ if TYPE_CHECKING:
 
 @dataclass(frozen=True)
 class Options:
-    """How documents are served: which faults are told, how often a server's program is compared with the text, and how
-    many runs are tried."""
+    """How documents are served: which faults are told, and of which rules, all where it is None; how often a server's
+    program is compared with the text, and how many runs are tried."""
 
     settings: Settings
     faults: Faults = Faults.ALL
     compare_every: int = 100
     runs: int = 32
+    select: frozenset[str] | None = None
+
+    def tells(self, rule: str) -> bool:
+        """Whether findings of a rule are told."""
+        return self.select is None or rule in self.select
 
 
 @dataclass(frozen=True)
