@@ -3,13 +3,15 @@ from __future__ import annotations
 
 import argparse
 import contextlib
+import math
 import os
 import sys
 from dataclasses import dataclass, replace
 from importlib import import_module
-from typing import TYPE_CHECKING, Iterator
+from typing import TYPE_CHECKING, AsyncIterator, Iterator
 
-from daig_editor.checking.analysis import Wanted, analyse
+from daig_editor.checking.analysing import Analyse, Text, analysed
+from daig_editor.checking.analysis import Wanted
 from daig_editor.checking.baseline import read_baseline
 from daig_editor.checking.configuration import Configuration, Configurations
 from daig_editor.checking.patterns import Patterns
@@ -87,9 +89,12 @@ class Run:
             self._configurations.of(os.path.dirname(source.name) or ".")
         self._input = standard_input() if STANDARD_INPUT in args.files else b""
         self._against = self._old_texts() if args.against is not None else None
-        settings = Settings(program_to_ask(args.program), widening=args.widening, delay=args.delay, memory=args.memory)
+        program = args.program or "" if args.cluster else program_to_ask(args.program)
+        settings = Settings(program, widening=args.widening, delay=args.delay, memory=args.memory)
+        states = args.format == "html"
+        self._analyse: Analyse = analysed
         self._wanted = Wanted(
-            settings, dead=args.dead, tries=args.tries, inputs=args.inputs, states=args.format == "html", new=args.new
+            settings, dead=args.dead, tries=args.tries, inputs=args.inputs, states=states, new=args.new
         )
         self._test_output()
 
@@ -105,7 +110,7 @@ class Run:
     @property
     def is_alone(self) -> bool:
         """Whether there is one file, and nothing to ask of it but one server."""
-        return len(self._sources) == 1 and self._against is None and not self._args.cert
+        return len(self._sources) == 1 and self._against is None and not self._args.cert and not self._args.cluster
 
     def run_alone(self) -> int:
         """Checks the only file and writes the report, without asyncio, whose load takes longer; answers the status."""
@@ -122,11 +127,27 @@ class Run:
         from daig_editor.checking.work import in_order
 
         with self._telling() as telling:
-            files = in_order(self._sources, self._args.jobs, self._check, telling.progress.done, self._args.timeout)
-            async with contextlib.aclosing(files):
-                async for checked in files:
-                    telling.tell(checked)
+            async with self._analysing(telling.progress) as (jobs, seconds):
+                files = in_order(self._sources, jobs, self._check, telling.progress.done, seconds)
+                async with contextlib.aclosing(files):
+                    async for checked in files:
+                        telling.tell(checked)
             return telling.end()
+
+    @contextlib.asynccontextmanager
+    async def _analysing(self, progress: Progress) -> AsyncIterator[tuple[int, float]]:
+        """The time in which files are checked, here or by a cluster: how many at once, and for how many seconds each."""
+        if not self._args.cluster:
+            yield self._args.jobs, self._args.timeout
+            return
+        from daig_editor.checking.cluster import MOST_FILES, NoCluster, connected
+
+        try:
+            async with connected(self._args.cluster, self._args.timeout, progress.note) as cluster:
+                self._analyse = cluster.analyse
+                yield MOST_FILES, math.inf  # a file has its time when a worker begins it
+        except NoCluster as why:
+            raise Wrong(f"--cluster {self._args.cluster}: {why}") from None
 
     @contextlib.contextmanager
     def _telling(self) -> Iterator[_Telling]:
@@ -161,10 +182,10 @@ class Run:
 
     async def _analysed(self, source: Source, wanted: Wanted) -> CheckedFile:
         """Checks one file."""
-        data = self._bytes(source)
+        text = Text(source.name, self._bytes(source))
         if self._against is None:
-            return await analyse(source.name, data, wanted)
-        from daig_editor.checking.comparison import analyse_against, new_file
+            return await self._analyse(text, wanted)
+        from daig_editor.checking.comparison import new_file
         from daig_editor.checking.revisions import NoOldText, NotComparable
 
         try:
@@ -172,10 +193,10 @@ class Run:
         except NotComparable as why:
             return troubled(source.name, str(why))
         except NoOldText as missing:
-            checked = await analyse(source.name, data, wanted)
+            checked = await self._analyse(text, wanted)
             new_file(checked, str(missing))
             return checked
-        return await analyse_against(source.name, data, old, wanted)
+        return await self._analyse(text._replace(old=old), wanted)
 
     def _bytes(self, source: Source) -> bytes:
         """The bytes of a file; raises `OSError`."""

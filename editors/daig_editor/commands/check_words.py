@@ -62,6 +62,8 @@ def parsed(words: list[str] | None = None) -> argparse.Namespace:
         parser.error("--cert: a folder is wanted")
     if "-" in args.files and args.cert:
         parser.error("--cert keeps no certificate of standard input")
+    if args.cluster and args.cert:
+        parser.error("--cert: certificates are kept where daig-check runs, so not with --cluster")
     if args.new and not args.against:
         parser.error("--new: --against OLD says since when")
     return args
@@ -190,6 +192,11 @@ def _add_analysis(group: argparse._ArgumentGroup) -> None:
         default=_processors(),
         metavar="N",
         help="files checked side by side (default: the processors)",
+    )
+    group.add_argument(
+        "--cluster",
+        metavar="ADDRESS",
+        help="let the workers of this Dask scheduler check, as tcp://HOST:8786; --program, if any, is theirs",
     )
     group.add_argument(
         "--memory",

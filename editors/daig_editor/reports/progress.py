@@ -7,6 +7,7 @@ import sys
 from typing import TextIO
 
 from daig_editor.reports.shown import shown
+from daig_editor.reports.tool import NAME
 
 CLEAR = "\r\x1b[K"
 
@@ -31,6 +32,13 @@ class Progress:
         """Makes room for a line of the report."""
         if self._live:
             self._say(CLEAR)
+
+    def note(self, words: str) -> None:
+        """What is wrong with the work, but with no file; it is said where there is no progress too."""
+        self.clear()
+        if sys.stderr:
+            with contextlib.suppress(OSError, ValueError):
+                print(f"{NAME}: {words}", file=sys.stderr, flush=True)
 
     def end(self, summary: str) -> None:
         """The last line."""
