@@ -14,6 +14,13 @@ from typing import Any, Callable
 
 SERVER = Path(__file__).resolve().parents[1] / "daig_lsp.py"
 Json = dict[str, Any]
+# What a client can take that is told nothing else: all shapes of answers.
+ABLE: Json = {
+    "hover": {"contentFormat": ["markdown", "plaintext"]},
+    "documentSymbol": {"hierarchicalDocumentSymbolSupport": True},
+    "codeAction": {"codeActionLiteralSupport": {"codeActionKind": {"valueSet": ["quickfix"]}}},
+    "publishDiagnostics": {"relatedInformation": True, "versionSupport": True, "tagSupport": {"valueSet": [1]}},
+}
 
 
 def framed(message: Json) -> bytes:
@@ -38,6 +45,8 @@ class Client:
         command: list[str] | None = None,
         environment: dict[str, str] | None = None,
         file_size: int | None = None,
+        root: Path | None = None,
+        able: Json | None = None,
     ) -> None:
         pipe = subprocess.PIPE
         self.process = subprocess.Popen(
@@ -55,7 +64,14 @@ class Client:
         self.shown: list[str] = []
         self._id = 0
         threading.Thread(target=self._read, daemon=True).start()
-        self.request("initialize", {"capabilities": capabilities or {}, "initializationOptions": options})
+        given: Any = {} if capabilities is None else capabilities
+        if isinstance(given, dict) and isinstance(given.get("textDocument", {}), dict):
+            given = {**given, "textDocument": {**(ABLE if able is None else able), **given.get("textDocument", {})}}
+        # Of which version diagnostics without one are: of none, where the server could say it.
+        self.unsaid = -1 if isinstance(given, dict) and "publishDiagnostics" in json.dumps(given) else 0
+        params: Json = {"capabilities": given, "initializationOptions": options}
+        answer = self.request("initialize", {**params, "rootUri": root.as_uri()} if root else params)
+        self.about: Json = answer["serverInfo"]
         self.notify("initialized", {})
 
     def _read(self) -> None:
@@ -141,7 +157,7 @@ class Client:
             if message.get("method") != "textDocument/publishDiagnostics":
                 return False
             params = message["params"]
-            return bool(params.get("version") == version and wanted(params["diagnostics"]))
+            return bool(params.get("version", self.unsaid or version) == version and wanted(params["diagnostics"]))
 
         return list(self.wait(is_it)["params"]["diagnostics"])
 

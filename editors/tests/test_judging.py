@@ -76,15 +76,18 @@ def test_new_with_the_last_change() -> None:
 
 
 def test_long_programs() -> None:
-    """Of a program with many faults those of checks are told at once, all when it rests; until then the others stay."""
+    """Of a program with many faults those of checks are told at once, all when it rests; until then the others stay. A message
+    has the worst 500, and says how many more there are."""
     client, told = opened({"runs": 0}, LONG)
     assert not told, told
     told = client.published(1, bool)
-    assert len(told) == 600 and {it["severity"] for it in told} == {INFORMATION}, shown(told)[:3]
+    assert len(told) == 501 and {it["severity"] for it in told} == {INFORMATION}, shown(told)[:3]
+    assert told[-1]["code"] == "more" and "100" in told[-1]["message"], told[-1]
     client.change(URI, 2, [{"text": LONG.replace("y = 7;", "y = 8;").replace("  y = y + x;\n", "", 1)}])
-    assert len(client.diagnostics(2)) == 599
+    told = client.diagnostics(2)
+    assert len(told) == 501 and "99" in told[-1]["message"], told[-1]
     client.change(URI, 3, [{"text": LONG.replace("y = 7;", "assert x == 1;")}])
-    told = client.published(3, lambda told: len(told) == 601)
+    told = client.published(3, lambda told: len(told) == 501 and "101" in told[-1]["message"])
     assert told[0]["code"] == "assert" and told[0]["severity"] == ERROR, told[0]
     client.close()
 

@@ -52,7 +52,7 @@ const languages = new Proxy({}, {
         dispose() {},
       };
     }
-    providers[name.replace(/^register|Provider$/g, "")] = given[1];
+    providers[name.replace(/^register|Provider$/g, "")] = given[1] || given[0];
     return { dispose() {} };
   },
 });
@@ -89,6 +89,7 @@ const vscode = {
   Hover: record("contents", "range"),
   DocumentHighlight: record("range", "kind"),
   DocumentSymbol: record("name", "detail", "kind", "range", "selectionRange"),
+  SymbolInformation: record("name", "kind", "containerName", "location"),
   FoldingRange: record("start", "end", "kind"),
   FoldingRangeKind: { Comment: 1 },
   SelectionRange: record("range", "parent"),
@@ -165,6 +166,10 @@ async function questions() {
   assert.strictEqual(help.signatures[0].label, "f(x: int) -> r: int");
   assert((await providers.DocumentSemanticTokens.provideDocumentSemanticTokens(document, never)).data.length % 5 === 0);
   assert.deepStrictEqual(await providers.DocumentFormattingEdit.provideDocumentFormattingEdits(document, {}, never), []);
+  const typing = providers.OnTypeFormattingEdit;
+  assert.deepStrictEqual(await typing.provideOnTypeFormattingEdits(document, position(8, 3), "}", {}, never), []);
+  const named = await providers.WorkspaceSymbol.provideWorkspaceSymbols("F", never);
+  assert.deepStrictEqual(named.map((it) => [it.name, it.location.range.start.line]), [["f", 0]]);
   const whole = new Range(0, 0, 20, 0);
   const ranged = providers.DocumentRangeFormattingEdit;
   assert.deepStrictEqual(await ranged.provideDocumentRangeFormattingEdits(document, whole, {}, never), []);

@@ -59,7 +59,10 @@ class Client {
     child.on("exit", (code) => this.ended(child, `it ended with status ${code}`));
     const capabilities = {
       textDocument: {
+        codeAction: { codeActionLiteralSupport: { codeActionKind: { valueSet: ["quickfix"] } } },
         completion: { completionItem: { snippetSupport: true } },
+        documentSymbol: { hierarchicalDocumentSymbolSupport: true },
+        hover: { contentFormat: ["markdown"] },
         publishDiagnostics: { relatedInformation: true, tagSupport: { valueSet: [1] } },
       },
       workspace: {
@@ -71,7 +74,7 @@ class Client {
     };
     const answer = await this.wire.request("initialize", {
       processId: process.pid,
-      rootUri: null,
+      workspaceFolders: (vscode.workspace.workspaceFolders || []).map((it) => ({ uri: it.uri.toString(), name: it.name })),
       capabilities,
       initializationOptions: settings(),
     });

@@ -124,6 +124,18 @@ function register(vscode, context, client, { language }) {
         return editsOf(vscode, await client.ask("textDocument/rangeFormatting", params, cancel));
       },
     }),
+    languages.registerOnTypeFormattingEditProvider(selector, {
+      async provideOnTypeFormattingEdits(document, position, ch, options, cancel) {
+        const params = { ...at(document, position), ch, options };
+        return editsOf(vscode, await client.ask("textDocument/onTypeFormatting", params, cancel));
+      },
+    }, "}", ";", "\n"),
+    languages.registerWorkspaceSymbolProvider({
+      async provideWorkspaceSymbols(query, cancel) {
+        const found = (await client.ask("workspace/symbol", { query }, cancel)) || [];
+        return found.map((it) => new vscode.SymbolInformation(it.name, it.kind - 1, "", locationOf(vscode, it.location)));
+      },
+    }),
     languages.registerInlayHintsProvider(selector, {
       onDidChangeInlayHints: client.refreshed.hints.event,
       async provideInlayHints(document, part, cancel) {

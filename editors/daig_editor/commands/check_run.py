@@ -91,10 +91,9 @@ class Run:
         self._against = self._old_texts() if args.against is not None else None
         program = args.program or "" if args.cluster else program_to_ask(args.program)
         settings = Settings(program, widening=args.widening, delay=args.delay, memory=args.memory)
-        states = args.format == "html"
         self._analyse: Analyse = analysed
         self._wanted = Wanted(
-            settings, dead=args.dead, tries=args.tries, inputs=args.inputs, states=states, new=args.new
+            settings, dead=args.dead, tries=args.tries, inputs=args.inputs, states=args.format == "html", new=args.new
         )
         self._test_output()
 

@@ -47,6 +47,19 @@ def laid_out(text: bytes) -> bytes:
     return b"".join(parts) + text[last:]
 
 
+def indentation(text: bytes, line: Span) -> str | None:
+    """The space that a line should begin with. None where the text has a byte that is no token."""
+    if spelling_fault(text):
+        return None
+    walk, left = _Walk(), None
+    for token in scanned(text):
+        if token.span.start >= line.start:
+            return walk.space(token if token.span.start < line.end else None)
+        walk.take(left, token, 0)
+        left = token
+    return walk.space(None)
+
+
 def _gaps(text: bytes, found: list[Token]) -> list[tuple[Span, str]]:
     """Each space between tokens, and what it should be."""
     if not found:
@@ -84,6 +97,12 @@ class _Walk:
             self.operand = right.kind == "number" or right.is_name() or right.word in OPERANDS
             self.last = right.word
         return gap
+
+    def space(self, right: Token | None) -> str:
+        """The space of a line that begins with a token, or has none."""
+        inside = self.last not in STARTS
+        closes = right is not None and right.word == "}"
+        return INDENT * max(0, self.depth - closes + (2 if inside and not closes else 0))
 
     def _gap(self, left: Token, right: Token, breaks: int) -> _Gap:
         """The space between two tokens."""

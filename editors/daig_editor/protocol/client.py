@@ -21,7 +21,8 @@ PROGRESS_EVERY = 0.2
 
 @dataclass(frozen=True)
 class Abilities:
-    """What a client says that it can do."""
+    """What a client says that it can do: of answers, whether it reads Markdown, symbols within others, edits in actions, and
+    in diagnostics places beside them, tags and the version."""
 
     utf8: bool = False
     progress: bool = False
@@ -29,6 +30,12 @@ class Abilities:
     configuration: bool = False
     pulls: bool = False
     refreshes: tuple[str, ...] = ()
+    markdown: bool = False
+    nested_symbols: bool = False
+    edits_in_actions: bool = False
+    related: bool = False
+    tags: bool = False
+    versions: bool = False
 
     @staticmethod
     def of(capabilities: object) -> Abilities:
@@ -36,7 +43,9 @@ class Abilities:
         encodings = member(capabilities, "general", "positionEncodings")
         refreshes = tuple(it for it in REFRESHES if member(capabilities, "workspace", it, "refreshSupport") is True)
         pulls = isinstance(member(capabilities, "textDocument", "diagnostic"), dict) and "diagnostics" in refreshes
-        snippets = member(capabilities, "textDocument", "completion", "completionItem", "snippetSupport")
+        text = member(capabilities, "textDocument")
+        snippets = member(text, "completion", "completionItem", "snippetSupport")
+        hovers, told = member(text, "hover", "contentFormat"), member(text, "publishDiagnostics")
         return Abilities(
             utf8=isinstance(encodings, list) and "utf-8" in encodings,
             progress=member(capabilities, "window", "workDoneProgress") is True,
@@ -44,6 +53,12 @@ class Abilities:
             configuration=member(capabilities, "workspace", "configuration") is True,
             pulls=pulls,
             refreshes=refreshes,
+            markdown=isinstance(hovers, list) and "markdown" in hovers,
+            nested_symbols=member(text, "documentSymbol", "hierarchicalDocumentSymbolSupport") is True,
+            edits_in_actions=isinstance(member(text, "codeAction", "codeActionLiteralSupport"), dict),
+            related=member(told, "relatedInformation") is True,
+            tags=bool(member(told, "tagSupport")),
+            versions=member(told, "versionSupport") is True,
         )
 
 

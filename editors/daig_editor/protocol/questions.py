@@ -21,6 +21,7 @@ from daig_editor.protocol.shapes import (
     TOKEN_TYPES,
     folding_ranges,
     formatting,
+    formatting_of_line,
     selection_ranges,
     semantic_tokens,
 )
@@ -28,8 +29,11 @@ from daig_editor.protocol.states import code_lenses, hover, inlay_hints
 from daig_editor.protocol.wire import SERVER_CANCELLED, Json, RpcError, member
 from daig_editor.server.asking import Outdated
 from daig_editor.server.document import Document
+from daig_editor.server.ending import within
 
 INCREMENTAL = 2
+# Diagnostics that are asked for are answered within so many seconds: with a note that the work runs, where it does.
+LONGEST_PULL = 1.5
 Question = Callable[[Document, Json, Abilities], Awaitable[object]]
 
 
@@ -56,6 +60,8 @@ def capabilities(abilities: Abilities) -> Json:
         "semanticTokensProvider": {"legend": legend, "full": True, "range": True},
         "documentFormattingProvider": True,
         "documentRangeFormattingProvider": True,
+        "documentOnTypeFormattingProvider": {"firstTriggerCharacter": "}", "moreTriggerCharacter": [";", "\n"]},
+        "workspaceSymbolProvider": True,
         "codeActionProvider": {"codeActionKinds": ["quickfix"]},
         "executeCommandProvider": {"commands": COMMANDS},
         **(pulled if abilities.pulls else {}),
@@ -152,17 +158,32 @@ async def _format_range(document: Document, params: Json, _: Abilities) -> objec
     return formatting(document, *_range(document, params))
 
 
+async def _format_on_type(document: Document, params: Json, _: Abilities) -> object:
+    return formatting_of_line(document, _at(document, params))
+
+
 async def _actions(document: Document, params: Json, _: Abilities) -> object:
     start = document.text.place(member(params, "range", "start"))
     end = member(params, "range", "end")
     stop = document.text.place(end) if end else start
+    places = [(start, stop), *_told_places(document, params)]
     await document.followed()
-    return actions(document, start, stop)
+    found: dict[str, Json] = {}
+    for place in places:
+        for it in actions(document, *place):
+            found.setdefault(str(it["title"]), it)
+    return list(found.values())
+
+
+def _told_places(document: Document, params: Json) -> list[tuple[int, int]]:
+    """The places of the diagnostics that the client asks for, which may be all of a line."""
+    told = member(params, "context", "diagnostics")
+    return [_range(document, it) for it in told if isinstance(it, dict)] if isinstance(told, list) else []
 
 
 async def _diagnostic(document: Document, _params: Json, _: Abilities) -> object:
     try:
-        await document.judged()
+        await within(LONGEST_PULL, document.judged())  # of what comes later the client is told, and asks again
     except Outdated:
         raise RpcError(SERVER_CANCELLED, "the text has changed", {"retriggerRequest": True}) from None
     return {"kind": "full", "items": diagnostics(document)}
@@ -187,6 +208,7 @@ QUESTIONS: dict[str, Question] = {
     "textDocument/semanticTokens/range": _tokens_of_range,
     "textDocument/formatting": _format,
     "textDocument/rangeFormatting": _format_range,
+    "textDocument/onTypeFormatting": _format_on_type,
     "textDocument/codeAction": _actions,
     "textDocument/diagnostic": _diagnostic,
 }

@@ -6,10 +6,12 @@ import traceback
 from typing import Awaitable, Callable
 
 from daig_editor.checking.configuration import BadConfiguration, forget_configurations
+from daig_editor.checking.program import build_words
 from daig_editor.language.places import SourceText
 from daig_editor.protocol.actions import execute
 from daig_editor.protocol.client import INFO_MESSAGE, Abilities, Client
 from daig_editor.protocol.diagnostics import diagnostics
+from daig_editor.protocol.fitting import fitted, fitted_diagnostics
 from daig_editor.protocol.names import incoming_calls, outgoing_calls
 from daig_editor.protocol.questions import QUESTIONS, capabilities
 from daig_editor.protocol.settings import GivenSettings, read_options
@@ -29,13 +31,18 @@ from daig_editor.protocol.wire import (
     member,
     read_message,
 )
+from daig_editor.protocol.workspace import folders_of, workspace_symbols
+from daig_editor.reports.tool import VERSION
 from daig_editor.server.asking import Outdated
+from daig_editor.server.choices import found_program
 from daig_editor.server.document import Document
 from daig_editor.server.process import Gone
 from daig_editor.server.watching import Options, Trouble
 
 DRIFTED = "a change of this text could not be read: save the file, or close and open it again"
 SECTION = "daig"
+# What is built is asked for at most so many seconds.
+LONGEST_BUILD_WORDS = 1.0
 
 
 class LanguageServer:
@@ -47,6 +54,7 @@ class LanguageServer:
         self._initialized = False
         self._stopped = False
         self._said: set[str] = set()
+        self._folders: list[str] = []
         self._documents: dict[str, Document] = {}
         self._tasks: dict[object, asyncio.Task[None]] = {}
         self._others: set[asyncio.Task[None]] = set()
@@ -54,6 +62,7 @@ class LanguageServer:
             "initialize": self.initialize,
             "shutdown": self.shutdown,
             "workspace/executeCommand": self.execute_command,
+            "workspace/symbol": self.workspace_symbols,
             "callHierarchy/incomingCalls": self.incoming_calls,
             "callHierarchy/outgoingCalls": self.outgoing_calls,
         }
@@ -155,7 +164,8 @@ class LanguageServer:
             raise RpcError(NOT_INITIALIZED, "initialize comes first")
         if method in self._requests:
             return await self._requests[method](params)
-        return await QUESTIONS[method](self._document(params), params, self._client.abilities)
+        document, abilities = self._document(params), self._client.abilities
+        return fitted(method, await QUESTIONS[method](document, params, abilities), document, abilities)
 
     async def cancel(self, params: Json) -> None:
         """Ends a request that is being answered."""
@@ -187,8 +197,12 @@ class LanguageServer:
 
     def publish(self, document: Document) -> None:
         """A document's diagnostics are new; so are the states that hints and lenses show."""
-        if not self._client.abilities.pulls:
-            params = {"uri": document.uri, "version": document.version, "diagnostics": diagnostics(document)}
+        abilities = self._client.abilities
+        if not abilities.pulls:
+            told = fitted_diagnostics(diagnostics(document), document, abilities)
+            params: Json = {"uri": document.uri, "version": document.version, "diagnostics": told}
+            if not abilities.versions:
+                del params["version"]
             self._client.send(method="textDocument/publishDiagnostics", params=params)
         self._client.refresh("diagnostics", "inlayHint", "codeLens")
 
@@ -199,8 +213,18 @@ class LanguageServer:
         """Reads the settings and says what this server can do."""
         self._client.abilities = Abilities.of(params.get("capabilities"))
         self._read_settings(params.get("initializationOptions"))
+        self._folders = folders_of(params)
         self._initialized = True
-        return {"capabilities": capabilities(self._client.abilities), "serverInfo": {"name": "daig"}}
+        about = {"name": "daig", "version": await self._version()}
+        return {"capabilities": capabilities(self._client.abilities), "serverInfo": about}
+
+    async def _version(self) -> str:
+        """The version, and whether the program that is asked is proved, as far as that is soon known."""
+        if self._settings.settings.daig != found_program():
+            return f"{VERSION} (asks {self._settings.settings.daig})"
+        asked = asyncio.create_task(asyncio.to_thread(build_words))
+        done, _ = await asyncio.wait([asked], timeout=LONGEST_BUILD_WORDS)
+        return f"{VERSION} {asked.result()}" if done else VERSION
 
     def _read_settings(self, given: object) -> None:
         """Takes settings, and shows what is wrong with them."""
@@ -331,6 +355,10 @@ class LanguageServer:
         if result is None:
             self.publish(document)
         return result
+
+    async def workspace_symbols(self, params: Json) -> object:
+        """The procedures of all files that a query means."""
+        return workspace_symbols(self._documents.values(), self._folders, str(params.get("query", "")))
 
     async def incoming_calls(self, params: Json) -> object:
         """The callers of a procedure."""

@@ -1,7 +1,7 @@
 """The shape of a text: what can be folded, what a selection grows to, what each token is, and how it is laid out."""
 from __future__ import annotations
 
-from daig_editor.language.layout import layout_edits
+from daig_editor.language.layout import indentation, layout_edits
 from daig_editor.language.outline import Occurrence
 from daig_editor.language.tokens import KINDS, Token
 from daig_editor.language.tree import Span
@@ -128,3 +128,17 @@ def formatting(document: Document, start: int = 0, end: int | None = None) -> li
         for span, text in edits
         if span.start >= start and span.end <= stop
     ]
+
+
+def formatting_of_line(document: Document, place: int) -> list[Json]:
+    """The edits of spaces that lay out the line of a place up to it, as it is typed; no line break comes or goes."""
+    text = document.text
+    number = text.line_of(place)
+    start, line = text.starts[number], text.line(number)
+    first = start + len(line) - len(line.lstrip())
+    space = indentation(text.data, Span(start, start + len(line)))
+    if space is None:
+        return []
+    edits = [(Span(start, first), space)] if line[: first - start] != space.encode() else []
+    edits += [(span, new) for span, new in layout_edits(text.data) if first < span.start and span.end <= place]
+    return [{"range": text.range(span), "newText": new} for span, new in edits if "\n" not in new]
