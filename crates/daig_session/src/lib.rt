@@ -22,8 +22,8 @@
 //! of each move, where they are many. So after each call the tables hold at most five states and five operations for each
 //! kept cell, four for each cell that the last move emptied, four for each result that may be remembered, and 4,097
 //! (`IsBounded` of `daig_query`, with `spare` of [`Session::start`]). What a move empties stays aside until the next one, and
-//! is kept again without being computed where its inputs get the values that they had. Names that have no cell are given back by each move, where they are many: the new table of names is
-//! made with the plan.
+//! is kept again without being computed where its inputs get the values that they had. Names that have no cell are given
+//! back by each move, where they are many: the new table of names is made with the plan.
 #![tactic(auto)]
 
 mod asking;

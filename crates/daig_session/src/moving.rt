@@ -82,9 +82,10 @@ pub(crate) fn planned_move<D: Domain>(
     })
 }
 
-/// Takes the planned cells away, and notes what those of them held and read whose own row is not changed; gives back the states that no cell holds any more, where they are many, and puts the
-/// planned names, if there are any, in the place of those that stand: what is left is right for the program that is moved
-/// to. It takes no memory. Cells may get other numbers, which no ticket holds, as each begins anew after a move.
+/// Takes the planned cells away, and notes what those of them held and read whose own row is not changed; gives back the
+/// states that no cell holds any more, where they are many, and puts the planned names, if there are any, in the place of
+/// those that stand: what is left is right for the program that is moved to. It takes no memory. Cells may get other
+/// numbers, which no ticket holds, as each begins anew after a move.
 pub(crate) fn leave<D: Domain>(engine: &mut Engine<D>, plan: Emptying, renaming: Option<NewNames>)
     requires order { IsOrder engine.old.store.graph.cells plan.order }
     requires held { IsInTables engine.old.store }

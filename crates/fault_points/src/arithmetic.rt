@@ -139,9 +139,11 @@ fn any(alloc: Global, c: SlotCond, d: SlotCond, e: SlotCond) -> Result<SlotCond,
 /// `a * b` lies in 64 bits, where a is not negative.
 fn product_fits_above(alloc: Global, a: &SlotExpr, b: &SlotExpr) -> Result<SlotCond, Memory>
     ensures is { IfOk result (λ c. c ≡ And
-        (Or (Compare Relation.AtMost a.now (Literal 0)) (Or (Compare Relation.AtMost b.now (Literal 0))
+        (Or (Compare Relation.AtMost a.now (Literal 0))
+        (Or (Compare Relation.AtMost b.now (Literal 0))
         (Compare Relation.AtMost a.now (Binary operator.Divide greatest b.now))))
-        (Or (Compare Relation.AtMost a.now (Literal 0)) (Or (Compare Relation.AtLeast b.now (Literal 0))
+        (Or (Compare Relation.AtMost a.now (Literal 0))
+        (Or (Compare Relation.AtLeast b.now (Literal 0))
         (Compare Relation.AtLeast b.now (Binary operator.Divide least a.now))))) }
 {
     let zero = literal(alloc, 0)?;
@@ -165,9 +167,11 @@ fn product_fits_above(alloc: Global, a: &SlotExpr, b: &SlotExpr) -> Result<SlotC
 /// `a * b` lies in 64 bits, where a is not positive.
 fn product_fits_below(alloc: Global, a: &SlotExpr, b: &SlotExpr) -> Result<SlotCond, Memory>
     ensures is { IfOk result (λ c. c ≡ And
-        (Or (Compare Relation.AtLeast a.now (Literal 0)) (Or (Compare Relation.AtMost b.now (Literal 0))
+        (Or (Compare Relation.AtLeast a.now (Literal 0))
+        (Or (Compare Relation.AtMost b.now (Literal 0))
         (Compare Relation.AtLeast a.now (Binary operator.Divide least b.now))))
-        (Or (Compare Relation.AtLeast a.now (Literal 0)) (Or (Compare Relation.AtLeast b.now (Literal 0))
+        (Or (Compare Relation.AtLeast a.now (Literal 0))
+        (Or (Compare Relation.AtLeast b.now (Literal 0))
         (Compare Relation.AtLeast a.now (Binary operator.Divide greatest b.now))))) }
 {
     let zero = literal(alloc, 0)?;
@@ -279,7 +283,8 @@ fn add_division(
     b: &SlotExpr,
     found: &mut FaultPoints,
 ) -> Result<(), Memory>
-    ensures added { OnOk result (found.new ≡ found.old ++ operator_points operator.Divide a.now b.now) }
+    ensures added { OnOk result (found.new ≡ found.old
+        ++ operator_points operator.Divide a.now b.now) }
 {
     found.push(FaultPoint {
         kind: FaultKind::Zero,

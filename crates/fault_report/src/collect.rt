@@ -40,7 +40,8 @@ pub(crate) fn add_statements(
 #[cycle(statements)]
 #[tactic(auto, using(crate::proofs::Collected::one, crate::proofs::Collected::two))]
 fn add_statement(alloc: Global, node: &SlotNode, found: &mut Items<Evaluated>) -> Result<(), Memory>
-    ensures added { OnOk result (found.new ≡ found.old ++ evaluated_in (before_code node.now Stop)) }
+    ensures added { OnOk result (found.new ≡ found.old
+        ++ evaluated_in (before_code node.now Stop)) }
 {
     match node {
         SlotNode::Simple(n, action) => {

@@ -42,7 +42,8 @@ fn add_kinds<D: Domain>(
     found: &mut FaultFindings,
 ) -> Result<(), Memory>
     ensures added { (a : meaning.Answer D.State) → IsKnown a known.now →
-        OnOk result (found.new ≡ found.old ++ map (fault_finding (D.operations dom.now) a x.now) kinds.now) }
+        OnOk result (found.new ≡ found.old
+        ++ map (fault_finding (D.operations dom.now) a x.now) kinds.now) }
 {
     for kind in kinds {
         let verdict = verdict_in(alloc, dom, known, *kind, x.points.as_slice())?;

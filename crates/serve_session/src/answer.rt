@@ -68,8 +68,9 @@ fn unread_line(alloc: Global, error: ReadError) -> Result<Vec<u8>, Memory>
 /// # Errors
 ///
 /// [`Memory`] alone. A line that asks no question, for no list of statements, for no report, of checks or of faults, and for
-/// no step then leaves the session as it was. After one that does, either some of what was missing is kept, the first of it, and nothing else is
-/// changed; or the session stands for the machine after the line, and the reply alone is not written.
+/// no step then leaves the session as it was. After one that does, either some of what was missing is kept, the first of
+/// it, and nothing else is changed; or the session stands for the machine after the line, and the reply alone is not
+/// written.
 pub fn answer_line<D: Domain, L: Ledger>(
     alloc: Global,
     session: &mut Session<D>,
