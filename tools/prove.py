@@ -3,16 +3,19 @@
 
     prove.py [--jobs N] [--then WORD ..]
 
-The kit reads all sources first; then it proves each crate once all below it are proved, so many side by side, and keeps
-what it proved: where this was stopped, it goes on from there. The old program stays until the new one is there. With
-`--then` the program is run with the words, in the place of this process.
+It is the kit's gate (`rt ci`) over a copy that has those crates alone, without their must-fail edits. The gate proves each
+crate once all below it are proved, so many side by side, and keeps what it proved by content, on this machine: what an
+earlier run or a gate proved is not proved again, in whichever checkout that was. The old program stays until the new one
+is there. With `--then` the program is run with the words, in the place of this process.
 """
 from __future__ import annotations
 
 import os
 import re
+import shutil
 import subprocess
 import sys
+import tempfile
 import threading
 import time
 from typing import IO, Iterator
@@ -28,10 +31,12 @@ from progress import say
 # Seconds of a processor for a line, before anything was measured, and how many lines of that weigh against what is.
 EXPECTED = 0.09
 WEIGHT = 4000
-# What takes less was begun by an earlier run, and says nothing of the others.
+# What takes less says nothing of the others.
 SHORT = 4
 # How many proofs are measured before their time says something of the others.
 ENOUGH = 3
+# What the gate says of a crate that is proved, and of one whose proof was kept.
+DONE = re.compile(r"rt: (\w+) (?:proved$|(is kept: ))")
 
 
 def files_of(crate: str) -> Iterator[str]:
@@ -50,18 +55,17 @@ def lines_of(crate: str) -> int:
     return many
 
 
-def kept_here(crates: list[str], below: dict[str, list[str]]) -> set[str]:
-    """The crates whose proofs an earlier run kept in this checkout: no file is newer, of theirs or of crates below."""
-    kept: set[str] = set()
-    for crate in crates:
-        try:
-            made = os.stat(f"{kit.ROOT}/crates/{crate}/out/rlib/stamp").st_mtime
-            files = [f"{kit.ROOT}/crates.txt", *files_of(crate)]
-            if kept.issuperset(below[crate]) and all(os.stat(it).st_mtime < made for it in files):
-                kept.add(crate)
-        except OSError:
-            continue
-    return kept
+def copy_sources(to: str) -> None:
+    """Copies what the program is proved and built of: its crates, without their must-fail edits."""
+    crates = {*kit.crates_of()}
+    for name in crates:
+        shutil.copytree(f"{kit.ROOT}/crates/{name}", f"{to}/crates/{name}", ignore=shutil.ignore_patterns("out", "must-fail"))
+    if os.path.exists(f"{kit.ROOT}/HANDLES"):
+        shutil.copy(f"{kit.ROOT}/HANDLES", to)
+    with open(f"{kit.ROOT}/crates.txt") as lines, open(f"{to}/crates.txt", "w") as out:
+        out.writelines(it for it in lines if crates.intersection(it.split("#")[0].partition(":")[0].split()[:1]))
+    # The kit wants its crates at the top of a repository.
+    os.mkdir(f"{to}/.git")
 
 
 class Estimate:
@@ -72,47 +76,32 @@ class Estimate:
         self.below = {it: kit.crates_of(it)[:-1] for it in crates}
         self.jobs = jobs
         # What was kept is done without a proof in this run.
-        self.kept = kept_here(crates, self.below)
-        self.done = set(self.kept)
+        self.kept: set[str] = set()
+        self.done: set[str] = set()
         self.begun: dict[str, float] = {}
-        self.is_reading = False
         self.measured, self.measured_lines, self.measured_seconds = 0, 0, 0.0
         self._lock = threading.Lock()
 
     def see(self, found: set[kit_work.Work]) -> None:
-        """Notes what the kit is at work on. All below a crate whose proof began are proved: the kit tells that late."""
+        """Notes what the kit is at work on."""
         now = time.monotonic()
         with self._lock:
-            self.is_reading = any(it.kind == kit_work.SOURCES for it in found)
             for name in {it.crate for it in found if it.kind == kit_work.PROOF and it.crate in self.lines}:
-                self._forget(name)
                 self.begun.setdefault(name, now)
-                for below in self.below[name]:
-                    self._finish(below, now)
 
-    def finish(self, name: str) -> bool:
-        """Notes that a crate is proved; whether its proof was done in this run."""
+    def finish(self, name: str, is_kept: bool = False) -> None:
+        """Notes that a crate is proved, by this run or by an earlier one."""
         with self._lock:
-            if name in self.lines:
-                self._finish(name, time.monotonic())
-        return name not in self.kept
-
-    def _finish(self, name: str, now: float) -> None:
-        if name in self.done:
-            return
-        self.done.add(name)
-        if name not in self.begun:
-            self.kept.add(name)
-        elif now - self.begun[name] >= SHORT:
-            self.measured += 1
-            self.measured_lines += self.lines[name]
-            self.measured_seconds += now - self.begun[name]
-
-    def _forget(self, name: str) -> None:
-        """Takes back that a crate was kept, and all above it, where the kit proves it once more."""
-        if name in self.kept and name not in self.begun:
-            self.kept -= {it for it in self.kept if it == name or name in self.below[it]}
-            self.done -= {it for it in self.done if it == name or name in self.below[it]}
+            if name not in self.lines or name in self.done:
+                return
+            self.done.add(name)
+            seconds = time.monotonic() - self.begun.get(name, time.monotonic())
+            if is_kept:
+                self.kept.add(name)
+            elif seconds >= SHORT:
+                self.measured += 1
+                self.measured_lines += self.lines[name]
+                self.measured_seconds += seconds
 
     def left(self) -> float | None:
         """Seconds that the rest may take: all of it side by side, but no less than the longest chain. None where too few
@@ -132,36 +121,33 @@ class Estimate:
         with self._lock:
             kept = f" ({len(self.kept)} kept from earlier runs)" if self.kept else ""
             done = f"{len(self.done)} of {len(self.lines)} crates done{kept}"
-            if self.is_reading:
-                return f"the kit reads all sources first, which takes minutes: {done}"
             working, left = [it for it in self.begun if it not in self.done], self.left()
             done += f", in work: {' '.join(sorted(working))}" if working else ""
             return f"{done}, about {max(round(left / 60), 1)} min left" if left is not None else done
 
 
 class Proving:
-    """One run: the check of all crates, then the build of the program over them."""
+    """One run: the gate over the copy, and then its program in the place of the old one."""
 
-    def __init__(self, jobs: int, log: IO[str], told: progress.Progress) -> None:
+    def __init__(self, jobs: int | None, log: IO[str], told: progress.Progress) -> None:
         self.log, self.told, self.jobs = log, told, jobs
         self.children = progress.Children(log)
-        self.folder = f"{kit.ROOT}/crates/{kit.ROOT_CRATE}"
 
     def run(self) -> bool:
         """Whether all was proved and the program is there."""
         began = time.time()
-        if not self._check() or not self._build():
-            return False
-        program = f"{self.folder}/out/{kit.ROOT_CRATE}"
-        # A source that was changed since this run began is newer than the program.
-        os.utime(program, (began, began))
-        with open(f"{program}.kit", "w") as out:
-            out.write(kit.Kit.find().stamp())
+        with tempfile.TemporaryDirectory(prefix="daig-prove-") as folder:
+            copy_sources(folder)
+            if not self._prove(folder):
+                return False
+            self._place(f"{folder}/crates/{kit.ROOT_CRATE}/out/{kit.ROOT_CRATE}", began)
         return True
 
-    def _check(self) -> bool:
-        estimate = Estimate(kit.crates_of(), self.jobs)
-        child = self.children.start(["rt", "all", "check", "--jobs", str(self.jobs)], cwd=self.folder, is_read=True)
+    def _prove(self, folder: str) -> bool:
+        estimate = Estimate(kit.crates_of(), self.jobs or processors())
+        # With no number the kit takes what processors and memory allow.
+        environment = {**os.environ, "RT_JOBS": str(self.jobs)} if self.jobs else None
+        child = self.children.start(["rt", "ci"], cwd=folder, env=environment, is_read=True)
 
         def told() -> str:
             estimate.see(kit_work.at_work(child.pid))
@@ -173,9 +159,11 @@ class Proving:
         for line in child.stdout:
             self.log.write(line)
             self.log.flush()
-            found = re.fullmatch(r"== (\w+)\n", line)
-            if found and found[1] in estimate.lines and estimate.finish(found[1]):
-                self.told.phase("proving", told)
+            found = DONE.match(line)
+            if found:
+                estimate.finish(found[1], bool(found[2]))
+                if not found[2]:
+                    self.told.phase("proving", told)
         is_proved = self.children.wait(child) == 0
         if is_proved:
             self.told.phase("proving", told)
@@ -187,17 +175,23 @@ class Proving:
             estimate.see(kit_work.at_work(child.pid))
             time.sleep(1)
 
-    def _build(self) -> bool:
-        """Whether the kit built and started the program, with no words: it writes how it is used."""
-        self.told.phase("building the proved program")
-        before = self.log.tell()
-        self.children.status_of(["rt", "run"], cwd=self.folder)
-        with open(self.log.name, errors="replace") as text:
-            text.seek(before)
-            return f"rt: running out/{kit.ROOT_CRATE}" in text.read()
+    def _place(self, made: str, began: float) -> None:
+        """Puts a program in the place of the proved one, with the kit's line beside it."""
+        program = f"{kit.ROOT}/crates/{kit.ROOT_CRATE}/out/{kit.ROOT_CRATE}"
+        os.makedirs(os.path.dirname(program), exist_ok=True)
+        shutil.copy(made, f"{program}.new")
+        # A source that was changed since this run began is newer than the program.
+        os.utime(f"{program}.new", (began, began))
+        with open(f"{program}.kit", "w") as out:
+            out.write(kit.Kit.find().stamp())
+        os.replace(f"{program}.new", program)
 
 
-def prove(jobs: int) -> bool:
+def processors() -> int:
+    return len(os.sched_getaffinity(0))
+
+
+def prove(jobs: int | None) -> bool:
     """Whether the proved program is there and fresh at the end."""
     kit.Kit.find()
     if places.fresh_program("proved"):
@@ -206,7 +200,7 @@ def prove(jobs: int) -> bool:
     folder = places.quick_folder()
     os.makedirs(folder, exist_ok=True)
     path, told = f"{folder}/prove.log", progress.Progress()
-    say(f"proving {len(kit.crates_of())} crates, {jobs} at a time; stopped, it goes on from there the next time")
+    say(f"proving {len(kit.crates_of())} crates, {jobs or processors()} at a time; stopped, it goes on from there the next time")
     with open(path, "w+") as log:
         work = Proving(jobs, log, told)
         try:
@@ -223,24 +217,27 @@ def prove(jobs: int) -> bool:
     return False
 
 
+class Unclear(Exception):
+    """The words are not those of the command."""
+
+
 def jobs_in(words: list[str]) -> int | None:
-    """The number behind `--jobs`, else that of the processors; none where the words are others."""
+    """The number behind `--jobs`, if it is said."""
     if not words:
-        return len(os.sched_getaffinity(0))
+        return None
     if len(words) == 2 and words[0] == "--jobs" and re.fullmatch(r"[1-9]\d{0,3}", words[1]):
         return int(words[1])
-    return None
+    raise Unclear
 
 
 def main(words: list[str]) -> int:
     cut = words.index("--then") if "--then" in words else len(words)
-    jobs = jobs_in(words[:cut])
-    if jobs is None:
-        say("usage: prove [--jobs N]")
-        return 2
     progress.interruptible()
     try:
-        proved = prove(jobs)
+        proved = prove(jobs_in(words[:cut]))
+    except Unclear:
+        say("usage: prove [--jobs N]")
+        return 2
     except progress.Interrupted as asked:
         say("interrupted: what was proved is kept, and ./prove goes on from there")
         return asked.status

@@ -82,7 +82,8 @@ def test_the_real_kit_proves_a_program_which_then_runs_and_no_wrong_one() -> Non
         raise unittest.SkipTest("there is no kit")
     with tempfile.TemporaryDirectory(prefix="real-") as folder:
         library = "crates/doubles/src/lib.rt"
-        checkout(folder, {"crates.txt": "doubles:\ndaig: doubles\n", library: DOUBLED, "crates/daig/src/main.rt": TWICE})
+        program = {"crates/daig/src/main.rt": TWICE, "crates/daig/stdout": "42\n"}
+        checkout(folder, {"crates.txt": "doubles:\ndaig: doubles\n", library: DOUBLED, **program})
         ran = run(f"{folder}/prove", "--jobs", "2")
         assert ran.returncode == 0 and "2 of 2 crates done" in ran.stderr and "proved in" in ran.stderr, ran
         ran = run(f"{folder}/daig")
