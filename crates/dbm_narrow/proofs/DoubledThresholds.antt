@@ -1,17 +1,15 @@
 -- Thresholds doubled: the least that is not less than a bound is the double of the least that is not less than half of it.
-use Rattle.std.specs.Prelude.{◌≡◌, ℕ, ◌^◌, ◌+◌, ◌<◌, ◌≤◌, ℤ, pos, neg_ℤ, ◌+ℤ◌, ◌≤ℤ◌, ◌<ℤ◌, Option, Some, None, Bool, true, false, FitsSigned, cond, int_lt, List, [], ◌∷◌, refl}
+use Rattle.std.specs.Prelude.{◌≡◌, ◌^◌, ℤ, pos, neg_ℤ, ◌+ℤ◌, ◌≤ℤ◌, ◌<ℤ◌, Option, Some, None, Bool, true, false, FitsSigned, cond, int_lt, if◌then◌else◌, List, [], ◌∷◌, refl}
 use Rattle.std.specs.Int.{int_div_euclid, int_max, int_min}
-use Rattle.std.proofs.Common.{arith, ap, subst, sym, ◌∙◌, get_or, inl, inr, length, suc}
-use Rattle.std.proofs.lemmas.Bool.{cases_lt}
+use Rattle.std.proofs.Common.{arith, ap, sym, ◌∙◌, suc}
 use Rattle.std.proofs.lemmas.Int.{ints}
-use Rattle.std.proofs.lemmas.List.{get_or_past}
 use mir.Syntax.{w64}
 use Rattle.dbm_close.proofs.HalvesLemmas.{halved-high, halved-low}
 use Rattle.dbm_core.proofs.ThresholdLemmas.{by_order}
 use Rattle.dbm_core.specs.Limits.{IsWithin}
 use Rattle.dbm_core.specs.Operations.{next_threshold, threshold_value}
 use Rattle.dbm_core.specs.Weights.{least}
-use Rattle.dbm_narrow.specs.Widenings.{AreWords, IsWord}
+use Rattle.num_thresholds.specs.Thresholds.{lesser, least_from, AreWords}
 use Rattle.dbm_narrow.specs.Widths.{start_at}
 
 -- a threshold, or its double, is less than x exactly where the threshold is less than z
@@ -60,22 +58,19 @@ valued-from (m ∷ ms) d x z s =
 pub next-valued : (ms : List ℤ) (d : Bool) (x : ℤ) → valued d (next_threshold ms false (start_at d x)) ≡ next_threshold ms d x
 next-valued ms d x = valued-from ms d x (start_at d x) (start-is d x)
 
+-- the least threshold that is not below a number is the next one
+lesser-least : (m : ℤ) (o : Option ℤ) → Some (lesser m o) ≡ least (Some m) o
+lesser-least m None = refl
+lesser-least m (Some w) = refl
+
+pub next-least : (ms : List ℤ) (x : ℤ) → least_from ms x ≡ next_threshold ms false x
+next-least [] x = refl
+next-least (m ∷ ms) x = elim (int_lt m x) as (λ t. (if t then least_from ms x else Some (lesser m (least_from ms x))) ≡ cond t (next_threshold ms false x) (least (Some m) (next_threshold ms false x))) [
+  | true ↦ next-least ms x
+  | false ↦ lesser-least m (least_from ms x) ∙ ap (least (Some m)) (next-least ms x)
+]
+
 -- ---- thresholds of 64 bits
-
-word : (m : ℤ) → FitsSigned w64 m → IsWord m
-word m h = (omega (arith, ints), omega (arith, ints))
-
-pub words-next : (ms : List ℤ) (i : ℕ) → ((k : ℕ) → k < i → IsWord (get_or ms k (pos 0))) → FitsSigned w64 (get_or ms i (pos 0)) → (k : ℕ) → k < i + 1 → IsWord (get_or ms k (pos 0))
-words-next ms i h p k l = elim (cases_lt k i) [
-  | inl m ↦ h k m
-  | inr m ↦ let e : k ≡ i = omega arith in subst (λ k. IsWord (get_or ms k (pos 0))) (sym e) (word (get_or ms i (pos 0)) p)
-]
-
-pub words-all : (ms : List ℤ) (i : ℕ) → length ms ≤ i → ((k : ℕ) → k < i → IsWord (get_or ms k (pos 0))) → AreWords ms
-words-all ms i l h k = elim (cases_lt k i) [
-  | inl m ↦ h k m
-  | inr m ↦ subst IsWord (sym (get_or_past ms k (pos 0) (omega arith))) (omega (arith, ints), omega (arith, ints))
-]
 
 -- a start below them is none other than the least of 64 bits
 above : (m x s : ℤ) → neg_ℤ (pos (2 ^ 63)) ≤ℤ m → s ≡ int_max x (neg_ℤ (pos (2 ^ 63))) → int_lt m s ≡ int_lt m x

@@ -1,5 +1,5 @@
 -- What widening makes of narrow entries.
-use Rattle.std.specs.Prelude.{◌*◌, ◌≡◌, ℕ, ◌<◌, ◌+◌, ◌^◌, ℤ, pos, neg_ℤ, ◌≤ℤ◌, ◌<ℤ◌, Option, Some, None, Bool, true, MatchOption, List, length, slice_index_or}
+use Rattle.std.specs.Prelude.{◌*◌, ◌≡◌, ℕ, ◌<◌, ◌+◌, ℤ, Option, Some, None, Bool, true, MatchOption, List, length}
 use Rattle.dbm_core.specs.Half.{HalfMatrix, HasEntries, row_start, row_width}
 use Rattle.dbm_core.specs.Nodes.{is_single}
 use Rattle.dbm_core.specs.Operations.{widen_bound, widened}
@@ -17,14 +17,6 @@ IsWidenedIf h thresholds doubled x y o = MatchOption o (Unit {0}) (IsWidened h t
 -- the entry of the threshold that a bound goes to, where it fits
 abbrev pub IsThresholdEntry : ℕ → Option ℤ → Option ℤ → Type 0
 IsThresholdEntry h bound o = MatchOption o (Unit {0}) (λ x. (wide h x ≡ bound) × IsEntry h (2 * h) x)
-
--- a number of 64 bits
-abbrev pub IsWord : ℤ → Type 0
-IsWord m = (neg_ℤ (pos (2 ^ 63)) ≤ℤ m) × (m <ℤ pos (2 ^ 63))
-
--- each of them is one
-abbrev pub AreWords : List ℤ → Type 0
-AreWords ms = (k : ℕ) → IsWord (slice_index_or ms k (pos 0))
 
 -- each entry of row i, xs, is widened by ys to zs
 abbrev pub EachWidens : ℕ → List ℤ → ℕ → List ℤ → List ℤ → List ℤ → Type 0

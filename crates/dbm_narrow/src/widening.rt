@@ -1,14 +1,12 @@
 //! Widenings of narrow matrices.
-ghost use Rattle.std.specs.Prelude.{◌≡◌, ◌<◌, ◌≤◌, ◌*◌, ◌+◌, ◌^◌, IfOk, Some, true, false, cond, int_lt, length};
-ghost use Rattle.std.specs.Int.{int_min};
+ghost use Rattle.std.specs.Prelude.{◌≡◌, ◌<◌, ◌≤◌, ◌*◌, ◌+◌, ◌^◌, IfOk, true, false, length};
 ghost use Rattle.dbm_core.specs.Half.{row_start, row_width};
 ghost use Rattle.dbm_core.specs.Limits.{IsWithin};
 ghost use Rattle.dbm_core.specs.Operations.{threshold_value as value_of, next_threshold};
-ghost use Rattle.dbm_core.specs.Weights.{least};
 ghost use Rattle.dbm_narrow.specs.Entries.{AreEntries, IsEntry};
 ghost use Rattle.dbm_narrow.specs.Held.{IsNoneIf};
 ghost use Rattle.dbm_narrow.specs.Rows.{RestStays};
-ghost use Rattle.dbm_narrow.specs.Widenings.{AreWords, EachWidens, IsThresholdEntry, IsWidenedIf, RowWidensOn, WidensIf, WidensOn};
+ghost use Rattle.dbm_narrow.specs.Widenings.{EachWidens, IsThresholdEntry, IsWidenedIf, RowWidensOn, WidensIf, WidensOn};
 
 use crate::Narrow;
 use crate::convert::narrow_entry;
@@ -17,6 +15,7 @@ use crate::rows::{read, row_at, row_len};
 use crate::width::Width;
 use base_values::Memory;
 use dbm_core::other_sign;
+use num_thresholds::Thresholds;
 use std::alloc::Global;
 
 /// The widening of a matrix by another, as that of `dbm_core`: None where a bound goes to a threshold
@@ -37,7 +36,7 @@ pub fn widen<W: Width>(
         entries.as_mut_slice(),
         right.entries.as_slice(),
         left.kinds.list().len(),
-        thresholds,
+        &Thresholds::new(thresholds),
     ) {
         Ok(Some(Narrow { kinds, entries }))
     } else {
@@ -51,7 +50,7 @@ fn raise_rows<W: Width>(
     entries: &mut [Entry<W>],
     others: &[Entry<W>],
     slots: usize,
-    thresholds: &[i64],
+    thresholds: &Thresholds<'_>,
 ) -> bool
     requires few { slots ≤ 16 }
     requires size { length entries.old ≡ row_start (2 * slots) }
@@ -76,7 +75,7 @@ fn raise_row<W: Width>(
     entries: &mut [Entry<W>],
     others: &[Entry<W>],
     i: usize,
-    thresholds: &[i64],
+    thresholds: &Thresholds<'_>,
 ) -> bool
     requires row { i < 32 }
     requires size { row_start i + row_width i ≤ length entries.old }
@@ -101,7 +100,7 @@ fn raise_each<W: Width>(
     row: &mut [Entry<W>],
     others: &[Entry<W>],
     i: usize,
-    thresholds: &[i64],
+    thresholds: &Thresholds<'_>,
 ) -> bool
     requires node { i < 32 }
     requires size { length row.old ≤ 32 }
@@ -127,7 +126,7 @@ fn raise_each<W: Width>(
 // An entry stays where the new one is not greater, else it goes to the next threshold, if that fits.
 #[inline]
 fn widened_entry<W: Width>(
-    thresholds: &[i64],
+    thresholds: &Thresholds<'_>,
     doubled: bool,
     old: Entry<W>,
     new: Entry<W>,
@@ -147,7 +146,11 @@ fn widened_entry<W: Width>(
 }
 
 // The entry of the next threshold, if it fits.
-fn threshold_entry<W: Width>(thresholds: &[i64], doubled: bool, bound: Entry<W>) -> Option<Entry<W>>
+fn threshold_entry<W: Width>(
+    thresholds: &Thresholds<'_>,
+    doubled: bool,
+    bound: Entry<W>,
+) -> Option<Entry<W>>
     ensures entry { IsThresholdEntry W.unit (next_threshold thresholds.now doubled bound) result }
     ensures total { IsNoneIf W.checked result }
 {
@@ -155,55 +158,18 @@ fn threshold_entry<W: Width>(thresholds: &[i64], doubled: bool, bound: Entry<W>)
 }
 
 // The least of the thresholds, or of the thresholds doubled, that is not less than the bound.
-fn threshold_from<W: Width>(thresholds: &[i64], doubled: bool, bound: Entry<W>) -> Option<i128>
+fn threshold_from<W: Width>(
+    thresholds: &Thresholds<'_>,
+    doubled: bool,
+    bound: Entry<W>,
+) -> Option<i128>
     ensures threshold { result ≡ next_threshold thresholds.now doubled bound }
     ensures within { IsWithin (2 ^ 64) result }
 {
-    see_words(thresholds);
+    thresholds.rise();
     let start = bound.start(doubled)?;
-    let threshold = least_from(thresholds, start)?;
+    let threshold = thresholds.least_from(start)?;
     Some(threshold_value(threshold, doubled))
-}
-
-// Each threshold has 64 bits, as the loop sees, so that all are less than a start beyond those.
-#[inline]
-fn see_words(thresholds: &[i64])
-    ensures words { AreWords thresholds.now }
-{
-    for threshold in thresholds {
-        let _threshold = *threshold;
-    }
-}
-
-// The least of the thresholds that is not less than a number.
-fn least_from(thresholds: &[i64], from: i64) -> Option<i64>
-    ensures threshold { result ≡ next_threshold thresholds.now false from }
-{
-    let mut next = None;
-    for threshold in thresholds {
-        next = nearer_threshold(next, *threshold, from);
-    }
-    next
-}
-
-// The threshold where it is not less than a number and less than the next one that was found.
-fn nearer_threshold(next: Option<i64>, threshold: i64, from: i64) -> Option<i64>
-    ensures nearer { result ≡ cond (int_lt threshold from) next (least next (Some threshold)) }
-{
-    if threshold < from {
-        return next;
-    }
-    match next {
-        None => Some(threshold),
-        Some(found) => Some(lesser_threshold(found, threshold)),
-    }
-}
-
-// The lesser of two thresholds.
-fn lesser_threshold(a: i64, b: i64) -> i64
-    ensures value { result ≡ int_min a b }
-{
-    if b < a { b } else { a }
 }
 
 // A threshold, or its double.

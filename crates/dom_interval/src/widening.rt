@@ -1,9 +1,9 @@
 //! Widening of states, end by end, for `exact` of `widened`.
-ghost use Rattle.std.specs.Prelude.{◌≡◌, ◌<◌, ◌≤ℤ◌, pos, int_le, if◌then◌else◌, slice_index_or, length, IfOk, map};
+ghost use Rattle.std.specs.Prelude.{◌≡◌, ◌≤ℤ◌, int_le, if◌then◌else◌, IfOk, map};
 ghost use Rattle.std.specs.List.{zip};
 ghost use Rattle.std.specs.Int.{int_max, int_min};
+ghost use Rattle.dom_interval.specs.Nearest.{at_least, at_most};
 ghost use Rattle.dom_interval_meaning.specs.Widening as widening;
-ghost use Rattle.dom_interval_meaning.specs.Widening.{better_below, better_above};
 
 use crate::compare::within;
 use crate::evaluate::extremes_of;
@@ -11,6 +11,7 @@ use crate::guards::copy_of;
 use crate::state::Kept;
 use crate::{IntervalState, SlotRange};
 use num_bounds::Range;
+use num_thresholds::Thresholds;
 use std::alloc::{AllocError, Global};
 use std::marker::Model;
 
@@ -28,35 +29,6 @@ impl Model for End {
     ghost view = { λ a. a.value };
 
     ghost inverse = { λ z. record { value = z } };
-}
-
-/// The better one of the best so far and the threshold at a place.
-fn nearer_below(best: End, thresholds: &[i64], i: usize, high: End, end: End) -> End
-    requires within { i < length thresholds.now }
-    ensures exact { result ≡ better_below best (slice_index_or thresholds.now i (pos 0)) high end }
-{
-    let threshold = thresholds[i];
-    if threshold <= end.value && threshold <= high.value {
-        End {
-            value: threshold.max(best.value),
-        }
-    } else {
-        best
-    }
-}
-
-fn nearer_above(best: End, thresholds: &[i64], i: usize, low: End, end: End) -> End
-    requires within { i < length thresholds.now }
-    ensures exact { result ≡ better_above best (slice_index_or thresholds.now i (pos 0)) low end }
-{
-    let threshold = thresholds[i];
-    if end.value <= threshold && low.value <= threshold {
-        End {
-            value: threshold.min(best.value),
-        }
-    } else {
-        best
-    }
 }
 
 fn low_extreme(extremes: Range, end: End) -> End
@@ -89,31 +61,63 @@ fn high_of(range: Range) -> End
     End { value: range.hi() }
 }
 
+/// The lesser of two ends.
+fn lesser(a: End, b: End) -> End
+    ensures exact { result ≡ int_min a b }
+{
+    End {
+        value: a.value.min(b.value),
+    }
+}
+
+/// The greater of two ends.
+fn greater(a: End, b: End) -> End
+    ensures exact { result ≡ int_max a b }
+{
+    End {
+        value: a.value.max(b.value),
+    }
+}
+
+/// A threshold, if there is one, but no less than an end.
+fn at_least(threshold: Option<i64>, end: End) -> End
+    ensures exact { result ≡ at_least threshold end }
+{
+    match threshold {
+        Some(value) => greater(End { value }, end),
+        None => end,
+    }
+}
+
+/// A threshold, if there is one, but no more than an end.
+fn at_most(threshold: Option<i64>, end: End) -> End
+    ensures exact { result ≡ at_most threshold end }
+{
+    match threshold {
+        Some(value) => lesser(End { value }, end),
+        None => end,
+    }
+}
+
 /// The greatest threshold within the extremes that is not above the end, or the low extreme.
-fn threshold_below(thresholds: &[i64], extremes: Range, end: End) -> End
+fn threshold_below(thresholds: &Thresholds<'_>, extremes: Range, end: End) -> End
     ensures exact { result ≡ widening.threshold_below thresholds.now extremes end }
 {
-    let high = high_of(extremes);
-    let mut best = low_extreme(extremes, end);
-    for i in 0..thresholds.len() {
-        best = nearer_below(best, thresholds, i, high, end);
-    }
-    best
+    let top = lesser(high_of(extremes), end);
+    let threshold = thresholds.greatest_to(top.value);
+    at_least(threshold, low_extreme(extremes, end))
 }
 
 /// The least threshold within the extremes that is not below the end, or the high extreme.
-fn threshold_above(thresholds: &[i64], extremes: Range, end: End) -> End
+fn threshold_above(thresholds: &Thresholds<'_>, extremes: Range, end: End) -> End
     ensures exact { result ≡ widening.threshold_above thresholds.now extremes end }
 {
-    let low = low_of(extremes);
-    let mut best = high_extreme(extremes, end);
-    for i in 0..thresholds.len() {
-        best = nearer_above(best, thresholds, i, low, end);
-    }
-    best
+    let bottom = greater(low_of(extremes), end);
+    let threshold = thresholds.least_from(bottom.value);
+    at_most(threshold, high_extreme(extremes, end))
 }
 
-fn low_end(thresholds: &[i64], extremes: Range, l: End, r: End) -> End
+fn low_end(thresholds: &Thresholds<'_>, extremes: Range, l: End, r: End) -> End
     ensures exact { result ≡ (if int_le l r then l else widening.threshold_below thresholds.now
         extremes r) }
 {
@@ -124,7 +128,7 @@ fn low_end(thresholds: &[i64], extremes: Range, l: End, r: End) -> End
     }
 }
 
-fn high_end(thresholds: &[i64], extremes: Range, l: End, r: End) -> End
+fn high_end(thresholds: &Thresholds<'_>, extremes: Range, l: End, r: End) -> End
     ensures exact { result ≡ (if int_le r l then l else widening.threshold_above thresholds.now
         extremes r) }
 {
@@ -142,7 +146,7 @@ fn between(low: End, high: End) -> Range
     Range::from_ends(low.value, high.value)
 }
 
-fn widened_range(thresholds: &[i64], extremes: Range, l: Range, r: Range) -> Range
+fn widened_range(thresholds: &Thresholds<'_>, extremes: Range, l: Range, r: Range) -> Range
     ensures exact { result ≡ widening.widen_range thresholds.now extremes l r }
 {
     let low = low_end(thresholds, extremes, low_of(l), low_of(r));
@@ -152,7 +156,7 @@ fn widened_range(thresholds: &[i64], extremes: Range, l: Range, r: Range) -> Ran
 
 fn widened_slots(
     alloc: Global,
-    thresholds: &[i64],
+    thresholds: &Thresholds<'_>,
     left: &[SlotRange],
     right: &[SlotRange],
 ) -> Result<Vec<SlotRange>, AllocError>
@@ -179,7 +183,10 @@ pub fn widened(
     ensures exact { IfOk result (λ t. t ≡ widening.widen thresholds.now l.now r.now) }
 {
     match (&l.kept, &r.kept) {
-        (Kept::Within(a), Kept::Within(b)) => Ok(within(widened_slots(alloc, thresholds, a, b)?)),
+        (Kept::Within(a), Kept::Within(b)) => {
+            let thresholds = Thresholds::new(thresholds);
+            Ok(within(widened_slots(alloc, &thresholds, a, b)?))
+        }
         (Kept::Empty, _) => copy_of(r),
         (_, Kept::Empty) => copy_of(l),
     }

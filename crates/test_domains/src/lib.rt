@@ -16,3 +16,5 @@ mod matrices;
 mod steps;
 #[cfg(test)]
 mod texts;
+#[cfg(test)]
+mod thresholds;

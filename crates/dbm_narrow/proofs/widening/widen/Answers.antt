@@ -49,7 +49,7 @@ returns-then-raise_rows gen c =
     let true_is : c.raise_rows.result ≡ true = cc in
     let kept : Widens gen.W.Width.unit c.args.thresholds.now (2 * length c.left.inside.kinds) c.left.inside.entries.items c.right.inside.entries.items c.raise_rows.new.entries =
     λ i j hi wj. subst (λ (v : List ℤ). IsWidened gen.W.Width.unit c.args.thresholds.now (is_single i j) (at gen.W.Width.unit v (row_start i + j)) (at gen.W.Width.unit c.right.inside.entries.items (row_start i + j)) (at gen.W.Width.unit c.raise_rows.new.entries (row_start i + j))) x
-    (subst (λ (v : List ℤ). IsWidened gen.W.Width.unit c.args.thresholds.now (is_single i j) (at gen.W.Width.unit c.as_mut_slice.result.now (row_start i + j)) (at gen.W.Width.unit v (row_start i + j)) (at gen.W.Width.unit c.raise_rows.new.entries (row_start i + j))) o (c.raise_rows.ensures.kept true_is i j (omega arith) wj)) in
+    (subst (λ (v : List ℤ). IsWidened gen.W.Width.unit c.args.thresholds.now (is_single i j) (at gen.W.Width.unit c.as_mut_slice.result.now (row_start i + j)) (at gen.W.Width.unit v (row_start i + j)) (at gen.W.Width.unit c.raise_rows.new.entries (row_start i + j))) o (subst (λ (ms : List ℤ). IsWidened gen.W.Width.unit ms (is_single i j) (at gen.W.Width.unit c.as_mut_slice.result.now (row_start i + j)) (at gen.W.Width.unit c.as_slice-2.result.now (row_start i + j)) (at gen.W.Width.unit c.raise_rows.new.entries (row_start i + j))) c.new.ensures.are (c.raise_rows.ensures.kept true_is i j (omega arith) wj))) in
     record {
       total = tt;
       widens = subst (λ (a : HalfMatrix). HasEntries a.kinds (widened c.args.thresholds.now a c.args.right.now) (held gen.W.Width.unit c.in_ok-kinds.kinds (with_items c.in_ok-entries.entries c.raise_rows.new.entries).items)) c.left.view_is
@@ -70,6 +70,6 @@ invariant_of-result gen c =
     let true_is : c.raise_rows.result ≡ true = cc in
     let kept : Widens gen.W.Width.unit c.args.thresholds.now (2 * length c.left.inside.kinds) c.left.inside.entries.items c.right.inside.entries.items c.raise_rows.new.entries =
     λ i j hi wj. subst (λ (v : List ℤ). IsWidened gen.W.Width.unit c.args.thresholds.now (is_single i j) (at gen.W.Width.unit v (row_start i + j)) (at gen.W.Width.unit c.right.inside.entries.items (row_start i + j)) (at gen.W.Width.unit c.raise_rows.new.entries (row_start i + j))) x
-    (subst (λ (v : List ℤ). IsWidened gen.W.Width.unit c.args.thresholds.now (is_single i j) (at gen.W.Width.unit c.as_mut_slice.result.now (row_start i + j)) (at gen.W.Width.unit v (row_start i + j)) (at gen.W.Width.unit c.raise_rows.new.entries (row_start i + j))) o (c.raise_rows.ensures.kept true_is i j (omega arith) wj)) in
+    (subst (λ (v : List ℤ). IsWidened gen.W.Width.unit c.args.thresholds.now (is_single i j) (at gen.W.Width.unit c.as_mut_slice.result.now (row_start i + j)) (at gen.W.Width.unit v (row_start i + j)) (at gen.W.Width.unit c.raise_rows.new.entries (row_start i + j))) o (subst (λ (ms : List ℤ). IsWidened gen.W.Width.unit ms (is_single i j) (at gen.W.Width.unit c.as_mut_slice.result.now (row_start i + j)) (at gen.W.Width.unit c.as_slice-2.result.now (row_start i + j)) (at gen.W.Width.unit c.raise_rows.new.entries (row_start i + j))) c.new.ensures.are (c.raise_rows.ensures.kept true_is i j (omega arith) wj))) in
     subst (λ (k : List Bool). IsNarrow gen.W.Width.unit k (with_items c.in_ok-entries.entries c.raise_rows.new.entries).items) (sym k)
     (subst (λ (x : List ℤ). IsNarrow gen.W.Width.unit c.left.inside.kinds x) (sym w) (widened-narrow gen.W.Width.unit gen.W.Width.positive c.args.thresholds.now c.left.inside.kinds c.right.inside.kinds c.left.inside.entries.items c.right.inside.entries.items c.raise_rows.new.entries c.left.invariant c.right.invariant kk (c.raise_rows.auto.entries ∙ ap length x) kept (c.raise_rows.ensures.entries true_is)))

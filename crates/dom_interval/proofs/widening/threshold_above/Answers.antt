@@ -1,12 +1,17 @@
-use Rattle.std.proofs.Common.{arith}
-use Rattle.dom_interval.proofs.Thresholds.{best_above-first, best_above-next, best_above-last}
+use Rattle.std.proofs.Common.{rules, ◌≡◌, ◌∙◌, ap, FitsSigned}
+use Rattle.std.specs.Int.{w64, int_max}
+use Rattle.std.proofs.lemmas.Int.{to_z-of_z}
+use Rattle.num_thresholds.specs.Thresholds.{least_from}
+use Rattle.dom_interval.specs.Nearest.{at_most}
+use Rattle.dom_interval.proofs.Thresholds.{above-is}
 use Rattle.dom_interval.proofs.widening.threshold_above.Goals as goal
 
-pub loop-i-init : goal.loop-i-init
-loop-i-init c = best_above-first c.args.thresholds.now c.args.extremes c.args.end c.high_extreme-best.result c.high_extreme-best.ensures.exact
-
-pub loop-i-preserved : goal.loop-i-preserved
-loop-i-preserved c = best_above-next c.args.thresholds.now c.args.extremes c.args.end c.loop-i.best c.low_of-low.result c.nearer_above-best.result c.loop-i.i (omega arith) c.low_of-low.ensures.exact c.nearer_above-best.ensures.exact c.loop-i.invariant
-
 pub returns : goal.returns
-returns c = record { exact = best_above-last c.args.thresholds.now c.args.extremes c.args.end c.loop-i.best c.loop-i.i (omega arith) c.loop-i.invariant }
+returns c =
+    let ms = c.args.thresholds.now in
+    let e = c.args.extremes in
+    let z = c.args.end in
+    let f : FitsSigned w64 c.bottom.inside.value = search rules in
+    let bottom : c.bottom.inside.value ≡ int_max e.lo z = c.bottom.view_is ∙ c.greater-bottom.ensures.exact ∙ ap (λ h. int_max h z) c.low_of.ensures.exact in
+    let found : c.least_from-threshold.result ≡ least_from ms c.bottom.inside.value = rw (to_z-of_z w64 c.bottom.inside.value f) at c.least_from-threshold.ensures.least in
+    record { exact = c.at_most.ensures.exact ∙ (λ i. at_most ((found ∙ ap (least_from ms) bottom) i) (c.high_extreme.ensures.exact i)) ∙ above-is ms e z }

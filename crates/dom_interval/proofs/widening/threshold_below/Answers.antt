@@ -1,12 +1,17 @@
-use Rattle.std.proofs.Common.{arith}
-use Rattle.dom_interval.proofs.Thresholds.{best_below-first, best_below-next, best_below-last}
+use Rattle.std.proofs.Common.{rules, ◌≡◌, ◌∙◌, ap, FitsSigned}
+use Rattle.std.specs.Int.{w64, int_min}
+use Rattle.std.proofs.lemmas.Int.{to_z-of_z}
+use Rattle.num_thresholds.specs.Thresholds.{greatest_to}
+use Rattle.dom_interval.specs.Nearest.{at_least}
+use Rattle.dom_interval.proofs.Thresholds.{below-is}
 use Rattle.dom_interval.proofs.widening.threshold_below.Goals as goal
 
-pub loop-i-init : goal.loop-i-init
-loop-i-init c = best_below-first c.args.thresholds.now c.args.extremes c.args.end c.low_extreme-best.result c.low_extreme-best.ensures.exact
-
-pub loop-i-preserved : goal.loop-i-preserved
-loop-i-preserved c = best_below-next c.args.thresholds.now c.args.extremes c.args.end c.loop-i.best c.high_of-high.result c.nearer_below-best.result c.loop-i.i (omega arith) c.high_of-high.ensures.exact c.nearer_below-best.ensures.exact c.loop-i.invariant
-
 pub returns : goal.returns
-returns c = record { exact = best_below-last c.args.thresholds.now c.args.extremes c.args.end c.loop-i.best c.loop-i.i (omega arith) c.loop-i.invariant }
+returns c =
+    let ms = c.args.thresholds.now in
+    let e = c.args.extremes in
+    let z = c.args.end in
+    let f : FitsSigned w64 c.top.inside.value = search rules in
+    let top : c.top.inside.value ≡ int_min e.hi z = c.top.view_is ∙ c.lesser-top.ensures.exact ∙ ap (λ h. int_min h z) c.high_of.ensures.exact in
+    let found : c.greatest_to-threshold.result ≡ greatest_to ms c.top.inside.value = rw (to_z-of_z w64 c.top.inside.value f) at c.greatest_to-threshold.ensures.greatest in
+    record { exact = c.at_least.ensures.exact ∙ (λ i. at_least ((found ∙ ap (greatest_to ms) top) i) (c.low_extreme.ensures.exact i)) ∙ below-is ms e z }

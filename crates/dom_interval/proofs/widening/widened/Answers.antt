@@ -16,7 +16,7 @@ returns-in_ok-widened_slots-in-Within-Within c =
     record {
       exact = slots_widened c.args.thresholds.now c.args.l.now c.args.r.now c.within.result arm.a.items arm.b.items c.in_ok-widened_slots-in-Within-Within.field-0.items
           c.within.ensures.exact
-          (c.in_ok-widened_slots-in-Within-Within.ensures.exact ∙ (λ i. map (λ p. widen_slot c.args.thresholds.now p.0 p.1) (zip (c.deref.ensures.value i) (c.deref-in-Within-Within.ensures.value i))))
+          (c.in_ok-widened_slots-in-Within-Within.ensures.exact ∙ (λ i. map (λ p. widen_slot (c.new-thresholds.ensures.are i) p.0 p.1) (zip (c.deref.ensures.value i) (c.deref-in-Within-Within.ensures.value i))))
           (sym (ap intervals_of arm.is-0) ∙ c.l.view_is)
           (sym (ap intervals_of arm.is-1) ∙ c.r.view_is);
     }
