@@ -198,17 +198,17 @@ def test_program_of_a_checkout() -> None:
         (here / "tools").mkdir()
         (here / "daig").write_text("#!/bin/sh\necho building >>built\ntouch daig.built\nexit 3\n")
         (here / "daig").chmod(0o755)
-        assert launched_program(here) == str(here / "daig")
+        assert launched_program(str(here)) == str(here / "daig")
         (here / "tools/places.sh").write_text('[ "$2" = quick ] && [ -e "$1/daig.built" ] && echo "$1/program"\n')
         before = os.getcwd()
         os.chdir(here)
         try:
-            assert [launched_program(here) for _ in range(2)] == [str(here / "program")] * 2
+            assert [launched_program(str(here)) for _ in range(2)] == [str(here / "program")] * 2
             assert (here / "built").read_text() == "building\n"
             (here / "daig.built").unlink()
             (here / "daig").write_text("#!/bin/sh\nexit 1\n")
             try:
-                raise AssertionError(launched_program(here))
+                raise AssertionError(launched_program(str(here)))
             except NoProgramFound as why:
                 assert "has not built the program" in str(why)
         finally:

@@ -13,6 +13,7 @@ from tests.check_tool import EXAMPLES, SAFE, TOOL, folder
 from tests.program import program
 
 FILES, SECONDS = 200, 3.0
+RUNS, SECONDS_OF_ONE = 20, 0.12
 
 
 def test_two_hundred_files() -> None:
@@ -33,8 +34,25 @@ def test_two_hundred_files() -> None:
     assert used <= SECONDS, used
 
 
+def test_one_file() -> None:
+    """One file takes at most 0.12 s of processor time in the best of some runs, that of its server and of Python included."""
+    with folder(a_imp=SAFE) as here:
+        environment = {**os.environ, "DAIG_PROGRAM": program(), "PYTHONPYCACHEPREFIX": str(here / "kept")}
+        environment.pop("PYTHONDONTWRITEBYTECODE", None)
+        took = []
+        for _ in range(RUNS):
+            before = resource.getrusage(resource.RUSAGE_CHILDREN)
+            done = subprocess.run([sys.executable, str(TOOL), "a.imp"], cwd=here, env=environment, capture_output=True)
+            after = resource.getrusage(resource.RUSAGE_CHILDREN)
+            assert done.returncode == 0, done
+            took.append(after.ru_utime + after.ru_stime - before.ru_utime - before.ru_stime)
+    print(f"one file: {min(took):.3f} s of a processor at best, load {os.getloadavg()[0]:.1f}")
+    assert min(took) <= SECONDS_OF_ONE, took
+
+
 # What a check of one good file does without, and what would take longer to load than the check takes.
 NOT_LOADED = {"_ssl", "asyncio", "hashlib", "difflib", "tomllib", "html"}
+NOT_LOADED |= {"dataclasses", "inspect", "pathlib", "shutil", "tempfile", "random", "urllib.parse"}
 NOT_LOADED |= {
     f"daig_editor.{it}"
     for it in ("protocol", "language.kinds", "checking.comparison", "checking.certificates", "reports.sarif")

@@ -3,7 +3,6 @@ from __future__ import annotations
 
 from collections import Counter
 from contextlib import asynccontextmanager, contextmanager
-from dataclasses import dataclass, replace
 from typing import TYPE_CHECKING, AsyncIterator, Iterator, Mapping
 
 from daig_editor.checking.asking import NEVER_REACHED, BadReply, Over, Served, ordinals
@@ -21,6 +20,7 @@ from daig_editor.checking.words import (
 )
 from daig_editor.language.checks import SLIGHT, evaluated_at, fault_of
 from daig_editor.language.places import SourceText
+from daig_editor.language.records import dataclass, replace
 from daig_editor.language.tokens import GREATEST_SOURCE
 from daig_editor.language.tree import Program, Span, Stmt, StmtKind, number_from_one
 from daig_editor.language.words import fault_words

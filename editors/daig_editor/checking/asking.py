@@ -1,10 +1,10 @@
 """A server with the program that it has: asked in the terms of the program, its replies tested."""
 from __future__ import annotations
 
-from dataclasses import dataclass
 from typing import Iterable, NamedTuple
 
 from daig_editor.language.checks import check_of, rule_of, rules_of
+from daig_editor.language.records import dataclass
 from daig_editor.language.tree import Placed, Proc, Program, Stmt
 from daig_editor.language.words import NEVER, is_never, state_lines
 from daig_editor.server.choices import Faults

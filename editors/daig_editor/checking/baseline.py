@@ -2,8 +2,8 @@
 from __future__ import annotations
 
 import json
-from dataclasses import dataclass
 
+from daig_editor.language.records import dataclass
 from daig_editor.reports.tool import FAULTS_PROPERTY, PRINT
 from daig_editor.server.choices import Faults
 

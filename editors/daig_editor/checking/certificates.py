@@ -10,10 +10,10 @@ import json
 import os
 import stat
 import tempfile
-from dataclasses import dataclass
 from typing import Iterator
 
 from daig_editor.checking.single_run import run_once
+from daig_editor.language.records import dataclass
 from daig_editor.language.text import TextReader
 from daig_editor.language.tree import number_from_one
 from daig_editor.reports.finding import TROUBLE, WHOLE_FILE, CheckedFile, Finding, Key, Level, trouble

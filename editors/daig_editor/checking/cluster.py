@@ -15,7 +15,6 @@ import uuid
 import zipfile
 from collections import deque
 from contextlib import asynccontextmanager
-from dataclasses import dataclass
 from importlib import import_module
 from io import BytesIO
 from pathlib import Path
@@ -24,6 +23,7 @@ from typing import Any, AsyncIterator, Callable, Coroutine, Mapping, Protocol
 from daig_editor.checking.analysing import Text
 from daig_editor.checking.analysis import Wanted
 from daig_editor.checking.cluster_process import Request, checked_files
+from daig_editor.language.records import dataclass
 from daig_editor.language.places import SourceText
 from daig_editor.reports.finding import CheckedFile, troubled
 from daig_editor.server.ending import cancelled

@@ -4,7 +4,6 @@ from __future__ import annotations
 import asyncio
 import pickle
 import sys
-from dataclasses import dataclass, replace
 from io import BytesIO
 from typing import BinaryIO
 
@@ -13,6 +12,7 @@ from daig_editor.checking.analysis import Wanted
 from daig_editor.checking.sources import Source
 from daig_editor.checking.work import in_order
 from daig_editor.language.places import SourceText
+from daig_editor.language.records import dataclass, replace
 from daig_editor.reports.finding import CheckedFile
 from daig_editor.server.choices import found_program
 from daig_editor.server.process import DaigProcess

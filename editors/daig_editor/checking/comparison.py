@@ -1,8 +1,6 @@
 """What a change does: the old text is served, the change sent as edits, and what is known before and after compared."""
 from __future__ import annotations
 
-from dataclasses import dataclass, field, replace
-
 from daig_editor.checking.analysis import Wanted, add_findings, analyse, served, told_in
 from daig_editor.checking.asking import Served, State, ordinals
 from daig_editor.checking.matching import Matches, Spot
@@ -11,6 +9,7 @@ from daig_editor.checking.revisions import OldText
 from daig_editor.checking.words import state_words, verdict_words
 from daig_editor.language.edits import NoPlan, plan
 from daig_editor.language.places import SourceText
+from daig_editor.language.records import dataclass, field, replace
 from daig_editor.language.tree import Program, Span, number_from_one
 from daig_editor.reports.finding import WHOLE_FILE, CheckedFile, Finding, Key, Level, trouble
 from daig_editor.reports.shown import plural

@@ -7,11 +7,11 @@ from __future__ import annotations
 import importlib
 import os
 import sys
-from dataclasses import dataclass
 from functools import lru_cache
 from typing import Callable
 
 from daig_editor.checking.patterns import Patterns
+from daig_editor.language.records import dataclass
 from daig_editor.server.choices import DOMAINS, FAULTS
 from daig_editor.reports.project import CONFIGURATION
 from daig_editor.reports.suggestion import meant

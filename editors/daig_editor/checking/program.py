@@ -1,14 +1,11 @@
 """The program that is asked: as it is named, else the one of this checkout, else an installed one."""
 from __future__ import annotations
 
-import subprocess
+import os
 from contextlib import suppress
-from pathlib import Path
 
-from daig_editor.server.choices import found_program
+from daig_editor.server.choices import TOP, found_program
 
-# The checkout, or the folder of an installation, which has a line on what was built in the file `build`.
-CHECKOUT = Path(__file__).resolve().parents[3]
 BUILT = ("proved", "quick")
 
 
@@ -21,14 +18,16 @@ def program_to_ask(named: str | None) -> str:
     found = named or found_program()
     if found is None:
         raise NoProgramFound("there is no program daig: name it by --program PATH or by DAIG_PROGRAM")
-    return launched_program(CHECKOUT) if found == str(CHECKOUT / "daig") else found
+    return launched_program(TOP) if found == os.path.join(TOP, "daig") else found
 
 
-def launched_program(checkout: Path) -> str:
+def launched_program(checkout: str) -> str:
     """The program that a checkout's launcher starts, so that it is looked for once and not for each file."""
-    launcher = checkout / "daig"
-    if not (checkout / "tools/places.sh").is_file():
-        return str(launcher)
+    launcher = os.path.join(checkout, "daig")
+    if not os.path.isfile(os.path.join(checkout, "tools/places.sh")):
+        return launcher
+    import subprocess
+
     built = _built(checkout)
     if built is None:
         # It builds the program, and says on standard error how far it is, before it refuses the empty text.
@@ -40,28 +39,39 @@ def launched_program(checkout: Path) -> str:
     return built
 
 
-def build_words(checkout: Path = CHECKOUT) -> str:
+def build_words(checkout: str = TOP) -> str:
     """The commit, and what kind of program is built, in brackets; with the program that is asked, if it is another."""
-    build = checkout / "build"
-    told = f"({build.read_text()})" if build.is_file() else _words_of_launcher(checkout / "daig")
-    found = found_program()
-    return told if found in (None, str(checkout / "daig")) else f"{told}, asks {found}"
+    launcher, found = os.path.join(checkout, "daig"), found_program()
+    told = _words_of_file(os.path.join(checkout, "build")) or _words_of_launcher(launcher)
+    return told if found in (None, launcher) else f"{told}, asks {found}"
 
 
-def _words_of_launcher(launcher: Path) -> str:
+def _words_of_file(build: str) -> str:
+    """What an installation tells of its build, in a line; nothing where it is none."""
+    if not os.path.isfile(build):
+        return ""
+    with open(build) as text:
+        return f"({text.read()})"
+
+
+def _words_of_launcher(launcher: str) -> str:
     """What a checkout's launcher tells of its build."""
+    import subprocess
+
     with suppress(OSError):
-        words = [str(launcher), "--version"]
+        words = [launcher, "--version"]
         done = subprocess.run(words, stdin=subprocess.DEVNULL, capture_output=True, text=True)
         if done.returncode == 0 and "(" in done.stdout:
             return done.stdout[done.stdout.index("(") :].strip()
     return "(of no known build)"
 
 
-def _built(checkout: Path) -> str | None:
+def _built(checkout: str) -> str | None:
     """The program that is built and fresh, if one is."""
+    import subprocess
+
     for kind in BUILT:
-        words = ["sh", str(checkout / "tools/places.sh"), str(checkout), kind]
+        words = ["sh", os.path.join(checkout, "tools/places.sh"), checkout, kind]
         with suppress(OSError):
             done = subprocess.run(words, stdin=subprocess.DEVNULL, capture_output=True, text=True)
             if done.returncode == 0 and done.stdout.strip():

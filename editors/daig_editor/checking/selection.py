@@ -1,10 +1,9 @@
 """Which findings of a file are told: not those that a comment ignores, that are of other rules, or that are known."""
 from __future__ import annotations
 
-from dataclasses import dataclass, replace
-
 from daig_editor.checking.baseline import Baseline
 from daig_editor.language.ignores import Ignore, ignores_of, lines_of_span
+from daig_editor.language.records import dataclass, replace
 from daig_editor.reports.finding import TROUBLE, TROUBLE_RULES, CheckedFile, Finding, Key, Level
 from daig_editor.reports.suggestion import meant
 from daig_editor.reports.tool import CHECK_RULES, IGNORE_RULE

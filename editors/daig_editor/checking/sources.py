@@ -4,11 +4,11 @@ from __future__ import annotations
 import os
 import stat
 import sys
-from dataclasses import dataclass, field
 from typing import Iterator, NamedTuple
 
 from daig_editor.checking.configuration import Configurations
 from daig_editor.checking.patterns import Patterns
+from daig_editor.language.records import dataclass, field
 from daig_editor.language.tokens import GREATEST_SOURCE
 from daig_editor.reports.project import STANDARD_INPUT, STANDARD_INPUT_NAME
 

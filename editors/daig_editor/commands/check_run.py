@@ -6,7 +6,6 @@ import contextlib
 import math
 import os
 import sys
-from dataclasses import dataclass, replace
 from importlib import import_module
 from typing import TYPE_CHECKING, AsyncIterator, Iterator
 
@@ -19,6 +18,7 @@ from daig_editor.checking.program import program_to_ask
 from daig_editor.checking.selection import Limit, Selection
 from daig_editor.checking.sources import Source, bytes_of, sources_of, standard_input
 from daig_editor.checking.sources import Wanted as WantedFiles
+from daig_editor.language.records import dataclass, replace
 from daig_editor.server.choices import DOMAIN, Faults
 from daig_editor.reports.finding import CheckedFile, troubled
 from daig_editor.reports.output import Output, output_to

@@ -1,9 +1,8 @@
 """Puts the pieces of a text together to a program."""
 from __future__ import annotations
 
-from dataclasses import dataclass, replace
-
 from daig_editor.language.pieces import Piece, PieceKind, PieceReader
+from daig_editor.language.records import dataclass, replace
 from daig_editor.language.tokens import Fault
 from daig_editor.language.tree import Proc, Program, Span, Stmt, StmtKind
 

@@ -7,10 +7,10 @@ declaration that went or a changed parameter, has no plan: the text has to be lo
 """
 from __future__ import annotations
 
-from dataclasses import dataclass
 from difflib import SequenceMatcher
 from typing import Iterator
 
+from daig_editor.language.records import dataclass
 from daig_editor.language.tree import Proc, Program, Stmt, StmtKind, proc_text, stmts_text
 
 # The server keeps so many programs, so a plan of more requests could not be taken back.

@@ -1,9 +1,9 @@
 """The values of expressions and conditions, as the language says; see docs/LANGUAGE.md."""
 from __future__ import annotations
 
-from dataclasses import dataclass
 from typing import Any, Callable
 
+from daig_editor.language.records import dataclass
 from daig_editor.language.tokens import RELATIONS, tokens
 
 GREATEST = 2**63 - 1

@@ -5,9 +5,9 @@ Such a comment is of the line that it stands on, or, where that has nothing else
 from __future__ import annotations
 
 import re
-from dataclasses import dataclass
 
 from daig_editor.language.places import SourceText
+from daig_editor.language.records import dataclass
 from daig_editor.language.tree import Span
 
 _BEGIN = b"daig:"

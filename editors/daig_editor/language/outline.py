@@ -2,10 +2,10 @@
 from __future__ import annotations
 
 from bisect import bisect_right
-from dataclasses import dataclass, field
 from functools import cached_property
 from typing import NamedTuple
 
+from daig_editor.language.records import dataclass, field
 from daig_editor.language.tokens import KINDS, Token, scanned
 from daig_editor.language.tree import Span, Variable
 

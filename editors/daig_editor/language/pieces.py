@@ -5,10 +5,10 @@ a loop, an `else {`, or a `}`. The grammar is that of docs/LANGUAGE.md.
 """
 from __future__ import annotations
 
-from dataclasses import dataclass
 from enum import Enum
 from itertools import islice
 
+from daig_editor.language.records import dataclass
 from daig_editor.language.tokens import KINDS, RELATIONS, Fault, Token, tokens
 from daig_editor.language.tree import Span, Variable
 

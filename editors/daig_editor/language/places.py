@@ -2,10 +2,10 @@
 from __future__ import annotations
 
 from bisect import bisect_right
-from dataclasses import dataclass, field
 from itertools import accumulate
 from typing import Sequence
 
+from daig_editor.language.records import dataclass, field
 from daig_editor.language.text import equal_front
 from daig_editor.language.tree import Span
 

@@ -1,10 +1,9 @@
 """What is wrong with a text that is no program, and what could be meant, at the very place."""
 from __future__ import annotations
 
-from dataclasses import dataclass
-
 from daig_editor.language.kinds import kind_mistakes
 from daig_editor.language.outline import Outline, ProcOutline
+from daig_editor.language.records import dataclass
 from daig_editor.language.text import span_of_fault
 from daig_editor.language.tokens import GREATEST_SOURCE, RESERVED, Fault
 from daig_editor.language.tree import Program, Span

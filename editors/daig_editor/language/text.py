@@ -8,11 +8,11 @@ from __future__ import annotations
 
 import re
 from bisect import bisect_left
-from dataclasses import dataclass
 from typing import Iterator
 
 from daig_editor.language.building import ProgramBuilder, Unread
 from daig_editor.language.pieces import Piece, PieceReader
+from daig_editor.language.records import dataclass
 from daig_editor.language.tokens import Fault, spelling_fault, token_at, token_number
 from daig_editor.language.tree import Proc, Program, Span
 

@@ -5,9 +5,9 @@ A token never goes over the end of a line, and neither does a comment: what a li
 from __future__ import annotations
 
 import re
-from dataclasses import dataclass, field
 from typing import Iterator, NamedTuple
 
+from daig_editor.language.records import dataclass, field
 from daig_editor.language.tree import Span
 
 RESERVED = frozenset(

@@ -7,9 +7,10 @@ byte.
 from __future__ import annotations
 
 from bisect import bisect_right
-from dataclasses import dataclass, field
 from enum import Enum
 from typing import Iterator, NamedTuple
+
+from daig_editor.language.records import dataclass, field
 
 
 class Span(NamedTuple):

@@ -2,8 +2,9 @@
 from __future__ import annotations
 
 import re
-from dataclasses import dataclass
 from typing import Sequence
+
+from daig_editor.language.records import dataclass
 
 LONGEST_ARRAY = "1000000"
 NEVER, NO_VARIABLES, ANYTHING = "never reached", "no variables", "anything"

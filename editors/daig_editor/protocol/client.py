@@ -3,9 +3,9 @@ from __future__ import annotations
 
 import asyncio
 import time
-from dataclasses import dataclass
 from typing import BinaryIO
 
+from daig_editor.language.records import dataclass
 from daig_editor.protocol.wire import Json, RpcError, member, write_message
 
 SOURCE = "daig"

@@ -3,10 +3,10 @@ from __future__ import annotations
 
 import os
 import shutil
-from dataclasses import replace
 from urllib.parse import unquote, urlsplit
 
 from daig_editor.checking.configuration import Configurations
+from daig_editor.language.records import replace
 from daig_editor.server.choices import DOMAIN, DOMAINS, FAULTS, WIDENINGS, Faults, found_program
 from daig_editor.server.process import Settings
 from daig_editor.server.watching import Options

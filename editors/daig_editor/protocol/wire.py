@@ -4,8 +4,9 @@ from __future__ import annotations
 import asyncio
 import json
 import sys
-from dataclasses import dataclass
 from typing import BinaryIO
+
+from daig_editor.language.records import dataclass
 
 Json = dict[str, object]
 

@@ -2,12 +2,12 @@
 from __future__ import annotations
 
 import json
-from dataclasses import dataclass, field, fields
 from enum import Enum, IntEnum
 from functools import cached_property
 from typing import NamedTuple
 
 from daig_editor.language.places import SourceText
+from daig_editor.language.records import dataclass, field
 from daig_editor.language.tree import Span
 from daig_editor.reports.project import ProjectPath, project_path
 
@@ -102,8 +102,8 @@ class Tally:
 
     def add(self, other: Tally) -> None:
         """Adds the counts of another file."""
-        for it in fields(Tally):
-            setattr(self, it.name, getattr(self, it.name) + getattr(other, it.name))
+        for name, many in vars(other).items():
+            setattr(self, name, getattr(self, name) + many)
 
 
 class StateLine(NamedTuple):

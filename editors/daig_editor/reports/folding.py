@@ -2,11 +2,11 @@
 notes of a file on numbers that may pass their limits."""
 from __future__ import annotations
 
-from dataclasses import replace
 from itertools import groupby
 from typing import Iterator
 
 from daig_editor.language.places import SourceText
+from daig_editor.language.records import replace
 from daig_editor.language.words import NEVER
 from daig_editor.reports.finding import CheckedFile, Finding, Level
 from daig_editor.reports.regions import lines_of

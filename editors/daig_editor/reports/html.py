@@ -1,11 +1,11 @@
 """The report as one page: the texts with what is known beside them. No script, and nothing is loaded from elsewhere."""
 from __future__ import annotations
 
-from dataclasses import replace
 from html import escape
 from typing import Iterator, TypeVar
 
 from daig_editor.language.places import SourceText
+from daig_editor.language.records import replace
 from daig_editor.language.tree import Span
 from daig_editor.reports.finding import CheckedFile, Finding, Level
 from daig_editor.reports.report import CANNOT_FAIL, Totals

@@ -5,7 +5,6 @@ import contextlib
 import os
 import stat
 import sys
-import tempfile
 from typing import BinaryIO, Protocol
 
 
@@ -62,6 +61,8 @@ class FileOutput:
     def __init__(self, path: str) -> None:
         self._path = path
         folder, name = os.path.split(path)
+        import tempfile
+
         handle, self._other = tempfile.mkstemp(prefix=f".{name[:100]}.", suffix=".new", dir=folder or ".")
         self._file = os.fdopen(handle, "wb")
 

@@ -2,7 +2,6 @@
 from __future__ import annotations
 
 import contextlib
-import shutil
 import sys
 from typing import TextIO
 
@@ -25,6 +24,8 @@ class Progress:
         """A file is checked."""
         self._done += 1
         if self._live:
+            import shutil
+
             columns = shutil.get_terminal_size().columns
             self._say(CLEAR + f"[{self._done}/{self._total}] {shown(name)}"[: columns - 1])
 

@@ -2,9 +2,9 @@
 from __future__ import annotations
 
 import os
-from dataclasses import dataclass, field
 from typing import Protocol
 
+from daig_editor.language.records import dataclass, field
 from daig_editor.reports.finding import CLEAN, TROUBLE, CheckedFile, Tally
 from daig_editor.reports.shown import plural, shown
 

@@ -1,7 +1,8 @@
 """What the tool says of itself: its name, its version, and the rules that its findings have."""
 from __future__ import annotations
 
-from dataclasses import dataclass
+from daig_editor.language.records import dataclass
+
 
 NAME = "daig-check"
 VERSION = "1.0"

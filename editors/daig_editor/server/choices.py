@@ -2,7 +2,6 @@
 from __future__ import annotations
 
 import os
-import shutil
 from enum import Enum
 
 DOMAINS = ("interval", "octagon", "listseg", "interval+listseg", "octagon+listseg")
@@ -19,7 +18,8 @@ class Faults(Enum):
 
 
 FAULTS = tuple(it.value for it in Faults)
-_TOP = os.path.dirname(os.path.dirname(os.path.dirname(os.path.dirname(os.path.realpath(__file__)))))
+# The checkout, or the folder of an installation.
+TOP = os.path.dirname(os.path.dirname(os.path.dirname(os.path.dirname(os.path.realpath(__file__)))))
 
 
 def found_program() -> str | None:
@@ -27,5 +27,9 @@ def found_program() -> str | None:
     named = os.environ.get("DAIG_PROGRAM")
     if named:
         return named
-    beside = os.path.join(_TOP, "daig")
-    return beside if os.path.isfile(beside) and os.access(beside, os.X_OK) else shutil.which("daig")
+    beside = os.path.join(TOP, "daig")
+    if os.path.isfile(beside) and os.access(beside, os.X_OK):
+        return beside
+    import shutil  # its load takes longer than the search
+
+    return shutil.which("daig")

@@ -1,10 +1,9 @@
 """What the server finds in a program: faults that may come, and the loop that used up its budget."""
 from __future__ import annotations
 
-from dataclasses import dataclass, field
-
 from daig_editor.language.checks import SLIGHT
 from daig_editor.language.places import SourceText
+from daig_editor.language.records import dataclass, field
 from daig_editor.language.tree import Placed
 
 

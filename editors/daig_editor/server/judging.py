@@ -2,11 +2,11 @@
 from __future__ import annotations
 
 from collections import Counter
-from dataclasses import replace
 from typing import Any, Callable
 
 from daig_editor.language.checks import CHECKS, check_of, evaluated_at, many_checks, many_faults, rule_of, rules_of
 from daig_editor.language.ignores import ignored_rules, lines_of_span
+from daig_editor.language.records import replace
 from daig_editor.language.tree import Placed, Program, Stmt, StmtKind
 from daig_editor.language.words import is_never, over_words
 from daig_editor.server.asking import Asker, TookLong

@@ -5,11 +5,10 @@ import json
 import os
 import resource
 import signal
-import tempfile
 from contextlib import contextmanager, suppress
-from dataclasses import dataclass
 from typing import Awaitable, Callable, Iterator, Protocol
 
+from daig_editor.language.records import dataclass
 from daig_editor.language.tokens import GREATEST_SOURCE
 
 Reply = dict[str, object]
@@ -88,7 +87,7 @@ class Gone(Exception):
 def text_file(text: bytes) -> Iterator[str]:
     """A file with a text, from which a server loads it; raises `NotStarted`."""
     try:
-        handle, path = tempfile.mkstemp(suffix=".imp")
+        handle, path = _new_file()
     except OSError as error:
         raise NotStarted(f"no file for the text can be made: {error.strerror}") from None
     try:
@@ -100,6 +99,17 @@ def text_file(text: bytes) -> Iterator[str]:
         yield path
     finally:
         os.unlink(path)
+
+
+def _new_file() -> tuple[int, str]:
+    """A new file, open, which nobody else can open, and its path."""
+    folder = os.environ.get("TMPDIR") or "/tmp"
+    path = os.path.join(folder, f"daig-{os.urandom(8).hex()}.imp")
+    with suppress(OSError):
+        return os.open(path, os.O_WRONLY | os.O_CREAT | os.O_EXCL | os.O_CLOEXEC, 0o600), path
+    import tempfile  # finds other folders, and takes long to load
+
+    return tempfile.mkstemp(suffix=".imp")
 
 
 def bound_memory(pid: int, settings: Settings) -> None:

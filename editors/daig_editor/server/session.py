@@ -1,11 +1,11 @@
 """A server that follows a text: led from one program to the next by edit requests, or started anew."""
 from __future__ import annotations
 
-from dataclasses import asdict, dataclass
 from typing import Callable
 
 from daig_editor.language.edits import NoPlan, plan
 from daig_editor.language.places import SourceText
+from daig_editor.language.records import dataclass
 from daig_editor.language.tree import Program, Stmt, listing_text, number_from_one, program_text
 from daig_editor.server.process import DaigProcess, Gone, Reply, Settings
 
@@ -133,7 +133,7 @@ class Session:
     async def told(self) -> dict[str, object]:
         """The program that the server has, as it prints it, and what was done so far."""
         reply = await self.process.ask(do="program") if self.process else {}
-        return {"program": reply.get("program"), "counts": asdict(self.counts)}
+        return {"program": reply.get("program"), "counts": dict(vars(self.counts))}
 
     def line_of(self, number: int) -> int:
         """The line, from 1, of a statement of the last good program; 0 where it has none of that number."""

@@ -6,7 +6,6 @@ language, and those of the program with their neighbours.
 from __future__ import annotations
 
 from itertools import islice
-from random import Random
 from typing import Awaitable, Callable, Iterable, Iterator, NamedTuple
 
 from daig_editor.language.checks import rule_of
@@ -27,6 +26,8 @@ def input_lists(text: bytes, many: int) -> Iterator[list[int]]:
     numbers = _numbers(islice((int(it.word) for it in tokens(text) if it.kind == "number"), MOST_NUMBERS))
     for number in numbers[:many]:
         yield [number] * LONGEST_INPUTS
+    from random import Random
+
     random = Random(1)
     for _ in range(many - len(numbers)):
         yield [random.choice(numbers) for _ in range(LONGEST_INPUTS)]

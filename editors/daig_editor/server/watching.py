@@ -1,9 +1,9 @@
 """What a document is served with, what it tells, and to whom."""
 from __future__ import annotations
 
-from dataclasses import dataclass
 from typing import TYPE_CHECKING, Protocol
 
+from daig_editor.language.records import dataclass
 from daig_editor.language.tree import Placed, Span
 from daig_editor.server.choices import Faults
 from daig_editor.server.process import Settings
