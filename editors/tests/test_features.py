@@ -197,7 +197,8 @@ def test_causes_and_runs() -> None:
     told = client.published(1, lambda told: told[0]["severity"] == 1)
     found = next(it for it in told if it["code"] == "assert")
     assert "the assertion fails with input" in found["message"], found
-    hung = [it["location"]["range"]["start"]["line"] for it in found["relatedInformation"]]
+    beside = [it for it in found["relatedInformation"] if it["message"] == "hangs on this"]
+    hung = [it["location"]["range"]["start"]["line"] for it in beside]
     assert hung == [19, 18, 15, 14, 13, 7, 3], "the nearest come first"
     where = {"textDocument": {"uri": URI}, "range": found["range"]}
     actions = client.request("textDocument/codeAction", where)

@@ -46,6 +46,36 @@ def test_runs() -> None:
     client.close()
 
 
+# A run that fails after some rounds of a loop.
+ROUNDS = (
+    "proc main() {\n  var i: int;\n  var n: int;\n  var a: array;\n  a = array 3;\n  n = input;\n"
+    "  while (i < n) {\n    a[i] = i;\n    i = i + 1;\n  }\n}\n"
+)
+
+
+def beside(told: list[Json]) -> list[str]:
+    """What stands beside the diagnostic of the check in a loop, each with its line, in order."""
+    found: Json = next((it for it in told if it["code"] == "bounds"), {})
+    related = found.get("relatedInformation", [])
+    return [f'{it["location"]["range"]["start"]["line"] + 1} {it["message"]}' for it in related]
+
+
+def test_path_of_a_run() -> None:
+    """A run that fails has its way beside it: each step in order with what it sets, and the values at the end."""
+    client, _ = opened({"runs": 32}, ROUNDS.replace("input", "7"))
+    told = client.published(1, lambda told: any("hangs on this" in it for it in beside(told)))
+    rounds = ["7 the run comes here", "8 a[0] = 0", "9 i = 1", "7 the run comes here", "8 a[1] = 1", "9 i = 2"]
+    rounds += ["7 the run comes here", "8 a[2] = 2", "9 i = 3", "7 the run comes here"]
+    wanted = ["5 len a = 3", "6 n = 7", *rounds, "8 the run ends here: i = 3, n = 7, len a = 3"]
+    assert beside(told)[:13] == wanted and beside(told)[13].endswith("hangs on this"), beside(told)
+    client.change(URI, 2, [{"text": ROUNDS.replace("array 3", "array 20").replace("input", "70")}])
+    told = client.published(2, lambda told: any("the run ends" in it for it in beside(told)))
+    way = [it for it in beside(told) if "hangs on this" not in it]
+    assert len(way) == 32 and way[0] == "7 earlier steps are left out; the run comes here", way
+    assert way[-1] == "8 the run ends here: i = 20, n = 70, len a = 20", way
+    client.close()
+
+
 def rested(client: Client, version: int) -> list[Json]:
     """The diagnostics of a version after it has rested, by which each finding has what it hangs on."""
     return client.published(version, lambda told: any("relatedInformation" in it for it in told))

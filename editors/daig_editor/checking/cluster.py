@@ -23,8 +23,8 @@ from typing import Any, AsyncIterator, Callable, Coroutine, Mapping, Protocol
 from daig_editor.checking.analysing import Text
 from daig_editor.checking.analysis import Wanted
 from daig_editor.checking.cluster_process import Request, checked_files
-from daig_editor.language.records import dataclass
 from daig_editor.language.places import SourceText
+from daig_editor.language.records import dataclass
 from daig_editor.reports.finding import CheckedFile, troubled
 from daig_editor.server.ending import cancelled
 

@@ -76,8 +76,9 @@ def _finding(document: Document, shift: Shift, finding: Finding, span: Span, par
     words += (NEW if finding.is_new else "") + (SO_FAR if partial else "")
     if finding.verdict == "dead":
         return _diagnostic(document, span, HINT, words, code=finding.rule, tags=[UNNECESSARY])
-    places = [shift.span(it.head) for it in finding.causes[:MOST_RELATED]]
-    related = [_related(document, it, "hangs on this") for it in places if it]
+    beside = [*finding.path, *((it, "hangs on this") for it in finding.causes[:MOST_RELATED])]
+    places = [(shift.span(it.head), said) for it, said in beside]
+    related = [_related(document, place, said) for place, said in places if place]
     return _diagnostic(document, span, _severity(document, finding), words, related, code=finding.rule)
 
 

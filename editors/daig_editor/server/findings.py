@@ -12,7 +12,8 @@ class Finding:
     """What is said of a fault at a statement, by its rule, and what was found out about it since.
 
     `ends`: no run goes on after the statement. `inputs`: those of a run that fails there. `causes`: the statements that
-    its verdict hangs on. `alone`: no other fault may come there. `is_new`: it was safe before the last change.
+    its verdict hangs on. `path`: the last steps of the run with these inputs, each with what is said of it. `alone`: no other
+    fault may come there. `is_new`: it was safe before the last change.
     """
 
     place: Placed
@@ -21,6 +22,7 @@ class Finding:
     ends: bool = False
     inputs: tuple[int, ...] | None = None
     causes: tuple[Placed, ...] = ()
+    path: tuple[tuple[Placed, str], ...] = ()
     alone: bool = True
     is_new: bool = False
 

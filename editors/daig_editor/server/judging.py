@@ -13,6 +13,7 @@ from daig_editor.server.asking import Asker, TookLong
 from daig_editor.server.choices import Faults
 from daig_editor.server.findings import Finding, Over, Report, Tally
 from daig_editor.server.news import News
+from daig_editor.server.paths import with_paths
 from daig_editor.server.process import Gone, Reply
 from daig_editor.server.serving import UNKNOWN_REQUEST
 from daig_editor.server.session import Good, Session
@@ -77,7 +78,7 @@ class Judge:
         kept = {(it.place.stmt.number, it.rule): it for it in before.findings if it.rule not in CHECKS} if before else {}
         places = good.program.find_all({number for number, _ in kept})
         found = [
-            replace(it, place=places[number], is_new=self._news.has(number, rule))
+            replace(it, place=places[number], path=(), is_new=self._news.has(number, rule))
             for (number, rule), it in kept.items()
             if number in places
         ]
@@ -197,6 +198,8 @@ class Judge:
         """The report with causes, with inputs of runs that fail, and with what fails always."""
         inputs = await failing_rules(self._ask, good.text.data, set(report.may_come), runs)
         findings = [replace(it, inputs=inputs.get((it.place.stmt.number, it.rule))) for it in report.findings]
+        findings = await with_paths(good, findings)
+        self._test()
         findings.sort(key=lambda it: (it.weight, it.verdict == "dead"))
         first = [it for it in findings if it.verdict != "dead"][:MOST_EXPLAINED]
         certain = {it.place.stmt.number for it in findings if it.verdict == "fails"}
