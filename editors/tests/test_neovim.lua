@@ -137,6 +137,76 @@ local function layout()
   check(vim.bo.commentstring == "// %s", "the comment string is " .. vim.bo.commentstring)
 end
 
+-- The lenses that stand beside the lines, in words.
+local function lenses()
+  local words = {}
+  for _, it in ipairs(vim.lsp.codelens.get(0)) do
+    table.insert(words, (it.range.start.line + 1) .. " " .. it.command.title)
+  end
+  return table.concat(words, ", ")
+end
+
+local function expect_lenses(wanted, what)
+  vim.wait(20000, function() return lenses() == wanted end, 20)
+  check(lenses() == wanted, what .. ": " .. wanted .. " is wanted, not " .. lenses())
+end
+
+local function after_edits()
+  open("calls.imp")
+  expect_lenses("2 3 calls, 5 1 call, 9 1 check, safe", "lenses come by themselves")
+  keys("13G$hhr7")
+  expect_lenses("2 3 calls, 5 1 call, 9 1 check, 1 not safe", "they follow an edit")
+  keys("12GOa = call four(1);<Esc>")
+  expect_lenses("2 3 calls, 5 2 calls, 9 1 check, 1 not safe", "and what it calls")
+end
+
+-- A buffer under another name is analysed as that file; the old one is closed.
+local function saved_as()
+  open("arrays.imp")
+  expect("12 WARN bounds", "the read past the end may fail")
+  local old = vim.uri_from_bufnr(0)
+  vim.cmd("silent saveas " .. vim.fn.fnameescape(vim.fn.tempname() .. "-other.imp"))
+  keys("12GOif (i < len a) {<Esc>")
+  expect("13 WARN bounds, 14 ERROR Unexpected", "the file of the new name is followed")
+  keys("13Go}<Esc>")
+  expect("13 HINT bounds", "and its program")
+  local answers = vim.lsp.buf_request_sync(0, "textDocument/documentSymbol", { textDocument = { uri = old } }, 20000)
+  for _, it in pairs(answers) do check(it.error, "the old name is closed: " .. vim.inspect(it)) end
+end
+
+local function folds()
+  open("calls.imp")
+  check(vim.fn.foldclosed(2) == -1, "all is open at first")
+  keys("3Gzc")
+  check(vim.fn.foldclosed(3) == 2, "a procedure is folded: " .. vim.fn.foldclosed(3))
+end
+
+local function has_mapping(keys_, mode, what)
+  check(vim.fn.mapcheck(keys_, mode) ~= "" or vim.fn.maparg(keys_, mode, false, true).buffer == 1, what)
+end
+
+local function mappings()
+  has_mapping("<C-k>", "i", "parameters are shown in insert mode")
+  has_mapping("\\ci", "n", "callers are listed")
+  has_mapping("\\e", "n", "a message is shown whole")
+  vim.cmd("normal! gg")
+  local row = vim.fn.search("call twice(", "cW")
+  check(row > 0, "there is a call")
+  local help = ask("textDocument/signatureHelp", row, vim.fn.col(".") + 10)
+  has(help.signatures[1].label, "twice(")
+end
+
+-- A language server that ends of itself leaves an error in the text, until it is started anew.
+local function killed()
+  open("arrays.imp")
+  expect("12 WARN bounds", "it is served")
+  for _, child in ipairs(vim.api.nvim_get_proc_children(vim.fn.getpid())) do vim.loop.kill(child, 9) end
+  vim.wait(20000, function() return told():find("the language server ended", 1, true) end, 20)
+  has(told(), "1 ERROR the language server ended")
+  vim.cmd("silent edit")
+  expect("12 WARN bounds", "it is started anew")
+end
+
 -- A client whose language server ended is not kept for later files.
 local function restarted()
   for _, client in pairs(vim.lsp.get_active_clients()) do
@@ -158,6 +228,11 @@ local function run()
   calls()
   names()
   layout()
+  after_edits()
+  saved_as()
+  folds()
+  mappings()
+  killed()
   restarted()
   local version = vim.version()
   local name = string.format("%d.%d.%d", version.major, version.minor, version.patch)

@@ -15,6 +15,7 @@ syntax match impProcedure /\<\(proc\|call\)\_s\+\zs[A-Za-z_][A-Za-z0-9_]*/
 syntax match impNumber /\<[0-9]\+\>/
 syntax match impOperator /->\|[=!<>]=\|&&\|||\|[=<>+\-*\/%!]/
 syntax match impComment /\/\/.*$/ contains=@Spell
+syntax region impBlock start="{" end="}" transparent fold
 
 highlight default link impDeclaration Keyword
 highlight default link impType Type
