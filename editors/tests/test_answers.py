@@ -1,10 +1,12 @@
 """What the language server says about small programs: budgets, settings, calls, names, and texts that are none."""
 from __future__ import annotations
 
+import tempfile
+
 from daig_editor.protocol.settings import read_options
 from tests.client import Client, Json
 from tests.program import program
-from tests.small import URI, at, hover, kill_servers, opened
+from tests.small import URI, at, hover, kill_servers, opened, script
 
 COUNTING = "proc main() {\n  var i: int;\n  while (i < 10) {\n    i = i + 1;\n  }\n  assert i == 10;\n}\n"
 CALLS = (
@@ -111,10 +113,22 @@ def test_settings() -> None:
     assert not told and len(client.shown) == 2 and read_options({"daig": program()}).complaints == [], client.shown
     client.close()
     client, told = opened({"daig": "/no/such/program"}, COUNTING)
-    assert len(told) == 1 and "cannot be asked" in told[0]["message"] and len(client.shown) == 2, client.shown
+    assert len(told) == 1 and "cannot be asked" in told[0]["message"] and len(client.shown) == 1, client.shown
+    assert "no program /no/such/program; give the path of one by the setting `daig`" in client.shown[0], client.shown
     client.change(URI, 2, [{"text": COUNTING + "\n"}])
-    assert len(client.diagnostics(2)) == 1 and len(client.shown) == 2, client.shown
+    assert len(client.diagnostics(2)) == 1 and len(client.shown) == 1, client.shown
     client.close()
+
+
+def test_failing_start() -> None:
+    """A program that ends in its start is told of once, with the last line that it said."""
+    with tempfile.TemporaryDirectory() as folder:
+        failing = script(folder, "echo 'building' >&2\necho 'daig: rt is not on the PATH' >&2\nexit 1\n")
+        client, told = opened({"daig": failing}, COUNTING)
+        words = "daig serve cannot be asked: it ended with status 1: daig: rt is not on the PATH"
+        assert [it["message"] for it in told] == [words], told
+        assert client.shown == [f"daig: {words}"], client.shown
+        client.close()
 
 
 def test_lost() -> None:

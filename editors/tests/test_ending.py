@@ -8,11 +8,11 @@ import subprocess
 import tempfile
 import time
 from contextlib import contextmanager
-from dataclasses import replace
 from pathlib import Path
 from typing import Awaitable, Callable, Iterator
 
 from daig_editor.language.places import SourceText
+from daig_editor.language.records import replace
 from daig_editor.server.document import Document
 from daig_editor.server.ending import cancelled, undisturbed, within
 from daig_editor.server.process import DaigProcess, Settings

@@ -168,4 +168,5 @@ def test_program_of_settings() -> None:
         given = read_options({"daig": path})
         assert len(given.complaints) >= 1 and given.settings.daig in (found_program(), "daig"), given.complaints
     assert read_options({"daig": "sh"}).complaints == [] and read_options({"daig": "/bin/sh"}).complaints == []
-    assert read_options({"daig": "~/no/such"}).complaints == ["daig: there is no program ~/no/such"]
+    told = "daig: there is no program ~/no/such; give the path of one by the setting `daig`"
+    assert read_options({"daig": "~/no/such"}).complaints == [told]

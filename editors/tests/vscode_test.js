@@ -183,7 +183,41 @@ async function questions() {
   assert.deepStrictEqual(await calls.provideCallHierarchyOutgoingCalls(item, never), []);
 }
 
+const changed = (...names) => events.configuration({ affectsConfiguration: (it) => it === "daig" || names.includes(it) });
+
+// What is not there, or is no language server, is told of once, with what to do; other settings start it again.
+async function failedStarts() {
+  vscode.workspace.textDocuments.push(document);
+  configuration = { daig: process.env.DAIG_PROGRAM, python: "/no/such/python3" };
+  await extension.activate({ subscriptions: [] });
+  await until(() => shown.length > 0, "no Python");
+  assert(/does not start: \/no\/such\/python3 cannot be run: .*ENOENT.*Python 3.10 or later.*daig.python/.test(shown[0]), shown);
+  assert.strictEqual(told()[0].severity, 0, "the text does not look safe");
+  assert.deepStrictEqual(Object.keys(providers), []);
+  const script = path.join(require("os").tmpdir(), `daig-${process.pid}.py`);
+  require("fs").writeFileSync(script, "import sys\nsys.exit('daig-lsp: the wrong kit')\n");
+  configuration = { daig: process.env.DAIG_PROGRAM, server: script };
+  changed("daig.python", "daig.server");
+  await until(() => shown.length > 1, "no language server");
+  assert(/does not start: it ended with status 1: daig-lsp: the wrong kit\. /.test(shown[1]), shown[1]);
+  require("fs").unlinkSync(script);
+  configuration = { daig: "/no/such/daig" };
+  changed("daig.server", "daig.daig");
+  await until(() => told().some((it) => it.message.includes("cannot be asked")), "no program");
+  assert(/there is no program \/no\/such\/daig; give the path of one by the setting `daig`/.test(shown[2]), shown[2]);
+  configuration = { daig: process.env.DAIG_PROGRAM };
+  changed("daig.daig");
+  await until(() => told().some((it) => it.code === "assert"), "the program is there");
+  assert.strictEqual(shown.length, 3, JSON.stringify(shown));
+  assert((await providers.Hover.provideHover(document, position(6, 4), never)).contents.value.length > 0);
+  await extension.deactivate();
+  shown.length = 0;
+  diagnostics.clear();
+  vscode.workspace.textDocuments.length = 0;
+}
+
 async function run() {
+  await failedStarts();
   configuration = { daig: process.env.DAIG_PROGRAM, domain: "octagon" };
   vscode.workspace.textDocuments.push(document, other);
   await extension.activate({ subscriptions: [] });

@@ -14,6 +14,18 @@ const LANGUAGE = "imp";
 const SETTINGS = ["daig", "faults", "domain", "widening", "delay", "budget", "memory", "patience", "runs"];
 // A server that ends by itself is started anew so often, and then no more.
 const MOST_STARTS = 5;
+// The settings that say what is run.
+const STARTED_BY = ["daig.python", "daig.server"];
+const REMEDY =
+  "It needs Python 3.10 or later, which the setting daig.python names; daig.server is the path of daig_lsp.py. " +
+  "It is started again when a setting changes, and by the command daig.restart";
+const LONGEST_SAID = 2000;
+
+// The last line that a program said, with what stands between it and other words.
+function lastLine(said) {
+  const line = said.trim().split("\n").pop();
+  return line ? `: ${line}` : "";
+}
 
 // The settings of the server, without those that are not set.
 function settings() {
@@ -38,6 +50,8 @@ class Client {
     this.context = context;
     this.starts = 0;
     this.ready = false;
+    this.hasServed = false; // since it was last started by the user, or for other settings
+    this.lost = ""; // why no server runs, where none is started any more
     this.progress = new Map();
     this.log = vscode.window.createOutputChannel("daig");
     this.diagnostics = vscode.languages.createDiagnosticCollection("daig");
@@ -48,15 +62,20 @@ class Client {
   // Starts the server, and opens all files of the language in it.
   async start() {
     this.starts += 1;
+    this.lost = "";
     const python = vscode.workspace.getConfiguration("daig").get("python") || "python3";
     const child = spawn(python, [serverScript(), "--stdio"], { stdio: ["pipe", "pipe", "pipe"] });
     this.child = child;
     this.wire = new Wire(child.stdin, (message) => this.take(message));
     child.stdout.on("data", (data) => this.wire.read(data));
-    child.stderr.on("data", (data) => this.log.append(String(data)));
+    let said = "";
+    child.stderr.on("data", (data) => {
+      said = (said + data).slice(-LONGEST_SAID);
+      this.log.append(String(data));
+    });
     child.stdin.on("error", () => {});
-    child.on("error", (error) => this.ended(child, error.message));
-    child.on("exit", (code) => this.ended(child, `it ended with status ${code}`));
+    child.on("error", (error) => this.ended(child, `${python} cannot be run: ${error.message}`));
+    child.on("close", (code) => this.ended(child, `it ended with status ${code}${lastLine(said)}`));
     const capabilities = {
       textDocument: {
         codeAction: { codeActionLiteralSupport: { codeActionKind: { valueSet: ["quickfix"] } } },
@@ -80,7 +99,9 @@ class Client {
     });
     this.legend = answer.capabilities.semanticTokensProvider.legend;
     this.wire.notify("initialized", {});
-    this.ready = true;
+    this.ready = this.hasServed = true;
+    if (!this.isRegistered) register(vscode, this.context, this, { language: LANGUAGE });
+    this.isRegistered = true;
     for (const document of vscode.workspace.textDocuments) this.open(document);
   }
 
@@ -94,30 +115,50 @@ class Client {
     this.progress.clear();
     if (this.stopping) return;
     this.log.appendLine(`the language server is lost: ${why}`);
-    if (this.starts < MOST_STARTS) {
-      this.start().catch((error) => this.log.appendLine(String(error)));
+    if (!this.hasServed) {
+      this.giveUp(`the language server does not start: ${why}. ${REMEDY}`);
+    } else if (this.starts < MOST_STARTS) {
+      this.tryToStart();
     } else {
       this.giveUp(`the language server is lost: ${why}`);
     }
   }
 
+  // Starts the server; where it does not start the user is told when it ends, or here where it answers an error.
+  async tryToStart() {
+    try {
+      await this.start();
+    } catch (error) {
+      this.log.appendLine(String(error));
+      if (!this.child) return;
+      this.child.kill();
+      this.child = undefined;
+      this.giveUp(`the language server does not start: ${error.message || error}. ${REMEDY}`);
+    }
+  }
+
   // No server runs any more: no file is left looking safe.
   giveUp(words) {
+    this.lost = words;
     vscode.window.showErrorMessage(`daig: ${words}`);
-    const range = new vscode.Range(0, 0, 0, 0);
-    for (const document of vscode.workspace.textDocuments) {
-      if (document.languageId !== LANGUAGE) continue;
-      this.diagnostics.set(document.uri, [new vscode.Diagnostic(range, words, vscode.DiagnosticSeverity.Error)]);
-    }
+    for (const document of vscode.workspace.textDocuments) this.tellLost(document);
+  }
+
+  tellLost(document) {
+    if (!this.lost || document.languageId !== LANGUAGE) return;
+    const told = new vscode.Diagnostic(new vscode.Range(0, 0, 0, 0), this.lost, vscode.DiagnosticSeverity.Error);
+    this.diagnostics.set(document.uri, [told]);
   }
 
   async restart() {
     this.starts = 0;
+    this.hasServed = false;
     const child = this.child;
     await this.stop();
     this.stopping = false;
+    this.child = undefined;
     if (child) child.kill();
-    await this.start();
+    await this.tryToStart();
   }
 
   // Ends the server as it should be ended.
@@ -177,6 +218,7 @@ class Client {
 
   // What the user does with files.
   open(document) {
+    this.tellLost(document);
     if (!this.ready || document.languageId !== LANGUAGE) return;
     const { version } = document;
     const uri = document.uri.toString();
@@ -236,18 +278,16 @@ async function activate(context) {
     workspace.onDidSaveTextDocument((it) => client.save(it)),
     workspace.onDidCloseTextDocument((it) => client.close(it)),
     workspace.onDidChangeConfiguration((it) => {
-      if (client.ready && it.affectsConfiguration("daig")) {
+      if (!it.affectsConfiguration("daig")) return;
+      if (!client.ready || STARTED_BY.some((name) => it.affectsConfiguration(name))) {
+        client.restart();
+      } else {
         client.wire.notify("workspace/didChangeConfiguration", { settings: { daig: settings() } });
       }
     }),
     vscode.commands.registerCommand("daig.restart", () => client.restart()),
   );
-  try {
-    await client.start();
-    register(vscode, context, client, { language: LANGUAGE });
-  } catch (error) {
-    vscode.window.showErrorMessage(`daig: the language server does not start: ${error.message || error}`);
-  }
+  await client.tryToStart();
 }
 
 async function deactivate() {

@@ -182,8 +182,9 @@ class LanguageServer:
         self._client.log(text)
 
     def show(self, text: str) -> None:
-        """Something for the user."""
-        self._client.show(text)
+        """Something for the user, who was told before where no program is there."""
+        if not self._settings.lacks_program:
+            self._client.show(text)
 
     def show_once(self, text: str) -> None:
         """Something for the user, which is said once."""

@@ -16,10 +16,14 @@ MOST_MEMORY = 2**20
 
 
 class GivenSettings:
-    """The settings that were read, and what is wrong with the ones that were given, for which the defaults stand."""
+    """The settings that were read, and what is wrong with the ones that were given, for which the defaults stand.
+
+    `lacks_program`: no program is there, as a complaint says.
+    """
 
     def __init__(self, given: object) -> None:
         self.complaints: list[str] = []
+        self.lacks_program = False
         if given is not None and not isinstance(given, dict):
             self.complaints.append("the settings are no object")
         self._given = given if isinstance(given, dict) else {}
@@ -67,9 +71,11 @@ class GivenSettings:
                 return os.path.expanduser(str(given))
             self.complaints.append(f"daig: {problem}")
             if given and isinstance(given, str) and "\0" not in given and not _is_relative(given):
+                self.lacks_program = True
                 return given
         found = found_program()
         if found is None:
+            self.lacks_program = True
             self.complaints.append("daig: there is no program `daig`; give its path by the setting `daig`")
         return found or "daig"
 
@@ -102,7 +108,7 @@ def _problem(given: object) -> str | None:
         return "a path is wanted"
     if _is_relative(given):
         return f"a whole path, or a name that the shell finds, is wanted, and not {given}"
-    return None if shutil.which(os.path.expanduser(given)) else f"there is no program {given}"
+    return None if shutil.which(os.path.expanduser(given)) else f"there is no program {given}; give the path of one by the setting `daig`"
 
 
 def _is_relative(given: str) -> bool:

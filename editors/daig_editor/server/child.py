@@ -56,12 +56,14 @@ def _close_pipes(child: asyncio.SubprocessTransport) -> None:
             pipe.close()
 
 
-async def started(words: list[str], stdin: int, stdout: int, longest_line: int = LONGEST_LINE) -> Child:
+async def started(
+    words: list[str], stdin: int, stdout: int, longest_line: int = LONGEST_LINE, stderr: int = asyncio.subprocess.DEVNULL
+) -> Child:
     """Starts a program; raises `OSError`, or `ValueError` for words that no program can have."""
-    return await undisturbed(_started(words, stdin, stdout, longest_line))
+    return await undisturbed(_started(words, stdin, stdout, longest_line, stderr))
 
 
-async def _started(words: list[str], stdin: int, stdout: int, longest_line: int) -> Child:
+async def _started(words: list[str], stdin: int, stdout: int, longest_line: int, stderr: int) -> Child:
     """Starts a program. A cancellation in the middle of it may never end."""
     loop = asyncio.get_running_loop()
     transport, protocol = await loop.subprocess_exec(
@@ -69,7 +71,7 @@ async def _started(words: list[str], stdin: int, stdout: int, longest_line: int)
         *words,
         stdin=stdin,
         stdout=stdout,
-        stderr=asyncio.subprocess.DEVNULL,
+        stderr=stderr,
         start_new_session=True,
         restore_signals=False,  # a write that fails is to be seen by the program, and not to end it by a signal
     )

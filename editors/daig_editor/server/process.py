@@ -3,8 +3,11 @@ from __future__ import annotations
 
 import asyncio
 import json
+import os
+import tempfile
 import time
 from collections import deque
+from typing import IO
 
 from daig_editor.server.child import Child, started
 from daig_editor.server.ending import within
@@ -16,6 +19,9 @@ from daig_editor.server.serving import Refused as Refused
 from daig_editor.server.serving import Reply as Reply
 from daig_editor.server.serving import Settings as Settings
 from daig_editor.server.serving import bound_memory, gone_with, greeted, reply_of, text_file
+
+# Of what a program says before it ends in its start, so many last bytes are looked at.
+LONGEST_LAST_LINE = 500
 
 
 class DaigProcess:
@@ -153,21 +159,33 @@ class DaigProcess:
 
 
 async def _greeted(settings: Settings, path: str) -> DaigProcess:
-    """Starts the program on a file, and waits until it is loaded."""
-    server = DaigProcess(await _spawned(settings, path), settings)
-    try:
-        await server.greet()
-    except BaseException:
-        await server.stop()
-        raise
+    """Starts the program on a file, and waits until it is loaded; raises `NotStarted` with what it said last."""
+    with tempfile.TemporaryFile() as said:
+        server = DaigProcess(await _spawned(settings, path, said.fileno()), settings)
+        try:
+            await server.greet()
+        except NotStarted as why:
+            await server.stop()
+            raise NotStarted(f"{why}{_last_line(said)}") from None
+        except BaseException:
+            await server.stop()
+            raise
     return server
 
 
-async def _spawned(settings: Settings, path: str) -> Child:
-    """Starts the program; raises `NotStarted`."""
+def _last_line(said: IO[bytes]) -> str:
+    """The last line of what was said, with what stands between it and other words."""
+    said.seek(max(0, said.seek(0, os.SEEK_END) - LONGEST_LAST_LINE))
+    lines = said.read().decode("utf-8", "replace").split("\n")
+    last = next((it.strip() for it in reversed(lines) if it.strip()), "")
+    return f": {last}" if last else ""
+
+
+async def _spawned(settings: Settings, path: str, said: int) -> Child:
+    """Starts the program, whose standard error goes to an open file; raises `NotStarted`."""
     pipe = asyncio.subprocess.PIPE
     try:
-        return await started(settings.words(path), pipe, pipe, LONGEST_REPLY)
+        return await started(settings.words(path), pipe, pipe, LONGEST_REPLY, said)
     except OSError as error:
         raise NotStarted(f"{settings.daig}: {error.strerror}") from None
     except ValueError as error:  # a NUL
