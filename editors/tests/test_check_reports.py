@@ -36,6 +36,15 @@ def test_golden() -> None:
                                   "pushing.imp, reversing.imp, reviewing.imp and 2 more\n"), found.err
 
 
+def test_html_states() -> None:
+    """The states of a page have a heading, and on a line of several statements each its own; a refused file has none."""
+    several = "proc main() {\n  var i: int;\n  i = 3; i = i + 1;\n  i = 7;\n}\n"
+    with folder(a_imp=several, b_imp=NO_PROGRAM) as here:
+        page = check("--format", "html", ".", where=here).out
+    assert page.count("known before the statement") == 1 and page.count('<th class="n">') == 2, page
+    assert "<i>i = 3;</i> i = 0<br><i>i = i + 1;</i> i = 3</td>" in page and '<td class="s">i = 4</td>' in page, page
+
+
 def test_text() -> None:
     """Columns count bytes; marks stand below what they mark, whatever comes before."""
     with folder(a_imp="proc main() { var i: int;\r\n\ti = input;\n\tassert i == 3; // é中\n}\n") as here:

@@ -7,7 +7,7 @@ from typing import Iterator, TypeVar
 from daig_editor.language.places import SourceText
 from daig_editor.language.records import replace
 from daig_editor.language.tree import Span
-from daig_editor.reports.finding import CheckedFile, Finding, Level
+from daig_editor.reports.finding import CheckedFile, Finding, Level, StateLine
 from daig_editor.reports.report import CANNOT_FAIL, Totals
 from daig_editor.reports.shown import shown
 from daig_editor.reports.text import details
@@ -32,8 +32,9 @@ table.index td:first-child { font-family: ui-monospace, monospace; }
 div.file { border: 1px solid var(--line); border-radius: 6px; overflow-x: auto; }
 table.code { width: 100%; font: 13px/1.55 ui-monospace, monospace; }
 table.code td { padding: 0 .8rem; vertical-align: top; }
-td.n { color: var(--faint); text-align: right; width: 3rem; user-select: none; background: var(--card); }
-td.t { white-space: pre; width: 1%; } td.s { color: var(--faint); overflow-wrap: anywhere; }
+th.n, td.n { color: var(--faint); text-align: right; width: 3rem; user-select: none; background: var(--card); }
+th.t, td.t { white-space: pre; width: 1%; } th.s { color: var(--faint); font-weight: 500; text-align: left; padding: 0 .8rem; }
+td.s { color: var(--faint); overflow-wrap: anywhere; }
 tr.error > td { background: var(--error-row); } tr.warning > td { background: var(--warning-row); }
 tr.note > td { background: var(--note-row); }
 mark { background: none; color: inherit; text-decoration: underline wavy; text-underline-offset: 3px; }
@@ -87,6 +88,8 @@ class HtmlReport:
             yield f'<section id="f{number}">\n<h2>{_text(it.name)}</h2>'
             yield from [f'<p class="safe">{CANNOT_FAIL}</p>'] * it.cannot_fail
             yield '<div class="file">\n<table class="code">'
+            known = "known before the statement" if it.states else ""
+            yield f'<tr><th class="n"></th><th class="t"></th><th class="s">{known}</th></tr>'
             yield from _rows(it, number)
             yield "</table>\n</div>\n</section>"
 
@@ -116,11 +119,11 @@ def _rows(checked: CheckedFile, file: int) -> Iterator[str]:
     """The lines of a file, each with what is known there and with its findings below."""
     source = checked.source
     findings = _by_line(source, [(it.span, it) for it in checked.findings])
-    states = _by_line(source, [(it.span, it.lines) for it in checked.states])
+    states = _by_line(source, [(it.span, it) for it in checked.states])
     last = len(source.starts) - (len(source.starts) > 1 and source.starts[-1] == len(source.data))
     for line in range(last):
         here = findings.get(line, [])
-        known = "<br>".join(_text(it) for lines in states.get(line, []) for it in lines)
+        known = "<br>".join(_known(source, states.get(line, [])))
         name = min((it.level for it in here), key=WORST.index).value if here else ""
         number = f'<td class="n"><a href="#f{file}-{line + 1}">{line + 1}</a></td>'
         text = f'<td class="t">{_marked(source, line, here)}</td><td class="s">{known}</td>'
@@ -128,6 +131,14 @@ def _rows(checked: CheckedFile, file: int) -> Iterator[str]:
             text = f'<td class="t" colspan="2">{_marked(source, line, here)}</td>'
         yield f'<tr id="f{file}-{line + 1}" class="{name}">{number}{text}</tr>'
         yield from (_finding(source, it) for it in here)
+
+
+def _known(source: SourceText, states: list[StateLine]) -> Iterator[str]:
+    """What is known on a line, of several statements each behind its text."""
+    for it in states:
+        words = _text(source.data[it.span.start : it.span.end].decode("utf-8", "replace"))
+        label = f"<i>{words}</i> " if len(states) > 1 else ""
+        yield from (f"{label}{_text(line)}" for line in it.lines)
 
 
 def _by_line(source: SourceText, told: list[tuple[Span, _T]]) -> dict[int, list[_T]]:
