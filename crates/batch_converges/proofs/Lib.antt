@@ -5,3 +5,4 @@ pub mod OfIntervals
 pub mod Whole
 pub mod OfOctagons
 pub mod OfSegments
+pub mod OfShapes

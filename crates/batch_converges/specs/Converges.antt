@@ -15,6 +15,8 @@ use Rattle.dom_octagon_meaning.specs.Domain.{octagons}
 use Rattle.dom_octagon_meaning.specs.Convergence.{most_changes as most_rises}
 use Rattle.dom_listseg_meaning.specs.Sets as sets
 use Rattle.dom_listseg_meaning.specs.Domain.{segments}
+use Rattle.dom_shapes_meaning.specs.Domain.{shapes}
+use Rattle.dom_shapes_meaning.specs.Convergence.{most_weight}
 
 -- How often a state of a frame can still change in the rounds of a loop, from the round `wait delay` on: each widening with
 -- these thresholds keeps the state or leaves fewer changes, and so does each join, where there are joins from that round on.
@@ -67,3 +69,10 @@ most_graphs slots thresholds = sets.most
 
 abbrev pub SegmentsConverge : Type 0
 SegmentsConverge = Converge segments from_the_first most_graphs
+
+-- a set of graphs can grow so often, in shapes and in nodes that are `seg`, and become Top once more
+abbrev pub most_shapes : (slots thresholds : ℕ) → ℕ
+most_shapes slots thresholds = most_weight
+
+abbrev pub ShapesConverge : Type 0
+ShapesConverge = Converge shapes from_the_first most_shapes

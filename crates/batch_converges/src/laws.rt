@@ -1,6 +1,6 @@
 //! The theorems, each the contract of a function that does nothing.
 ghost use Rattle.std.specs.Prelude.{ℕ};
-ghost use Rattle.batch_converges.specs.Converges.{Converge, Ending, Grows, IntervalsConverge, OctagonsConverge, SegmentsConverge};
+ghost use Rattle.batch_converges.specs.Converges.{Converge, Ending, Grows, IntervalsConverge, OctagonsConverge, SegmentsConverge, ShapesConverge};
 
 use domain_laws::Domain;
 use imp_chains::thresholds_rise;
@@ -33,6 +33,13 @@ pub fn octagons_converge()
 /// By list segments no answer of a checked program is an Over where the budget is 66 or more, whatever the delay.
 pub fn segments_converge()
     ensures end { SegmentsConverge }
+{
+    thresholds_rise();
+}
+
+/// By shapes no answer of a checked program is an Over where the budget is 9,282 or more, whatever the delay.
+pub fn shapes_converge()
+    ensures end { ShapesConverge }
 {
     thresholds_rise();
 }

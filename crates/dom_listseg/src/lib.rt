@@ -27,3 +27,4 @@ mod verdicts;
 
 pub use domain::ListSeg;
 pub use state::SegmentState;
+pub use statements::behind;

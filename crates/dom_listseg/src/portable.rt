@@ -1,38 +1,15 @@
 //! List segments as texts, and their order.
 ghost use Rattle.std.specs.Prelude.{◌≡◌, IfOk};
-ghost use Rattle.std.specs.Option.{option_map};
 ghost use Rattle.dom_listseg_meaning.specs.Covers as meaning;
-ghost use Rattle.dom_listseg_words.specs.Words.{segment_port, state_in};
+ghost use Rattle.dom_listseg_words.specs.Words.{segment_port};
 ghost use Rattle.dom_listseg_words.proofs.Portable.{segment_portable};
 
 use crate::SegmentState;
 use crate::domain::ListSeg;
-use crate::state::{Kept, listed, top, within};
 use base_values::{Memory, Text};
 use cert_meaning::Portable;
-use dom_listseg_sets::{FoldedGraph, GraphSet};
 use imp_slots::Layout;
 use std::alloc::{AllocError, Global};
-
-/// The graphs of a state, none where it is Top.
-fn graphs(s: &SegmentState) -> Option<&[FoldedGraph]>
-    ensures exact { state_in (option_map (λ g. g.now) result) ≡ s.now }
-{
-    match &s.kept {
-        Kept::Top => None,
-        Kept::Graphs(shared) => Some(listed(shared)),
-    }
-}
-
-/// The state of these graphs, Top where there are none.
-fn state(alloc: Global, graphs: Option<GraphSet>) -> Result<SegmentState, Memory>
-    ensures exact { IfOk result (λ s. s ≡ state_in graphs) }
-{
-    match graphs {
-        None => Ok(top()),
-        Some(graphs) => within(alloc, graphs),
-    }
-}
 
 /// How many list slots each frame has, main's first.
 fn counts(alloc: Global, layouts: &[Layout]) -> Result<Vec<usize>, AllocError>
@@ -50,7 +27,7 @@ impl Portable for ListSeg {
     ghost port = { λ d. segment_port };
 
     fn put(&self, alloc: Global, s: &SegmentState) -> Result<Text, Memory> {
-        dom_listseg_words::put(alloc, graphs(s))
+        dom_listseg_words::put(alloc, s.graphs())
     }
 
     fn take(
@@ -62,12 +39,12 @@ impl Portable for ListSeg {
         let counts = counts(alloc, layouts)?;
         match dom_listseg_words::take(alloc, &counts, text)? {
             None => Ok(None),
-            Some(graphs) => Ok(Some(state(alloc, graphs)?)),
+            Some(graphs) => Ok(Some(SegmentState::from_graphs(alloc, graphs)?)),
         }
     }
 
     fn leq(&self, alloc: Global, l: &SegmentState, r: &SegmentState) -> Result<bool, Memory> {
-        Ok(dom_listseg_words::leq(graphs(l), graphs(r)))
+        Ok(dom_listseg_words::leq(l.graphs(), r.graphs()))
     }
 
     ghost port_laws = { λ d. segment_portable };

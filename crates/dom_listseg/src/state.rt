@@ -1,8 +1,11 @@
 //! States of the list segments' domain: all, or what one of a set of graphs covers.
-ghost use Rattle.std.specs.Prelude.{◌≡◌, IfOk, [], List};
+ghost use Rattle.std.specs.Prelude.{◌≡◌, IfOk, IfSome, [], List, true};
+ghost use Rattle.std.specs.Option.{option_map};
 ghost use Rattle.dom_listseg_meaning.specs.State.{Segments, Top, Graphs, segments_same, segments_fed};
 ghost use Rattle.dom_listseg_meaning.proofs.StateLaws.{segments_equiv, segments_per, segments_fed-same};
 ghost use Rattle.dom_listseg_meaning.specs.Operations as operations;
+ghost use Rattle.dom_listseg_meaning.specs.Sets.{rises};
+ghost use Rattle.dom_listseg_words.specs.Words.{state_in};
 
 use base_values::Memory;
 use dom_listseg_sets::{FoldedGraph, GraphSet};
@@ -69,6 +72,29 @@ impl Hash for SegmentState {
     }
 }
 
+impl SegmentState {
+    /// The state of these graphs, Top where there are none. It fails only when memory runs out.
+    pub fn from_graphs(alloc: Global, graphs: Option<GraphSet>) -> Result<SegmentState, Memory>
+        ensures exact { IfOk result (λ s. s ≡ state_in graphs) }
+    {
+        match graphs {
+            None => Ok(top()),
+            Some(graphs) => within(alloc, graphs),
+        }
+    }
+
+    /// The graphs of the state in their order, none where it is Top.
+    pub fn graphs(&self) -> Option<&[FoldedGraph]>
+        ensures exact { state_in (option_map (λ g. g.now) result) ≡ self.now }
+        ensures rises { IfSome result (λ g. rises g.now ≡ true) }
+    {
+        match &self.kept {
+            Kept::Top => None,
+            Kept::Graphs(shared) => Some(listed(shared)),
+        }
+    }
+}
+
 /// All.
 pub fn top() -> SegmentState
     ensures top { result ≡ Top }
@@ -96,6 +122,7 @@ pub fn empty(alloc: Global) -> Result<SegmentState, Memory>
 /// The graphs that a state shares.
 pub fn listed(shared: &Rc<GraphSet>) -> &[FoldedGraph]
     ensures listed { result.now ≡ shared.now.value }
+    ensures rises { rises result.now ≡ true }
 {
     shared.as_ref().as_slice()
 }
