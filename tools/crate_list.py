@@ -30,10 +30,10 @@ LAYERS = {
     " imp_words fault_words edit_entries edit_breaks imp_edit edit_history",
     "Input and output": "serve_command request_json serve_script gen_summary",
     "Meaning": "concrete_sem imp_run domain_laws fault_points batch_meaning batch_sound cert_meaning",
-    "Domains": "num_bounds num_thresholds dom_numeric cert_words dom_interval_meaning dom_interval_precise dom_interval_words dom_interval"
-    " dbm_core dbm_close dbm_incremental dbm_narrow dom_octagon_meaning dom_octagon_states dom_octagon_words dom_octagon shape_graph"
-    " fold_laws shape_steps dom_listseg_meaning dom_listseg_sets dom_listseg_words dom_listseg dom_product_meaning dom_product"
-    " batch_converges batch_product",
+    "Domains": "num_bounds num_thresholds dom_numeric cert_words dom_interval_meaning dom_interval_precise dom_interval_words"
+    " dom_interval dbm_core dbm_close dbm_incremental dbm_narrow dom_octagon_meaning dom_octagon_states dom_octagon_words"
+    " dom_octagon shape_graph fold_laws shape_steps dom_listseg_meaning dom_listseg_sets dom_listseg_words dom_listseg"
+    " dom_shapes_meaning dom_shapes dom_product_meaning dom_product batch_converges batch_product",
     "Batch interpretation and certificates": "call_contexts call_chains alarm_report batch_interp fault_verdicts fault_report"
     " cert_sound cert_complete cert_lines cert_write cert_reading cert_accepted cert_check",
     "Cells": "cell_names cell_rows daig_demands why_slice imp_flow_rows imp_flow daig_graph cell_graph loop_unroll"

@@ -19,6 +19,7 @@ use dom_interval::Interval;
 use dom_listseg::ListSeg;
 use dom_octagon::Octagon;
 use dom_product::Pair;
+use dom_shapes::Shapes;
 use gen_sources::sources_are_accepted;
 use gen_summary::ReplyTally;
 use imp_chains::Widening;
@@ -165,6 +166,15 @@ fn summary<L: Ledger>(
         }
         DomainName::OctagonListSeg => {
             let pair = Pair::new(Octagon, ListSeg);
+            summary_by(alloc, pair, settings, table, seed, size, steps)
+        }
+        DomainName::Shapes => summary_by(alloc, Shapes, settings, table, seed, size, steps),
+        DomainName::IntervalShapes => {
+            let pair = Pair::new(Interval, Shapes);
+            summary_by(alloc, pair, settings, table, seed, size, steps)
+        }
+        DomainName::OctagonShapes => {
+            let pair = Pair::new(Octagon, Shapes);
             summary_by(alloc, pair, settings, table, seed, size, steps)
         }
     }

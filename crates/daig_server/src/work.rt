@@ -10,6 +10,7 @@ use dom_interval::Interval;
 use dom_listseg::ListSeg;
 use dom_octagon::Octagon;
 use dom_product::Pair;
+use dom_shapes::Shapes;
 use imp_table::Table;
 use io_edge::{Sink, Source};
 use serve_command::{AnalysisOptions, DomainName};
@@ -105,6 +106,15 @@ pub(crate) fn serve_program<I: Source, O: Sink, L: Ledger>(
         }
         DomainName::OctagonListSeg => {
             let pair = Pair::new(Octagon, ListSeg);
+            serve_by(alloc, pair, settings, memo, table, script, out, steps)
+        }
+        DomainName::Shapes => serve_by(alloc, Shapes, settings, memo, table, script, out, steps),
+        DomainName::IntervalShapes => {
+            let pair = Pair::new(Interval, Shapes);
+            serve_by(alloc, pair, settings, memo, table, script, out, steps)
+        }
+        DomainName::OctagonShapes => {
+            let pair = Pair::new(Octagon, Shapes);
             serve_by(alloc, pair, settings, memo, table, script, out, steps)
         }
     }

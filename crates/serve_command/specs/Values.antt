@@ -3,7 +3,7 @@ use Rattle.std.specs.Prelude.{ℕ, ◌&&◌, nat_le, Bool, true, false, List, Op
 use Rattle.std.specs.Str.{bytes_eq}
 use Rattle.std.specs.Str.Parse.{digits_value}
 use Rattle.serve_command.specs.declared.job.DomainName.{DomainName}
-use Rattle.serve_command.specs.declared.job.DomainName.TheVariants.{Interval, Octagon, ListSeg, IntervalListSeg, OctagonListSeg}
+use Rattle.serve_command.specs.declared.job.DomainName.TheVariants.{Interval, Octagon, ListSeg, IntervalListSeg, OctagonListSeg, Shapes, IntervalShapes, OctagonShapes}
 use Rattle.serve_command.specs.declared.job.SingleDomain.{SingleDomain}
 use Rattle.serve_command.specs.declared.job.SingleDomain.TheVariants as single
 
@@ -20,7 +20,10 @@ domain_of text =
     else (if bytes_eq text (codes "listseg") then Some ListSeg
     else (if bytes_eq text (codes "interval+listseg") then Some IntervalListSeg
     else (if bytes_eq text (codes "octagon+listseg") then Some OctagonListSeg
-    else None))))
+    else (if bytes_eq text (codes "shapes") then Some Shapes
+    else (if bytes_eq text (codes "interval+shapes") then Some IntervalShapes
+    else (if bytes_eq text (codes "octagon+shapes") then Some OctagonShapes
+    else None)))))))
 
 -- a domain that is no product
 unfoldable pub single_of : List ℕ → Option SingleDomain

@@ -90,6 +90,12 @@ pub enum DomainName {
     IntervalListSeg,
     /// Octagons and list segments as one.
     OctagonListSeg,
+    /// List segments with one graph a shape.
+    Shapes,
+    /// Intervals and shapes as one.
+    IntervalShapes,
+    /// Octagons and shapes as one.
+    OctagonShapes,
 }
 
 /// A domain that is no product: its states can be written and read back.

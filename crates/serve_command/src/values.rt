@@ -36,6 +36,9 @@ pub(crate) fn domain_of(text: &str) -> Option<DomainName>
         "listseg" => Some(DomainName::ListSeg),
         "interval+listseg" => Some(DomainName::IntervalListSeg),
         "octagon+listseg" => Some(DomainName::OctagonListSeg),
+        "shapes" => Some(DomainName::Shapes),
+        "interval+shapes" => Some(DomainName::IntervalShapes),
+        "octagon+shapes" => Some(DomainName::OctagonShapes),
         _ => None,
     }
 }

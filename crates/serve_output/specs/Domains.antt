@@ -15,6 +15,7 @@ use Rattle.dom_octagon_words.specs.Words.{octagon_port}
 use Rattle.dom_listseg_meaning.specs.Covers.{covers as covered_by_segments}
 use Rattle.dom_listseg_meaning.specs.Domain.{segments}
 use Rattle.dom_listseg_words.specs.Words.{segment_port}
+use Rattle.dom_shapes_meaning.specs.Domain.{shapes}
 use Rattle.cert_meaning.specs.Portable.{Portable}
 use Rattle.cert_lines.specs.Theorem.{IsYesSound}
 use Rattle.dom_product_meaning.specs.Product.{product, covered_by_both}
@@ -22,7 +23,7 @@ use Rattle.daig_machine.specs.Machine.{Machine}
 use Rattle.serve_answers.specs.Readings.{Readings}
 use Rattle.serve_answers.specs.Lines.{line_turn}
 use Rattle.serve_command.specs.declared.job.DomainName.{DomainName}
-use Rattle.serve_command.specs.declared.job.DomainName.TheVariants.{Interval, Octagon, ListSeg, IntervalListSeg, OctagonListSeg}
+use Rattle.serve_command.specs.declared.job.DomainName.TheVariants.{Interval, Octagon, ListSeg, IntervalListSeg, OctagonListSeg, Shapes, IntervalShapes, OctagonShapes}
 use Rattle.serve_command.specs.declared.job.SingleDomain.{SingleDomain}
 use Rattle.serve_command.specs.declared.job.SingleDomain.TheVariants as single
 
@@ -44,6 +45,10 @@ by_octagons = meaning octagons covered_by_octagons
 abbrev pub by_segments : Meaning
 by_segments = meaning segments covered_by_segments
 
+-- a state describes what it describes as one of list segments
+abbrev pub by_shapes : Meaning
+by_shapes = meaning shapes covered_by_segments
+
 -- two of them as one
 abbrev pub both : Meaning → Meaning → Meaning
 both a b = meaning (product a.operations b.operations) (covered_by_both a.covers b.covers)
@@ -54,6 +59,9 @@ meaning_of Octagon = by_octagons
 meaning_of ListSeg = by_segments
 meaning_of IntervalListSeg = both by_intervals by_segments
 meaning_of OctagonListSeg = both by_octagons by_segments
+meaning_of Shapes = by_shapes
+meaning_of IntervalShapes = both by_intervals by_shapes
+meaning_of OctagonShapes = both by_octagons by_shapes
 
 -- What a domain means whose states can be written, read back and compared.
 pub record Carried : Type 1 where

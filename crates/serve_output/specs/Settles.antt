@@ -5,11 +5,11 @@ use Rattle.imp_check.specs.Slots.{routines_of}
 use Rattle.batch_meaning.specs.Batch.{LoopOptions}
 use Rattle.dom_interval_meaning.specs.Convergence.{most_changes}
 use Rattle.dom_octagon_meaning.specs.Convergence.{most_changes as most_rises}
-use Rattle.batch_converges.specs.Converges.{Converge, IsEnough, from_the_first, most_graphs, until_widening}
+use Rattle.batch_converges.specs.Converges.{Converge, IsEnough, from_the_first, most_graphs, most_shapes, until_widening}
 use Rattle.batch_product.specs.Claims.{changes_of_both, later_of_both}
 use Rattle.serve_script.specs.Replies.{machine_after}
 use Rattle.serve_command.specs.declared.job.DomainName.{DomainName}
-use Rattle.serve_command.specs.declared.job.DomainName.TheVariants.{Interval, Octagon, ListSeg, IntervalListSeg, OctagonListSeg}
+use Rattle.serve_command.specs.declared.job.DomainName.TheVariants.{Interval, Octagon, ListSeg, IntervalListSeg, OctagonListSeg, Shapes, IntervalShapes, OctagonShapes}
 use Rattle.request_json.specs.declared.reply.Reply.TheVariants as r
 use Rattle.serve_answers.specs.Readings.{Readings}
 use Rattle.serve_answers.specs.Lines.{Served, line_turn, server}
@@ -24,6 +24,9 @@ wait_of Octagon = until_widening
 wait_of ListSeg = from_the_first
 wait_of IntervalListSeg = later_of_both until_widening from_the_first
 wait_of OctagonListSeg = later_of_both until_widening from_the_first
+wait_of Shapes = from_the_first
+wait_of IntervalShapes = later_of_both until_widening from_the_first
+wait_of OctagonShapes = later_of_both until_widening from_the_first
 
 abbrev pub most_of : DomainName → (slots thresholds : ℕ) → ℕ
 most_of Interval = most_changes
@@ -31,6 +34,9 @@ most_of Octagon = most_rises
 most_of ListSeg = most_graphs
 most_of IntervalListSeg = changes_of_both most_changes most_graphs
 most_of OctagonListSeg = changes_of_both most_rises most_graphs
+most_of Shapes = most_shapes
+most_of IntervalShapes = changes_of_both most_changes most_shapes
+most_of OctagonShapes = changes_of_both most_rises most_shapes
 
 -- The budget is enough for a program: the changes, the rounds before they are counted, and two more.
 abbrev pub HasBudget : DomainName → LoopOptions → List Procedure → Type 0

@@ -18,6 +18,7 @@ use dom_interval::Interval;
 use dom_listseg::ListSeg;
 use dom_octagon::Octagon;
 use dom_product::Pair;
+use dom_shapes::Shapes;
 use imp_table::Checked;
 use io_edge::Files;
 use request_json::{Reply, reply_line};
@@ -100,6 +101,15 @@ fn listed<L: Ledger>(
         }
         DomainName::OctagonListSeg => {
             let pair = Pair::new(Octagon, ListSeg);
+            listed_by(alloc, &pair, settings, program, steps)
+        }
+        DomainName::Shapes => listed_by(alloc, &Shapes, settings, program, steps),
+        DomainName::IntervalShapes => {
+            let pair = Pair::new(Interval, Shapes);
+            listed_by(alloc, &pair, settings, program, steps)
+        }
+        DomainName::OctagonShapes => {
+            let pair = Pair::new(Octagon, Shapes);
             listed_by(alloc, &pair, settings, program, steps)
         }
     }

@@ -2,18 +2,20 @@
 ghost use Rattle.batch_sound.specs.Theorem.{AreReportsSound};
 ghost use Rattle.serve_command.specs.declared.job.DomainName.{DomainName as Name};
 ghost use Rattle.dom_listseg_meaning.specs.Domain.{segments};
+ghost use Rattle.dom_shapes_meaning.specs.Domain.{shapes};
 ghost use Rattle.dom_product_meaning.specs.Product.{product};
 ghost use Rattle.serve_answers.specs.Sound.{MomentsAreSound};
 ghost use Rattle.serve_output.specs.Domains.{AnswersAs, meaning_of};
 ghost use Rattle.serve_output.specs.Settles.{NamedDomainsConverge};
 
-use batch_converges::{intervals_converge, octagons_converge, segments_converge};
+use batch_converges::{intervals_converge, octagons_converge, segments_converge, shapes_converge};
 use batch_product::products_converge;
 use batch_sound::reports_are_sound;
 use dom_interval::Interval;
 use dom_listseg::ListSeg;
 use dom_octagon::Octagon;
 use dom_product::Pair;
+use dom_shapes::Shapes;
 use domain_laws::Domain;
 use serve_answers::replies_are_sound;
 
@@ -86,6 +88,49 @@ impl<A: NamedWithLists> Named for Pair<A, ListSeg> {
     ghost answers = { λ d. A.product_answers d.first };
 }
 
+impl Named for Shapes {
+    ghost use Rattle.std.specs.Prelude.{refl};
+    ghost use Rattle.serve_command.specs.declared.job.DomainName.TheVariants as domain;
+
+    ghost name = { domain.Shapes };
+
+    ghost answers = { λ _. record { turns = λ _ _ _. refl; reports = λ _ _. refl; faults = λ _ _. refl } };
+}
+
+/// A domain that the words name together with shapes: lines and reports are answered by the product as by what that name
+/// means.
+pub trait NamedWithShapes: Domain + Drop {
+    /// The name of the product.
+    ghost shapes_name: { Name };
+
+    ghost shapes_answers: { (d : Self) →
+        AnswersAs shapes_name (product (Self.Domain.operations d) shapes) };
+}
+
+impl NamedWithShapes for Interval {
+    ghost use Rattle.std.specs.Prelude.{refl};
+    ghost use Rattle.serve_command.specs.declared.job.DomainName.TheVariants as domain;
+
+    ghost shapes_name = { domain.IntervalShapes };
+
+    ghost shapes_answers = { λ _. record { turns = λ _ _ _. refl; reports = λ _ _. refl; faults = λ _ _. refl } };
+}
+
+impl NamedWithShapes for Octagon {
+    ghost use Rattle.std.specs.Prelude.{refl};
+    ghost use Rattle.serve_command.specs.declared.job.DomainName.TheVariants as domain;
+
+    ghost shapes_name = { domain.OctagonShapes };
+
+    ghost shapes_answers = { λ _. record { turns = λ _ _ _. refl; reports = λ _ _. refl; faults = λ _ _. refl } };
+}
+
+impl<A: NamedWithShapes> Named for Pair<A, Shapes> {
+    ghost name = { A.shapes_name };
+
+    ghost answers = { λ d. A.shapes_answers d.first };
+}
+
 /// Replies to lines and reports are sound by a domain.
 fn domain_is_sound<D: Domain>()
     ensures moments { (d : D) → MomentsAreSound (D.operations d) (D.covers d) }
@@ -106,6 +151,9 @@ pub fn named_domains_are_sound()
     domain_is_sound::<ListSeg>();
     domain_is_sound::<Pair<Interval, ListSeg>>();
     domain_is_sound::<Pair<Octagon, ListSeg>>();
+    domain_is_sound::<Shapes>();
+    domain_is_sound::<Pair<Interval, Shapes>>();
+    domain_is_sound::<Pair<Octagon, Shapes>>();
 }
 
 /// By each domain that the words name no answer of a checked program is an Over, from a budget on that is stated for it: the
@@ -119,4 +167,7 @@ pub fn named_domains_converge()
     segments_converge();
     products_converge::<Interval, ListSeg>();
     products_converge::<Octagon, ListSeg>();
+    shapes_converge();
+    products_converge::<Interval, Shapes>();
+    products_converge::<Octagon, Shapes>();
 }

@@ -17,6 +17,7 @@ use dom_interval::Interval;
 use dom_listseg::ListSeg;
 use dom_octagon::Octagon;
 use dom_product::Pair;
+use dom_shapes::Shapes;
 use fault_report::fault_report;
 use imp_table::Checked;
 use io_edge::Files;
@@ -74,6 +75,15 @@ fn told<L: Ledger>(
         }
         DomainName::OctagonListSeg => {
             let pair = Pair::new(Octagon, ListSeg);
+            told_by(alloc, &pair, settings, program, steps)
+        }
+        DomainName::Shapes => told_by(alloc, &Shapes, settings, program, steps),
+        DomainName::IntervalShapes => {
+            let pair = Pair::new(Interval, Shapes);
+            told_by(alloc, &pair, settings, program, steps)
+        }
+        DomainName::OctagonShapes => {
+            let pair = Pair::new(Octagon, Shapes);
             told_by(alloc, &pair, settings, program, steps)
         }
     }
