@@ -28,7 +28,7 @@ from typing import Any, Iterator
 TOP = Path(__file__).resolve().parent.parent
 FOLDER = TOP / "bench/precision"
 POINTS = FOLDER / "points.jsonl"
-DOMAINS = ("interval", "octagon", "listseg", "octagon+listseg")
+DOMAINS = ("interval", "octagon", "listseg", "shapes", "octagon+listseg", "octagon+shapes")
 VERDICTS = ("safe", "may", "fails", "dead")
 # What says that no run ends with the fault.
 PROVED = ("safe", "dead")

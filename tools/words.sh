@@ -4,7 +4,8 @@
 # the installed command read this file, and call `answer` before they start the program.
 
 version=1.0
-domains="interval octagon listseg interval+listseg octagon+listseg"
+certified="interval octagon listseg"
+domains="$certified shapes interval+listseg octagon+listseg interval+shapes octagon+shapes"
 
 tell_help() {
     cat <<'END'
@@ -25,8 +26,8 @@ commands:
   gen     answers a generated script over a generated program, and writes counts
 
 options:
-  --domain D    interval (default), octagon, listseg, interval+listseg, octagon+listseg; cert and verify take one
-                of the first three
+  --domain D    interval (default), octagon, listseg, shapes, interval+listseg, octagon+listseg, interval+shapes,
+                octagon+shapes; cert and verify take one of the first three
   --widening W  thresholds (default) widens to numbers of the program first, plain does not
   --delay N     rounds of a loop before the first widening, 0 (default) to 100
   --budget N    rounds of a loop at most, 1 to 10000 (default 100)
@@ -74,10 +75,12 @@ look_at() {
 look_at_value() {
     case $1 in
     --domain)
-        for known in $domains; do
+        there=$domains of=
+        case $command in cert | verify) there=$certified of=" of certificates" ;; esac
+        for known in $there; do
             [ "$2" = "$known" ] && return
         done
-        complain "\`$2\` is no domain; there are $domains"
+        complain "\`$2\` is no domain$of; there are $there"
         ;;
     --widening)
         [ "$2" = thresholds ] || [ "$2" = plain ] || complain "\`$2\` is no widening; there are thresholds and plain"

@@ -7,6 +7,7 @@ from pathlib import Path
 from xml.etree import ElementTree
 
 from daig_editor.checking.patterns import Patterns
+from daig_editor.server.choices import DOMAINS
 from tests.check_tool import DEAD, FAILS, LOOPS, NO_PROGRAM, SAFE, UNSAFE, check, folder
 from tests.client import Client
 from tests.program import program
@@ -110,7 +111,7 @@ def test_wrong_configurations() -> None:
     for text, why in (
         ("exclud = []", "there is no key `exclud`; did you mean `exclude`?"),
         ('select = ["bound"]', "select: there is no rule `bound`; did you mean `bounds`?"),
-        ('domain = "oct"', "domain: one of interval, octagon, listseg, interval+listseg, octagon+listseg is wanted"),
+        ('domain = "oct"', f"domain: one of {', '.join(DOMAINS)} is wanted"),
         ("budget = 0", "budget: a number from 1 to 10000 is wanted"),
         ("budget = true", "budget: a number from 1 to 10000 is wanted"),
         ('include = "a"', "include: a list of texts is wanted"),

@@ -115,6 +115,8 @@ def test_certificates() -> None:
         assert check("--cert", "kept", "b.imp", where=here).status == 2 and not (here / "kept/b.octagon.cert").exists()
         assert sorted(it.name for it in (here / "kept").iterdir()) == ["a.listseg.cert", "a.octagon.cert"]
         assert check("--cert", "d.imp", "a.imp", where=here).status == 2
+        found = check("--cert", "kept", "--domain", "interval+shapes", "a.imp", where=here)
+        assert found.status == 2 and "the shapes certificate cannot be kept: there are those of interval, " in found.out, found
         os.mkfifo(here / "kept/d.octagon.cert")
         found = check("--cert", "kept", "d.imp", where=here)
         assert found.status == 2 and "is no file" in found.out, found

@@ -17,6 +17,7 @@ from daig_editor.language.records import dataclass
 from daig_editor.language.text import TextReader
 from daig_editor.language.tree import number_from_one
 from daig_editor.reports.finding import TROUBLE, WHOLE_FILE, CheckedFile, Finding, Key, Level, trouble
+from daig_editor.server.choices import CERTIFIED
 from daig_editor.server.process import STATUS_WORDS, NotStarted, Settings
 
 Json = dict[str, object]
@@ -38,6 +39,8 @@ async def certify(checked: CheckedFile, folder: str, settings: Settings) -> None
         return
     for domain in settings.domain.split("+"):
         try:
+            if domain not in CERTIFIED:
+                raise Failed(f"there are those of {', '.join(CERTIFIED)}")
             with _temporary(checked.source.data) as source:
                 await _Keeper(checked, source, domain, settings).keep(certificate_path(folder, checked.name, domain))
         except (Failed, NotStarted, OSError) as why:

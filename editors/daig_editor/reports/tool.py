@@ -37,9 +37,9 @@ _RULES = (
         "null",
         "A list that is followed may be null.",
         "A cell of a list is read or written, `q.next` or `p.item`, and nothing shows that the variable is not null\n"
-        "in every run. A run where it is null ends there with the fault `null`. List segments know the shape of\n"
-        "lists, of at most 64 shapes at a place; the other domains know nothing of them. A test before it,\n"
-        "`if (p != null) {`, helps where the shapes are known.",
+        "in every run. A run where it is null ends there with the fault `null`. List segments know how lists hang\n"
+        "together, by at most 64 graphs at a place; of more `--domain octagon+shapes` may know it, the other domains\n"
+        "nothing. A test before it, `if (p != null) {`, helps where it is known.",
     ),
     Rule(
         "assert",

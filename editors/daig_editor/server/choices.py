@@ -4,7 +4,18 @@ from __future__ import annotations
 import os
 from enum import Enum
 
-DOMAINS = ("interval", "octagon", "listseg", "interval+listseg", "octagon+listseg")
+DOMAINS = (
+    "interval",
+    "octagon",
+    "listseg",
+    "shapes",
+    "interval+listseg",
+    "octagon+listseg",
+    "interval+shapes",
+    "octagon+shapes",
+)
+# Those whose states can be written as certificates.
+CERTIFIED = DOMAINS[:3]
 WIDENINGS = ("plain", "thresholds")
 DOMAIN = "octagon+listseg"
 
