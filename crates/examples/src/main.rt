@@ -31,7 +31,7 @@ const SERVED: [(&str, &str); 14] = [
 ];
 
 /// The files of rows.
-const ROWS: [&str; 16] = [
+const ROWS: [&str; 17] = [
     "states",
     "calls",
     "edits",
@@ -40,6 +40,7 @@ const ROWS: [&str; 16] = [
     "runs",
     "lines",
     "domains",
+    "shapes",
     "batches",
     "fault_reports",
     "certs",
