@@ -196,7 +196,7 @@ def main(words: list[str]) -> int:
         run_gate(tally)
     print("== all")
     if not words:
-        print("Proofs were not run: ./test --all runs them too, in one to two and a half hours.")
+        print("Proofs were not run: ./test --all runs them too, in an hour and forty minutes.")
     return tally.end()
 
 
