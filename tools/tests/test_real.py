@@ -27,6 +27,7 @@ fn main(rt: HostRuntime) -> io::Result<()> {
 
 DOUBLED = """//! Twice a number.
 #![tactic(auto)]
+
 ghost use Rattle.std.specs.Prelude.{◌≡◌, ◌<◌, ◌+◌};
 
 /// Twice a number below 1,000.
@@ -39,6 +40,7 @@ pub fn doubled(number: u32) -> u32
 """
 TWICE = """//! Writes twice 21.
 #![tactic(auto)]
+
 use doubles::doubled;
 use std::io;
 
