@@ -37,8 +37,21 @@ UNEXPECTED = [
     ("else { }", "else", "straight after the `}` of an `if`"),
     ("p.foo = 1;", "foo", "`next` or `item` is wanted"),
     ("}", "}", "`proc` is wanted"),
+    ("if (x) { }", ")", "a condition is a comparison, as `i != 0`"),
+    ("if ((x + 1) < 3) { }", ")", "whose left side does not begin with `(`"),
+    ("if (x < 1 and x > 0) { }", "and", "did you mean `&&`?"),
+    ("x = twice(1);", "(", "did you mean `call twice(..)`?"),
+    ("whlie (x < 3) { }", "(", "did you mean `while (..)`?"),
+    ("if (x < 1) { } elif (x > 1) { }", "(", "write `else { if (..) { .. } }`"),
+    ("x = 1\n  count = 2;", "count", "`;` is wanted; line"),
+]
+# A statement of main, a byte that begins no token, and what is told.
+BYTES = [
+    ("if (x < 1 & x > 0) { }", "&", "did you mean `&&`? (BadByte)"),
+    ("if (x < 1 | x > 0) { }", "|", "did you mean `||`? (BadByte)"),
 ]
 CHECKED = [
+    ("p = nil;", "nil", "no variable `nil` is declared; did you mean `null`?"),
     ("count = coutn + 1;", "coutn", "no variable `coutn` is declared; did you mean `count`?"),
     ("x = call twise(1);", "twise", "no procedure `twise` is declared; did you mean `twice`?"),
     ("x = call main();", "main", "a procedure does not call itself"),
@@ -80,6 +93,16 @@ def test_unexpected_words() -> None:
         refusal = told(text)
         place = text[refusal.span.start : refusal.span.end].decode()
         assert place == word and words in refusal.words, (statement, place, refusal.words)
+
+
+def test_bytes() -> None:
+    """A byte that begins no token is told with what could be meant by it."""
+    for statement, byte, words in BYTES:
+        text = f"proc main() {{\n  {statement}\n}}\n".encode()
+        refusal = told(text)
+        assert refusal.span.start == text.index(byte.encode()) and refusal.words.endswith(words), refusal
+    assert "it is a byte order mark: save the text without one (BadByte)" in told(b"\xef\xbb\xbfproc main() { }").words
+    assert told(b"proc main() { # }").words == "no token begins with this byte (BadByte)"
 
 
 def test_checked_words() -> None:

@@ -23,6 +23,12 @@ FOREIGN = {
     "null": "`null` is compared, assigned or handed over alone",
     "call": "a call is a statement, or stands alone after `NAME =`",
 }
+# The same, of words that stand where the word of the language would: with what is to stand there.
+MEANT = {"and": "&&", "or": "||", "not": "!", "nil": "null", "NULL": "null", "None": "null", "nullptr": "null"}
+ELSE_IF = ("elif", "elsif", "elseif")
+BYTES = {b"&": "did you mean `&&`?", b"|": "did you mean `||`?"}
+MARK = b"\xef\xbb\xbf"
+CONDITION = "a condition is a comparison, as `i != 0`, whose left side does not begin with `(`"
 ALONE = "an element or a part of a cell is read alone: assign it to a variable first"
 OPERATORS = ("+", "-", "*", "/", "%", "<", "<=", ">", ">=", "==", "!=", "&&", "||")
 
@@ -45,7 +51,9 @@ def refusal_of_size() -> Refusal:
 def refusal_of_fault(text: bytes, fault: Fault) -> Refusal:
     """The refusal of a text that cannot be read."""
     if fault.name != "Unexpected" or not fault.wanted:
-        return Refusal(fault.span, refusal_words(fault.name))
+        more = _byte_hint(text, fault.span.start) if fault.name == "BadByte" else ""
+        words = refusal_words(fault.name)
+        return Refusal(fault.span, f"{words.removesuffix(' (BadByte)')}; {more} (BadByte)" if more else words)
     shown = fault.word if fault.word == "the end" else f"`{fault.word}`"
     words = f"{shown} is unexpected, {' or '.join(fault.wanted)} is wanted"
     hint, meant = _hint(fault)
@@ -55,13 +63,29 @@ def refusal_of_fault(text: bytes, fault: Fault) -> Refusal:
         if opened:
             related = ((opened, "this `{` is still open"),)
             hint = f"the `{{` at line {text.count(10, 0, opened.start) + 1} is still open"
+    elif not hint and fault.wanted == ("`;`",):
+        hint = _end_hint(text, fault.span.start)
     return Refusal(fault.span, f"{words}{f'; {hint}' if hint else ''} ({fault.name})", related, meant)
+
+
+def _byte_hint(text: bytes, place: int) -> str:
+    """What could be meant by a byte that begins no token."""
+    if text.startswith(MARK, place):
+        return "it is a byte order mark: save the text without one"
+    return BYTES.get(text[place : place + 1], "")
+
+
+def _end_hint(text: bytes, place: int) -> str:
+    """Where a `;` is missing, if that is on an earlier line."""
+    ended = [it.span.end for it in Outline(text[:place]).code]
+    line = text.count(10, 0, ended[-1]) + 1 if ended else 0
+    return f"line {line} ends without one" if ended and b"\n" in text[ended[-1] : place] else ""
 
 
 def _hint(fault: Fault) -> tuple[str, tuple[str, ...]]:
     """What could be meant, in words, and what could stand in the place of the word."""
     word, before, wanted = fault.word, fault.before, fault.wanted
-    if "a name" in wanted and word in RESERVED:
+    if any(it.startswith(("a name", "the name")) for it in wanted) and word in RESERVED:
         return f"`{word}` is a word of the language", ()
     if "`proc`" in wanted:
         return ("a program is made of procedures: `proc main() { .. }`", ()) if word != "}" else ("", ())
@@ -71,12 +95,18 @@ def _hint(fault: Fault) -> tuple[str, tuple[str, ...]]:
         return FOREIGN[before], ()
     if "a comparison" in wanted and word == "=":
         return "did you mean `==`?", ("==",)
+    if "a comparison" in wanted and word == ")":
+        return CONDITION, ()
+    if word in MEANT and wanted != ("`=`",):
+        return f"did you mean `{MEANT[word]}`?", (MEANT[word],)
+    if "`;`" in wanted and word == "(":
+        return f"did you mean `call {before}(..)`?", ()
     if wanted == ("`=`",) and word == "==":
         return "did you mean `=`?", ("=",)
     if wanted == ("`=`",) and before in FOREIGN and before not in RESERVED:
         return FOREIGN[before], ()
     if wanted == ("`=`",) and word == "(":
-        return f"did you mean `call {before}(..)`?", ()
+        return _called(before), ()
     if wanted == ("`=`",) and word in ("+", "-", "*", "/"):
         return f"write `{before} = {before} {word} ..;`", ()
     if word == "if" and before == "else":
@@ -90,6 +120,16 @@ def _hint(fault: Fault) -> tuple[str, tuple[str, ...]]:
     if word in FOREIGN:
         return FOREIGN[word], ()
     return "", ()
+
+
+def _called(word: str) -> str:
+    """What could be meant by a word with a `(` after it, at the start of a statement."""
+    from difflib import get_close_matches  # wanted only where something is wrong
+
+    if word in ELSE_IF:
+        return "write `else { if (..) { .. } }`"
+    similar = get_close_matches(word, ("while",), 1, 0.7)
+    return f"did you mean `{similar[0]} (..)`?" if similar else f"did you mean `call {word}(..)`?"
 
 
 def open_brace(text: bytes, end: int) -> Span | None:
@@ -213,7 +253,7 @@ def _unknown(outline: Outline, proc: ProcOutline, word: str, span: Span, calls: 
         names = list(proc.named)
     from difflib import get_close_matches  # wanted only where something is wrong
 
-    meant = tuple(get_close_matches(word, names, 3, 0.6))
+    meant = tuple(get_close_matches(word, names, 3, 0.6)) or ((MEANT[word],) if word in MEANT else ())
     hint = f"; did you mean {' or '.join(f'`{it}`' for it in meant)}?" if meant else ""
     what = "procedure" if calls else "variable"
     return Refusal(span, f"no {what} `{word}` is declared{hint} (UnknownName)", (), meant)

@@ -108,7 +108,9 @@ def _problem(given: object) -> str | None:
         return "a path is wanted"
     if _is_relative(given):
         return f"a whole path, or a name that the shell finds, is wanted, and not {given}"
-    return None if shutil.which(os.path.expanduser(given)) else f"there is no program {given}; give the path of one by the setting `daig`"
+    if shutil.which(os.path.expanduser(given)):
+        return None
+    return f"there is no program {given}; give the path of one by the setting `daig`"
 
 
 def _is_relative(given: str) -> bool:
