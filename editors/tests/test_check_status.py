@@ -2,6 +2,7 @@
 from __future__ import annotations
 
 import asyncio
+import json
 import os
 import resource
 import signal
@@ -83,6 +84,16 @@ def test_hostile_files() -> None:
         (here / os.fsdecode(b"\xe9.imp")).write_text(UNSAFE)
         for form in ("brief", "json", "sarif", "html"):
             assert check("--format", form, os.fsdecode(b"\xe9.imp"), where=here).status == 1, form
+        # Bytes and characters of a name that a terminal obeys are spelled out, in JSON as JSON does.
+        strange = here / os.fsdecode("\u202e\u2028".encode() + b"\x9b.imp")
+        strange.write_text(UNSAFE)
+        text = check("--format", "brief", strange.name, where=here).out
+        assert text.startswith("\\u202e\\u2028\\x9b.imp:4:3: "), text
+        for form in ("json", "sarif"):
+            told = check("--format", form, strange.name, where=here).out
+            assert not {"\u202e", "\u2028", "\x9b"} & set(told) and json.loads(told), told
+        objects = check("--format", "json", strange.name, where=here).objects
+        assert objects[0]["file"] == "\u202e\u2028\ufffd.imp", objects
 
 
 def test_lost_servers() -> None:

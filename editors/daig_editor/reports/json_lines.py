@@ -6,6 +6,7 @@ import os
 
 from daig_editor.reports.finding import CheckedFile, Finding
 from daig_editor.reports.regions import byte_region, lines_of
+from daig_editor.reports.shown import plain_json
 
 
 class JsonReport:
@@ -13,7 +14,8 @@ class JsonReport:
 
     def file(self, checked: CheckedFile) -> str:
         """The lines of a file."""
-        return "".join(json.dumps(_fields(checked, it), ensure_ascii=False) + "\n" for it in checked.findings)
+        lines = (json.dumps(_fields(checked, it), ensure_ascii=False) + "\n" for it in checked.findings)
+        return plain_json("".join(lines))
 
     def end(self) -> str:
         """Nothing."""

@@ -12,6 +12,7 @@ from daig_editor.language.tree import Span
 from daig_editor.reports.finding import TROUBLE, CheckedFile, Finding, Weight
 from daig_editor.reports.project import ProjectPath
 from daig_editor.reports.regions import utf16_region
+from daig_editor.reports.shown import plain_json
 from daig_editor.reports.tool import CANNOT_FAIL_PROPERTY, FAULTS_PROPERTY, NAME, PRINT, RULES, VERSION, Rule
 from daig_editor.server.choices import Faults
 
@@ -60,7 +61,8 @@ class SarifReport:
         run["results"] = self._results
         tells_all = all(it.tells_all for it in self._files if it.status != TROUBLE)
         run["properties"] = {FAULTS_PROPERTY: (Faults.ALL if tells_all else Faults.CHECKS).value}
-        return json.dumps({"$schema": SCHEMA, "version": "2.1.0", "runs": [run]}, indent=1, ensure_ascii=False) + "\n"
+        log = json.dumps({"$schema": SCHEMA, "version": "2.1.0", "runs": [run]}, indent=1, ensure_ascii=False)
+        return plain_json(log) + "\n"
 
     def _artifact(self, checked: CheckedFile) -> Json:
         """A file that was checked, and whether no run of it ends with a fault."""

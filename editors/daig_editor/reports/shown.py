@@ -5,8 +5,10 @@ import re
 import unicodedata
 
 TAB = 8
-# Control characters, line separators, and those that turn the direction of text.
-_HIDDEN = re.compile("[\x00-\x08\x0a-\x1f\x7f-\x9f\u2028\u2029\u202a-\u202e\u2066-\u2069]")
+# Control characters, line separators, and those that turn the direction of text; bytes of names that a terminal may take
+# for control characters, as Python has them.
+_HIDDEN = re.compile("[\x00-\x08\x0a-\x1f\x7f-\x9f\u2028\u2029\u202a-\u202e\u2066-\u2069\udc80-\udc9f]")
+_BYTES = 0xDC00
 
 
 def shown(text: str) -> str:
@@ -21,7 +23,13 @@ def shown(text: str) -> str:
 def _spelled(match: re.Match[str]) -> str:
     """A control character by its number."""
     code = ord(match.group())
+    code -= _BYTES if code > _BYTES else 0
     return f"\\x{code:02x}" if code < 256 else f"\\u{code:04x}"
+
+
+def plain_json(text: str) -> str:
+    """JSON whose texts have the same characters, those spelled out that a terminal would obey."""
+    return _HIDDEN.sub(lambda it: it.group() if it.group() == "\n" else f"\\u{ord(it.group()):04x}", text)
 
 
 def width(text: str) -> int:
