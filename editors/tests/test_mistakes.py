@@ -5,6 +5,7 @@ from daig_editor.language.refusals import Refusal, refusal_of_check, refusal_of_
 from daig_editor.language.text import TextReader
 from daig_editor.language.tokens import Fault
 from daig_editor.language.tree import number_from_one
+from tests.check_tool import check, folder
 from tests.small import URI, opened
 
 # A statement of main, the words at the place, and what is told.
@@ -127,6 +128,23 @@ def test_meant() -> None:
     assert actions[0]["title"] == "Write `count`" and actions[0]["kind"] == "quickfix", actions
     assert actions[0]["edit"]["changes"][URI] == [{"range": diagnostics[0]["range"], "newText": "count"}]
     client.close()
+
+
+def test_all_unknown_names() -> None:
+    """All names that are not declared are told, in the editor and by daig-check, and each can be mended."""
+    text = FRONT + "count = coutn + 1;\n  x = cuont;\n  call shwo(other);\n}\n"
+    client, diagnostics = opened({}, text)
+    words = [it["message"].partition(";")[0].partition(" (")[0] for it in diagnostics]
+    wanted = ["variable `coutn`", "variable `cuont`", "procedure `shwo`", "variable `other`"]
+    assert words == [f"no {it} is declared" for it in wanted], diagnostics
+    params = {"textDocument": {"uri": URI}, "range": diagnostics[2]["range"], "context": {"diagnostics": []}}
+    actions = client.request("textDocument/codeAction", params)
+    assert [(it["title"], it["diagnostics"]) for it in actions] == [("Write `show`", [diagnostics[2]])], actions
+    client.close()
+    with folder(a_imp=text) as here:
+        found = check("--format", "json", "a.imp", where=here)
+    assert found.status == 2 and [it["line"] for it in found.objects] == [5, 6, 7, 7], found
+    assert len({str(it["fingerprint"]) for it in found.objects}) == 4, found
 
 
 def test_open_brace() -> None:

@@ -90,7 +90,7 @@ local function mend()
   keys("$xa 2;<Esc>")
   expect("12 WARN bounds", "the expression is whole")
   keys("4Gdd")
-  expect("11 WARN bounds, 5 ERROR UnknownName", "a declaration is gone")
+  expect("11 WARN bounds, 5 ERROR UnknownName, 6 ERROR UnknownName", "a declaration is gone")
   vim.cmd("silent undo")
   expect("12 WARN bounds", "the declaration is back")
 end

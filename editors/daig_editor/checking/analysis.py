@@ -78,7 +78,7 @@ def told_in(checked: CheckedFile) -> Iterator[None]:
     try:
         yield
     except NoProgram as why:
-        checked.findings.append(why.finding)
+        checked.findings += why.findings
     except (Gone, BadReply) as why:
         more = "; --memory gives it more" if isinstance(why, Gone) and why.of_memory else ""
         checked.findings.append(trouble(f"daig serve cannot be asked: {why}{more}"))
@@ -94,11 +94,11 @@ async def add_findings(checked: CheckedFile, server: Served, wanted: Wanted, old
 
 
 class NoProgram(Exception):
-    """A text of which no server runs; the finding says why."""
+    """A text of which no server runs; the findings say why."""
 
-    def __init__(self, finding: Finding) -> None:
-        super().__init__(finding.message)
-        self.finding = finding
+    def __init__(self, *findings: Finding) -> None:
+        super().__init__(findings[0].message)
+        self.findings = findings
 
 
 @asynccontextmanager
@@ -126,7 +126,7 @@ async def _serve(data: bytes, settings: Settings, start: Start) -> Served:
     try:
         server = await start(settings, data)
     except Refused as why:
-        raise NoProgram(refused(data, program, fault, why.reply)) from None
+        raise NoProgram(*refused(data, program, fault, why.reply)) from None
     except NotStarted as why:
         raise NoProgram(trouble(f"daig serve cannot be asked: {why}")) from None
     if program is None:

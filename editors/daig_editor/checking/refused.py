@@ -21,11 +21,12 @@ def read_program(data: bytes) -> tuple[Program | None, Fault | None]:
         return None, fault
 
 
-def refused(data: bytes, program: Program | None, fault: Fault | None, reply: Reply) -> Finding:
-    """The finding of a server's refusal of a text."""
+def refused(data: bytes, program: Program | None, fault: Fault | None, reply: Reply) -> list[Finding]:
+    """The findings of a server's refusal of a text."""
     from daig_editor.language.refusals import refusal_of_reply
 
-    return _finding(refusal_of_reply(data, program, fault, reply), str(reply.get("name")))
+    found = refusal_of_reply(data, program, fault, reply).all
+    return [_finding(it, str(reply.get("name")), number) for number, it in enumerate(found)]
 
 
 def too_long() -> Finding:
@@ -35,6 +36,7 @@ def too_long() -> Finding:
     return _finding(refusal_of_size(), "Size")
 
 
-def _finding(refusal: Refusal, name: str) -> Finding:
+def _finding(refusal: Refusal, name: str, ordinal: int = 0) -> Finding:
     """The finding of a refusal."""
-    return Finding("source", Level.ERROR, refusal.span, refusal.words, Key("", "", name), related=refusal.related)
+    key = Key("", "", name, ordinal)
+    return Finding("source", Level.ERROR, refusal.span, refusal.words, key, related=refusal.related)

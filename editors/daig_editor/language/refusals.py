@@ -3,7 +3,7 @@ from __future__ import annotations
 
 from daig_editor.language.kinds import kind_mistakes
 from daig_editor.language.outline import Outline, ProcOutline
-from daig_editor.language.records import dataclass
+from daig_editor.language.records import dataclass, replace
 from daig_editor.language.text import span_of_fault
 from daig_editor.language.tokens import GREATEST_SOURCE, RESERVED, Fault
 from daig_editor.language.tree import Program, Span
@@ -29,18 +29,27 @@ ELSE_IF = ("elif", "elsif", "elseif")
 BYTES = {b"&": "did you mean `&&`?", b"|": "did you mean `||`?"}
 MARK = b"\xef\xbb\xbf"
 CONDITION = "a condition is a comparison, as `i != 0`, whose left side does not begin with `(`"
+# So many names that are not declared are told beside the first.
+MOST_OTHERS = 50
 ALONE = "an element or a part of a cell is read alone: assign it to a variable first"
 OPERATORS = ("+", "-", "*", "/", "%", "<", "<=", ">", ">=", "==", "!=", "&&", "||")
 
 
 @dataclass(frozen=True)
 class Refusal:
-    """What is said against a text: where, in which words, with what beside it, and what could stand there."""
+    """What is said against a text: where, in which words, with what beside it, and what could stand there; `others` are
+    more that is wrong, which no server has said."""
 
     span: Span
     words: str
     related: tuple[tuple[Span, str], ...] = ()
     meant: tuple[str, ...] = ()
+    others: tuple[Refusal, ...] = ()
+
+    @property
+    def all(self) -> tuple[Refusal, ...]:
+        """This one and the others."""
+        return (self, *self.others)
 
 
 def refusal_of_size() -> Refusal:
@@ -172,7 +181,19 @@ def refusal_of_check(text: bytes, program: Program, name: str, at: int, proc_nam
         return Refusal(Span(0, 0), refusal_words(name))
     head, proc = placed.head, outline.proc_at(placed.span.start)
     found = _of_statement(outline, proc, head, name) if proc else None
-    return found or Refusal(head, refusal_words(name))
+    if found is None:
+        return Refusal(head, refusal_words(name))
+    return replace(found, others=_other_names(outline, found.span)) if name == "UnknownName" else found
+
+
+def _other_names(outline: Outline, first: Span) -> tuple[Refusal, ...]:
+    """The other names that are not declared, each use of them."""
+    found: list[Refusal] = []
+    for it in outline.occurrences:
+        proc = outline.proc_at(it.token.span.start)
+        if it.declared is None and it.token.span != first and proc and len(found) < MOST_OTHERS:
+            found.append(_unknown(outline, proc, it.token.word, it.token.span, it.calls))
+    return tuple(found)
 
 
 def refusal_of_reply(text: bytes, program: Program | None, fault: Fault | None, reply: dict[str, object]) -> Refusal:

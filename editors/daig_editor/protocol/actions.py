@@ -38,14 +38,13 @@ def _command(title: str, command: str, *arguments: object) -> Json:
 
 def _repairs(document: Document, start: int, end: int) -> list[Json]:
     """What could be meant in the place of a word that is refused."""
-    refusal = document.refusal
-    if refusal is None or end < refusal.span.start or refusal.span.end < start:
-        return []
-    about = diagnostics(document)[0]
     told: list[Json] = []
-    for word in refusal.meant:
-        edit = {"changes": {document.uri: [{"range": document.text.range(refusal.span), "newText": word}]}}
-        told.append({"title": f"Write `{word}`", "kind": "quickfix", "diagnostics": [about], "edit": edit})
+    for refusal, about in zip(document.refusal.all if document.refusal else (), diagnostics(document)):
+        if end < refusal.span.start or refusal.span.end < start:
+            continue
+        for word in refusal.meant:
+            edit = {"changes": {document.uri: [{"range": document.text.range(refusal.span), "newText": word}]}}
+            told.append({"title": f"Write `{word}`", "kind": "quickfix", "diagnostics": [about], "edit": edit})
     return told
 
 

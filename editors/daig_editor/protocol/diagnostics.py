@@ -22,8 +22,7 @@ MOST_RELATED = 20
 def diagnostics(document: Document) -> list[Json]:
     """What is said of the present text, and the findings of the last report where they still have a place."""
     told: list[Json] = []
-    if document.refusal:
-        refusal = document.refusal
+    for refusal in document.refusal.all if document.refusal else ():
         more: Json = {"data": {"meant": list(refusal.meant)}} if refusal.meant else {}
         related = [_related(document, span, words) for span, words in refusal.related]
         told.append(_diagnostic(document, refusal.span, ERROR, refusal.words, related, **more))
