@@ -76,6 +76,18 @@ def test_path_of_a_run() -> None:
     client.close()
 
 
+def test_causes_by_variables() -> None:
+    """What has a variable of the check comes first of what it hangs on, then the nearest."""
+    text = (
+        "proc main() {\n  var i: int;\n  var k: int;\n  var a: array;\n  a = array 9;\n  i = input;\n  k = input;\n"
+        "  if (k < 3) {\n    a[i] = 1;\n  }\n}\n"
+    )
+    client, _ = opened({"runs": 0}, text)
+    told = client.published(1, lambda told: beside(told))
+    assert beside(told) == [f"{line} hangs on this" for line in (6, 5, 8, 7)], beside(told)
+    client.close()
+
+
 def rested(client: Client, version: int) -> list[Json]:
     """The diagnostics of a version after it has rested, by which each finding has what it hangs on."""
     return client.published(version, lambda told: any("relatedInformation" in it for it in told))

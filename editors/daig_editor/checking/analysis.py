@@ -7,7 +7,6 @@ from typing import TYPE_CHECKING, AsyncIterator, Iterator, Mapping
 
 from daig_editor.checking.asking import NEVER_REACHED, BadReply, Over, Served, ordinals
 from daig_editor.checking.refused import read_program, refused, too_long
-from daig_editor.checking.relevance import Relevance
 from daig_editor.checking.words import (
     CALLED_HERE,
     DEAD,
@@ -20,6 +19,7 @@ from daig_editor.checking.words import (
 )
 from daig_editor.language.checks import SLIGHT, evaluated_at, fault_of
 from daig_editor.language.places import SourceText
+from daig_editor.language.relevance import Relevance
 from daig_editor.language.records import dataclass, replace
 from daig_editor.language.tokens import GREATEST_SOURCE
 from daig_editor.language.tree import Program, Span, Stmt, StmtKind, number_from_one

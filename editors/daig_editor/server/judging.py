@@ -7,6 +7,7 @@ from typing import Any, Callable
 from daig_editor.language.checks import CHECKS, check_of, evaluated_at, many_checks, many_faults, rule_of, rules_of
 from daig_editor.language.ignores import ignored_rules, lines_of_span
 from daig_editor.language.records import replace
+from daig_editor.language.relevance import Relevance
 from daig_editor.language.tree import Placed, Program, Stmt, StmtKind
 from daig_editor.language.words import is_never, over_words
 from daig_editor.server.asking import Asker, TookLong
@@ -203,18 +204,20 @@ class Judge:
         findings.sort(key=lambda it: (it.weight, it.verdict == "dead"))
         first = [it for it in findings if it.verdict != "dead"][:MOST_EXPLAINED]
         certain = {it.place.stmt.number for it in findings if it.verdict == "fails"}
-        explained = {id(it): await self._explain(good, it, certain) for it in first}
+        places = {it.stmt.number: (proc, it) for proc in good.program.procs for it in proc.placed()} if first else {}
+        relevance = Relevance(places)
+        explained = {id(it): await self._explain(good, it, certain, relevance) for it in first}
         return _told(replace(report, findings=[explained.get(id(it), it) for it in findings]))
 
-    async def _explain(self, good: Good, finding: Finding, certain: set[int]) -> Finding:
+    async def _explain(self, good: Good, finding: Finding, certain: set[int], relevance: Relevance) -> Finding:
         """One finding with what is known about it; at `certain` statements it is known that no run goes on."""
-        stmt, begin = finding.place.stmt, finding.place.head.start
-        causes = await causes_of(self._ask, good, stmt)
-        causes.sort(key=lambda it: (it.head.start > begin, abs(begin - it.head.start)))
+        stmt = finding.place.stmt
+        causes = {it.stmt.number: it for it in await causes_of(self._ask, good, stmt)}
+        ordered = tuple(causes[it] for it in relevance.ordered(stmt.number, causes))
         ends = finding.ends
         if stmt.number not in certain and stmt.kind is StmtKind.SIMPLE and not stmt.callee:
             ends = is_never(str((await self._state(f"after {stmt.number}")).get("state", "")))
-        return replace(finding, ends=ends, causes=tuple(causes))
+        return replace(finding, ends=ends, causes=ordered)
 
 
 def _checks(stmt: Stmt) -> list[str]:
