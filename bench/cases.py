@@ -8,7 +8,7 @@ from scripts import (
     edits_twenty, growing, leaf_states, loops_deleted, many, storm, tickets, why_at_end,
 )
 from sources import (
-    PART, PARTS, chains, checks, comments, five, graphs, lists, loops, mixed, parts, sixteen, slots, straight, thousand, wide,
+    PART, PARTS, chains, checks, comments, constants, five, graphs, lists, loops, mixed, parts, sixteen, slots, straight, thousand, wide,
 )
 
 
@@ -35,6 +35,11 @@ def closing(many: int, from_number: int = 0) -> Case:
     """Loops over `many` ints by octagons: nearly all of their time is closing."""
     told = f"the state after loops over {many} ints, by octagons with {'wide' if from_number else 'narrow'} entries"
     return Case(told, (1_600, 3_200), lambda count: slots(count, many, from_number), at_end, "octagon")
+
+
+def constants_by(domain: str) -> Case:
+    """A loop that is widened, with so many thresholds."""
+    return Case(f"the state after a loop over 15 ints beside so many constants ({domain})", (3_300, 33_000), constants, at_end, domain)
 
 
 def storm_by(domain: str) -> Case:
@@ -74,6 +79,7 @@ CASES = {
     "octagon-16": Case("the same by octagons", (800, 1_600), sixteen, at_end, "octagon"),
     **{f"closing-{many}": closing(many) for many in (5, 8, 16)},
     **{f"closing-{many}-wide": closing(many, 1 << 26) for many in (5, 8, 16)},
+    **{f"constants-{it}": constants_by(it) for it in ("interval", "octagon")},
     "interval-lists": Case("the state after loops over lists, by intervals", (2_400, 4_800, 9_600), lists, at_end),
     "listseg-lists": Case("the same by list segments", (2_400, 4_800, 9_600), lists, at_end, "listseg"),
     "edits": Case("10,000 edits near the end with a state after each", (2_500, 5_000, 10_000), straight, edits_near_end),

@@ -72,6 +72,18 @@ def sixteen(count: int) -> str:
     return slots(count, 16)
 
 
+def constants(many: int) -> str:
+    """A main whose loop moves 15 ints on by an unknown 0 or 1, and so many constants, which are thresholds of the loop."""
+    names = [f"x{k}" for k in range(15)]
+    below = " && ".join(f"{it} < 90" for it in names)
+    lines = ["proc main() {", "  var y: int;", *(f"  var {it}: int;" for it in names)]
+    lines += ["  y = input;", "  if (y < 0) { y = 0; }", "  if (1 < y) { y = 1; }"]
+    lines += [f"  while ({below}) {{", *(f"    {it} = {it} + y;" for it in names), "  }"]
+    for first in range(2, 2 + many, 33):
+        lines.append(f"  y = {' + '.join(str(first + k) for k in range(33))};")
+    return "\n".join([*lines, "}", ""])
+
+
 def lists(count: int) -> str:
     """A main of loops that make and walk a list, `count` statements in all."""
     lines = ["proc main() {", "  var n: int;", "  var p: list;", "  var q: list;"]
