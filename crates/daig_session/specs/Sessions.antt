@@ -2,7 +2,7 @@
 use Rattle.std.specs.Prelude.{◌≡◌, ◌+◌, ℕ, suc}
 use Rattle.domain_laws.specs.Operations.{Operations}
 use Rattle.daig_query.specs.Filled.{cells_added}
-use Rattle.daig_query.specs.Swept.{IsBounded}
+use Rattle.daig_query.specs.Swept.{most_held, IsBounded, IsWithin}
 use Rattle.daig_machine.specs.Machine.{Machine}
 use Rattle.daig_session.specs.declared.parts.Parts.{Parts}
 use Rattle.daig_session.specs.Engines.{WorksAtMost}
@@ -53,3 +53,7 @@ StaysBounded old new = IsWithinBound old → IsWithinBound new
 -- The same with nothing beside.
 abbrev pub TicksForFilled : {D S : Type 0} → (counted : D → ℕ) → (old new : Parts D S) → (before after : ℕ) → Type 0
 TicksForFilled counted old new before after = TicksAtMost counted old before after (suc (cells_filled old new))
+
+-- After a sweep a call keeps states and operations within their bound.
+abbrev pub BoundsSwept : {D S : Type 0} → (old new : Parts D S) → Type 0
+BoundsSwept old new = IsWithin (most_held old.engine.spare old.engine.store) old.engine.store → IsWithinBound new
