@@ -2,17 +2,16 @@
 -- alone; each answer comes from interpreting the program from scratch.
 use Rattle.std.specs.Prelude.{ℕ, List, [], ◌∷◌, Option, Some, None, ◌==◌, if◌then◌else◌}
 use Rattle.imp_syntax.specs.Plain.{Procedure}
-use Rattle.imp_syntax.specs.declared.edit.Location.{Location}
 use Rattle.batch_meaning.specs.Batch.{LoopOptions}
 use Rattle.cell_names.specs.Paths.{CellName}
 use Rattle.imp_check.specs.Slots.{routines_of}
 use Rattle.imp_flow.specs.Plans.{Plan, plan_of}
+use Rattle.daig_machine.specs.declared.question.Question.{Question}
 
--- A question that is answered in steps: its number, where it asks, and under which call string.
+-- A question that is answered in steps, under a number.
 pub record Ticket : Type 0 where
   pub number : ℕ
-  pub at : Location
-  pub string : List ℕ
+  pub question : Question
 
 -- the ticket of a number, and the tickets without it
 abbrev pub ticket_of : ℕ → List Ticket → Option Ticket

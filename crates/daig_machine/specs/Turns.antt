@@ -4,7 +4,10 @@ use Rattle.imp_syntax.specs.Plain.{Procedure}
 use Rattle.imp_syntax.specs.declared.edit.Location.{Location}
 use Rattle.imp_syntax.specs.declared.edit.Edit.{Edit}
 use Rattle.domain_laws.specs.Operations.{Operations}
-use Rattle.batch_meaning.specs.Answers.{Answer, Found, In, Misses, answer, procedure_of}
+use Rattle.imp_words.specs.declared.refusal.QueryRefusal.{QueryRefusal}
+use Rattle.imp_slots.specs.Plain.{Routine}
+use Rattle.batch_meaning.specs.Batch.{LoopOptions}
+use Rattle.batch_meaning.specs.Answers.{Answer, Answers, Found, In, Misses, Refuses, answer, procedure_of}
 use Rattle.daig_order.specs.InTurn.{missing_in_turn}
 use Rattle.daig_order.specs.Order.{member, fill_all}
 use Rattle.cell_names.specs.Paths.{CellName}
@@ -18,6 +21,8 @@ use Rattle.imp_edit.specs.Edited.{edited, next_after}
 use Rattle.cell_kept_set.specs.KeptTest.{stays_kept}
 use Rattle.cell_graph.specs.Same.{same_name}
 use Rattle.why_slice.specs.Upstream.{upstream}
+use Rattle.daig_machine.specs.declared.question.Question.{Question}
+use Rattle.daig_machine.specs.declared.question.Question.TheVariants as asks
 use Rattle.daig_machine.specs.Machine.{Machine, Ticket, keeping, with_tickets, turned_to, without_ticket}
 
 -- the targets of a question; none where the program refuses it
@@ -45,11 +50,23 @@ abbrev pub is_kept : Machine → CellName → Bool
 is_kept m = member same_name m.kept
 
 -- a ticket more, and a ticket less
-abbrev pub with_ticket : Location → (string : List ℕ) → Machine → Machine
-with_ticket l string m = with_tickets (m.tickets ++ record { number = m.next_ticket; at = l; string = string } ∷ []) (suc m.next_ticket) m
+abbrev pub with_ticket : Question → Machine → Machine
+with_ticket q m = with_tickets (m.tickets ++ record { number = m.next_ticket; question = q } ∷ []) (suc m.next_ticket) m
 
 abbrev pub after_close : ℕ → Machine → Machine
 after_close n m = with_tickets (without_ticket n m.tickets) m.next_ticket m
+
+-- the call string of a question; a report has none
+abbrev pub string_of : Question → List ℕ
+string_of (asks.State l string) = string
+string_of (asks.Why l string) = string
+string_of asks.Report = []
+string_of (asks.Faults only) = []
+
+-- the refusal that an answer is, if it is one
+abbrev pub refusal_in : {S : Type 0} → Answer S → Option QueryRefusal
+refusal_in (Refuses r) = Some r
+refusal_in (Answers v) = None
 
 -- the targets of a location under all chains
 abbrev pub place_targets : Machine → Location → List Target
@@ -83,6 +100,13 @@ module _ {S : Type 0} (dom : Operations S) where
   abbrev pub answer_at : Location → (string : List ℕ) → Machine → Answer S
   answer_at l string m = answer dom m.engine (routines_of m.program) l string
 
+  -- why a program refuses a question, if it does; it refuses no report
+  abbrev pub refusal_by : LoopOptions → List Routine → Question → Option QueryRefusal
+  refusal_by engine program (asks.State l string) = refusal_in (answer dom engine program l string)
+  refusal_by engine program (asks.Why l string) = refusal_in (answer dom engine program l string)
+  refusal_by engine program asks.Report = None
+  refusal_by engine program (asks.Faults only) = None
+
   -- the statements that this answer depends on; none where the program refuses the question
   abbrev pub upstream_in : Machine → Location → (string : List ℕ) → Found → List ℕ
   upstream_in m l string (Misses r) = []
@@ -101,12 +125,27 @@ module _ {S : Type 0} (dom : Operations S) where
   abbrev pub after_faults : Machine → Machine
   after_faults m = with_filled (missing_for_faults m) m
 
+  -- What is missing for any question, in the order in which it is filled: what the whole request fills; ..
+  abbrev pub missing_asked : Question → Machine → List CellName
+  missing_asked (asks.State l string) m = missing_at l string m
+  missing_asked (asks.Why l string) m = missing_at l string m
+  missing_asked asks.Report m = missing_for_report m
+  missing_asked (asks.Faults only) m = missing_for_faults m
+
+  -- .. the machine after it; ..
+  abbrev pub after_asked : Question → Machine → Machine
+  after_asked q m = with_filled (missing_asked q m) m
+
+  -- .. and why the present program refuses it, if it does.
+  abbrev pub refusal_asked : Question → Machine → Option QueryRefusal
+  refusal_asked q m = refusal_by m.engine (routines_of m.program) q
+
   -- after a step of a ticket that fills the first n names, and after one that ends it
   abbrev pub after_step : Ticket → (n : ℕ) → Machine → Machine
-  after_step t n m = with_filled (take n (missing_at t.at t.string m)) m
+  after_step t n m = with_filled (take n (missing_asked t.question m)) m
 
   abbrev pub after_last_step : Ticket → Machine → Machine
-  after_last_step t m = after_close t.number (after_question t.at t.string m)
+  after_last_step t m = after_close t.number (after_asked t.question m)
 
   -- With another program: of the kept names those are kept that the change leaves.
   abbrev pub with_program : List Procedure → (past future : List (List Procedure)) → (next : ℕ) → Machine → Machine

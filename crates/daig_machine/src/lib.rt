@@ -11,5 +11,7 @@
 #![tactic(auto)]
 
 mod laws;
+mod question;
 
 pub use laws::{edits_are_undone, moves_keep_cells, questions_keep_cells};
+pub use question::Question;

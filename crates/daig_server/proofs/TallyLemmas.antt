@@ -10,7 +10,9 @@ use Rattle.batch_meaning.specs.Values.{Value, State, Over}
 use Rattle.batch_meaning.specs.Answers.{Answer, Refuses, Answers, Found, In, Misses, procedure_of}
 use Rattle.imp_check.specs.Slots.{routines_of}
 use Rattle.daig_machine.specs.Machine.{Machine, Ticket, ticket_of}
-use Rattle.daig_machine.specs.Turns.{answer_at, after_question, missing_at, redone, undone}
+use Rattle.daig_machine.specs.Turns.{answer_at, after_question, missing_asked, redone, refusal_asked, string_of, undone}
+use Rattle.daig_machine.specs.declared.question.Question.{Question}
+use Rattle.daig_machine.specs.declared.question.Question.TheVariants as what
 use Rattle.request_json.specs.declared.error.ReadError.{ReadError}
 use Rattle.request_json.specs.declared.request.Query.{Query}
 use Rattle.request_json.specs.declared.request.Request.{Request}
@@ -18,13 +20,14 @@ use Rattle.request_json.specs.declared.request.Request.TheVariants as q
 use Rattle.request_json.specs.declared.reply.Reply.TheVariants as r
 use Rattle.request_json.specs.declared.reply.Refusal.{Refusal}
 use Rattle.request_json.specs.declared.reply.Refusal.TheVariants as refusal
-use Rattle.request_json.specs.Requests.{request_of}
+use Rattle.request_json.specs.Requests.{query_of, request_of}
 use Rattle.serve_replies.specs.Runs.{asked_run, found_run, run_reply}
 use Rattle.serve_replies.specs.Texts.{program_reply}
 use Rattle.imp_slots.specs.Plain.{Routine}
+use Rattle.imp_words.specs.declared.refusal.QueryRefusal.{QueryRefusal}
 use Rattle.imp_words.specs.declared.refusal.QueryRefusal.TheVariants.{LongString}
 use Rattle.serve_answers.specs.Lines.{Served, line_turn, read_turn, request_turn, server}
-use Rattle.serve_answers.specs.Turns.{Outcome, ask_by, cancel_by, edit_by, edit_turn, goes, move_turn, state_by, why_by, step_by, step_of, state_reply}
+use Rattle.serve_answers.specs.Turns.{Outcome, begin_by, cancel_by, edit_by, edit_turn, goes, move_turn, question_of, state_by, why_by, step_by, step_of, state_reply, whole_turn}
 use Rattle.serve_answers.specs.Edits.{replace_of, insert_of, delete_of, guard_of, declare_of, add_of, drop_of}
 use Rattle.serve_answers.specs.Readings.{Readings}
 use Rattle.gen_summary.specs.declared.kind.ReplyKind.TheVariants.{Cost}
@@ -83,32 +86,47 @@ edit_cost : {S : Type 0} (dom : Operations S) (e : Result Edit Refusal) (m : Mac
 edit_cost dom (Err why) m = λ is. cc
 edit_cost dom (Ok e) m = edit_by_cost dom e (edit_refusal e m.program m.next) m
 
-step_if_cost : {S : Type 0} (dom : Operations S) (t : Ticket) (v : Value S) (n : ℕ) (test : Bool) (m stays ends : Machine) →
-    TellsCost (if test then goes (r.Pending n) stays else goes (state_reply dom t.at v m) ends)
-step_if_cost dom t v n true m stays ends = λ is. cc
-step_if_cost dom t v n false m stays ends = told_cost dom t.at v m ends
+-- The whole request for a question tells no cost.
+state_untold : {S : Type 0} (dom : Operations S) (query : Query) (a : Answer S) (m n : Machine) → TellsCost (goes (state_by dom query a m).reply n)
+state_untold dom query (Refuses why) m n = λ is. cc
+state_untold dom query (Answers v) m n = told_cost dom query.at v m n
 
-step_by_cost : {S : Type 0} (dom : Operations S) (t : Ticket) (n : ℕ) (a : Answer S) (m : Machine) → TellsCost (step_by dom t n a m)
-step_by_cost dom t n (Refuses why) m = λ is. cc
-step_by_cost dom t n (Answers v) m = step_if_cost dom t v n (nat_lt n (length (missing_at dom t.at t.string m))) m _ _
+why_untold : {S : Type 0} (dom : Operations S) (query : Query) (a : Answer S) (m n : Machine) → TellsCost (goes (why_by dom query a m).reply n)
+why_untold dom query (Refuses why) m n = λ is. cc
+why_untold dom query (Answers v) m n = λ is. cc
+
+whole_untold : {S : Type 0} (dom : Operations S) (question : Question) (m n : Machine) → TellsCost (goes (whole_turn dom question m).reply n)
+whole_untold dom (what.State l string) m n = state_untold dom (query_of l string) (answer_at dom l string m) m n
+whole_untold dom (what.Why l string) m n = why_untold dom (query_of l string) (answer_at dom l string m) m n
+whole_untold dom what.Report m n = λ is. cc
+whole_untold dom (what.Faults only) m n = λ is. cc
+
+step_if_cost : {S : Type 0} (dom : Operations S) (t : Ticket) (n : ℕ) (test : Bool) (m stays ends : Machine) →
+    TellsCost (if test then goes (r.Pending n) stays else goes (whole_turn dom t.question m).reply ends)
+step_if_cost dom t n true m stays ends = λ is. cc
+step_if_cost dom t n false m stays ends = whole_untold dom t.question m ends
+
+step_by_cost : {S : Type 0} (dom : Operations S) (t : Ticket) (n : ℕ) (why : Option QueryRefusal) (m : Machine) → TellsCost (step_by dom t n why m)
+step_by_cost dom t n (Some why) m = λ is. cc
+step_by_cost dom t n None m = step_if_cost dom t n (nat_lt n (length (missing_asked dom t.question m))) m _ _
 
 step_cost : {S : Type 0} (dom : Operations S) (n : ℕ) (t : Option Ticket) (m : Machine) → TellsCost (step_of dom n t m)
 step_cost dom n None m = λ is. cc
-step_cost dom n (Some t) m = step_by_cost dom t n (answer_at dom t.at t.string m) m
+step_cost dom n (Some t) m = step_by_cost dom t n (refusal_asked dom t.question m) m
 
 why_by_cost : {S : Type 0} (dom : Operations S) (query : Query) (a : Answer S) (m : Machine) → TellsCost (why_by dom query a m)
 why_by_cost dom query (Refuses why) m = λ is. cc
 why_by_cost dom query (Answers v) m = λ is. cc
 
-ask_by_cost : {S : Type 0} (dom : Operations S) (query : Query) (a : Answer S) (m : Machine) → TellsCost (ask_by dom query a m)
-ask_by_cost dom query (Refuses why) m = λ is. cc
-ask_by_cost dom query (Answers v) m = λ is. cc
+begin_by_cost : {S : Type 0} (dom : Operations S) (question : Question) (refused : Option QueryRefusal) (m : Machine) → TellsCost (begin_by dom question refused m)
+begin_by_cost dom question (Some why) m = λ is. cc
+begin_by_cost dom question None m = λ is. cc
 
-ask_if_cost : (long full : Bool) (why : Refusal) (many : Refusal) (m : Machine) (turn : Outcome) → TellsCost turn →
+begin_if_cost : (long full : Bool) (why : Refusal) (many : Refusal) (m : Machine) (turn : Outcome) → TellsCost turn →
     TellsCost (if long then goes (r.Refused why) m else (if full then goes (r.Refused many) m else turn))
-ask_if_cost true full why many m turn state_reply = λ is. cc
-ask_if_cost false true why many m turn state_reply = λ is. cc
-ask_if_cost false false why many m turn state_reply = state_reply
+begin_if_cost true full why many m turn state_reply = λ is. cc
+begin_if_cost false true why many m turn state_reply = λ is. cc
+begin_if_cost false false why many m turn state_reply = state_reply
 
 run_found_cost : (program : List Routine) (inputs : List ℤ) (fuel : ℕ) (l : Location) (found : Found) (m : Machine) → TellsCost (goes (found_run program inputs fuel l found) m)
 unfolding run_reply
@@ -143,9 +161,10 @@ request_cost readings dom (q.Drop proc) m = edit_cost dom (drop_of proc) m
 request_cost readings dom (q.Why query) m = why_by_cost dom query (answer_at dom query.at query.string m) m
 request_cost readings dom q.Undo m = move_cost m.past refusal.NothingToUndo (undone dom m) m
 request_cost readings dom q.Redo m = move_cost m.future refusal.NothingToRedo (redone dom m) m
-request_cost readings dom (q.Ask query) m =
-    ask_if_cost (nat_lt 2 (length query.string)) (nat_le 16 (length m.tickets)) (refusal.Query LongString) refusal.ManyTickets m
-    (ask_by dom query (answer_at dom query.at query.string m) m) (ask_by_cost dom query (answer_at dom query.at query.string m) m)
+request_cost readings dom (q.Begin task) m =
+    let question = question_of task in
+    begin_if_cost (nat_lt 2 (length (string_of question))) (nat_le 16 (length m.tickets)) (refusal.Query LongString) refusal.ManyTickets m
+    (begin_by dom question (refusal_asked dom question m) m) (begin_by_cost dom question (refusal_asked dom question m) m)
 request_cost readings dom (q.Step ticket n) m = step_cost dom n (ticket_of ticket m.tickets) m
 request_cost readings dom (q.Cancel ticket) m = cancel_cost (ticket_of ticket m.tickets) m
 

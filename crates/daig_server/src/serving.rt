@@ -109,11 +109,11 @@ pub fn serve<F: Files, I: Source, O: Sink, L: Ledger>(
         → AsksToServe (job_of_words words.now)
         × ReadsBytes (2 ^ 40) (I.told script.old) (I.told script.new) }
     ensures nothing_written { (result ≡ 7) ⊎ (result ≡ 9) → O.told out.new ≡ O.told out.old }
-    // At each moment of each script: a line that is answered by a state, as a question or as a step of a ticket, describes
-    // every configuration that a run of the program present then reaches there; in a report no run fails a check that is
-    // safe, none comes to a statement that is dead; what is told of a fault is so in every run, and where a line asks for
-    // all faults, each with which a run ends is told; a statement that is not told where a line asks what an answer depends
-    // on does not matter to it.
+    // At each moment of each script, for whole requests and for steps of tickets: a state that is replied describes every
+    // configuration that a run of the program present then reaches there; in a report no run fails a check that is safe,
+    // none comes to a statement that is dead; what is told of a fault is so in every run, and where a line asks for all
+    // faults, each with which a run ends is told; a statement that is not told where a line asks what an answer depends on
+    // does not matter to it.
     ensures sound { LinesAreSound (job_of_words words.now) }
     ensures reports_sound { ReportsAreSound (job_of_words words.now) }
     // Where a certificate is checked, whoever wrote it, and the line that is written is the yes, each configuration of a

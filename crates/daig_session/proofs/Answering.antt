@@ -40,7 +40,7 @@ work_both s t u each n k h g = omega arith
 pub work_first : (s u each n k : ℕ) → u ≤ s + each * suc n → u ≤ s + each * suc (n + k)
 work_first s u each n k h = omega arith
 
-work_most : (s t u each n k : ℕ) → t ≤ s + each * n → u ≤ t + each * k → u ≤ s + each * suc (n + k)
+pub work_most : (s t u each n k : ℕ) → t ≤ s + each * n → u ≤ t + each * k → u ≤ s + each * suc (n + k)
 work_most s t u each n k h g = omega arith
 
 module _ {S : Type 0} (dom : Operations S) (book : Book) (store : Store S) where

@@ -37,10 +37,14 @@ module _ {S : Type 0} (dom : Operations S) (book : Book) (store : Store S) where
   answered_here m l string ts checked h a = subst IsAnswered (answer_here dom book store m l string h) (asked_answered dom (flow_in book).engine (flow_in book).program l string ts checked a)
 
   -- the list of the flow is that of the machine
-  pub upstream_here : (m : Machine) (l : Location) (string : List ℕ) (ts : List Target) (stmts : List ℕ) → Holds dom store book m → (a : IsAsked (flow_in book).program l string ts) →
+  pub upstream_of : (m : Machine) → machine_of book m.kept ≡ m → (l : Location) (string : List ℕ) (ts : List Target) (stmts : List ℕ) → (a : IsAsked (flow_in book).program l string ts) →
       stmts ≡ upstream dom (flow_in book).engine (flow_in book).program same_name l string a.place ts → stmts ≡ upstream_at dom l string m
-  upstream_here m l string ts stmts h a e =
+  upstream_of m is l string ts stmts a e =
       let z = machine_of book m.kept in
       e ∙ sym (ap (λ o. upstream dom (flow_in book).engine (flow_in book).program same_name l string a.place (or_none o)) a.are)
       ∙ sym (ap (upstream_in dom z l string) a.there)
-      ∙ ap (upstream_at dom l string) h.is
+      ∙ ap (upstream_at dom l string) is
+
+  pub upstream_here : (m : Machine) (l : Location) (string : List ℕ) (ts : List Target) (stmts : List ℕ) → Holds dom store book m → (a : IsAsked (flow_in book).program l string ts) →
+      stmts ≡ upstream dom (flow_in book).engine (flow_in book).program same_name l string a.place ts → stmts ≡ upstream_at dom l string m
+  upstream_here m l string ts stmts h a e = upstream_of m h.is l string ts stmts a e

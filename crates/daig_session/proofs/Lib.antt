@@ -7,6 +7,7 @@ pub mod Filled
 pub mod Moved
 pub mod Turned
 pub mod Counted
+pub mod Courses
 pub mod Beginning
 pub mod Answering
 pub mod Explained
@@ -20,3 +21,10 @@ pub mod Reporting
 pub mod Swept
 pub mod PointLemmas
 pub mod FaultLemmas
+pub mod ReportPlaces
+pub mod Toured
+pub mod Placing
+pub mod Rest
+pub mod Along
+pub mod Judging
+pub mod LastSteps

@@ -28,7 +28,7 @@ use Rattle.daig_session.specs.declared.error.QueryError.{QueryError}
 use Rattle.daig_session.specs.declared.error.QueryError.TheVariants as query
 use Rattle.daig_session.specs.Going.{IsAnswered}
 use Rattle.daig_session.specs.Holds.{Holds}
-use Rattle.daig_session.specs.Places.{chain_count, work_on, HoldsAll, HoldsPart}
+use Rattle.daig_session.specs.Places.{chain_count, work_on, HoldsAll, HoldsPart, HoldsWith}
 use Rattle.daig_session.specs.Turns.{Questions}
 use Rattle.daig_session.proofs.Answering.{work_both}
 use Rattle.daig_session.proofs.Asked.{asked_answered}
@@ -45,7 +45,7 @@ module _ {T : Type 0} (s : System T) where
   seen_both : (kept : T → Bool) (xs ys : List T) → seen s (seen s kept xs) ys ≡ seen s kept (xs ++ ys)
   seen_both kept xs ys = fun_ext (λ x. or_assoc (kept x) (member s.same xs x) (member s.same ys x) ∙ ap (λ b. kept x || b) (sym (member-append s.same xs ys x)))
 
-  seen_none : (kept : T → Bool) → kept ≡ seen s kept []
+  pub seen_none : (kept : T → Bool) → kept ≡ seen s kept []
   seen_none kept = fun_ext (λ x. sym (or-false (kept x)))
 
   turns_both : (kept : T → Bool) (xss yss : List (List T)) → missing_in_turn s kept (xss ++ yss) ≡ missing_in_turn s kept xss ++ missing_in_turn s (seen s kept (missing_in_turn s kept xss)) yss
@@ -70,7 +70,7 @@ module _ {S : Type 0} (dom : Operations S) (m : Machine) where
   abbrev pub behind : List Location → (cost : ℕ) → Machine
   behind cs cost = keeping (m.kept ++ missing_in_places dom cs m) cost m
 
-  missing_both : (cost : ℕ) (cs ds : List Location) → missing_in_places dom (cs ++ ds) m ≡ missing_in_places dom cs m ++ missing_in_places dom ds (behind cs cost)
+  pub missing_both : (cost : ℕ) (cs ds : List Location) → missing_in_places dom (cs ++ ds) m ≡ missing_in_places dom cs m ++ missing_in_places dom ds (behind cs cost)
   missing_both cost cs ds =
       let s = names_of dom m.engine (routines_of m.program) same_name in
       let xs = missing_in_places dom cs m in
@@ -122,6 +122,13 @@ module _ {S : Type 0} (dom : Operations S) (m : Machine) where
           some = subst (λ ks. Holds dom store book (keeping ks book.cost m)) (append_assoc m.kept xs (take p.count ys) ∙ ap (λ zs. m.kept ++ zs) (sym (ap (take (length xs + p.count)) (missing_both cost cs ds) ∙ take-append-add xs ys p.count))) p.some;
         }
 
+    -- so many of them
+    pub append_taken : (cost : ℕ) (cs ds : List Location) (n k : ℕ) → n ≡ length (missing_in_places dom cs m) + k → HoldsWith dom (behind cs cost) store book (take k (missing_in_places dom ds (behind cs cost))) → HoldsWith dom m store book (take n (missing_in_places dom (cs ++ ds) m))
+    append_taken cost cs ds n k e h =
+        let xs = missing_in_places dom cs m in
+        let ys = missing_in_places dom ds (behind cs cost) in
+        subst (λ ks. Holds dom store book (keeping ks book.cost m)) (append_assoc m.kept xs (take k ys) ∙ ap (λ zs. m.kept ++ zs) (sym (ap (λ j. take j (missing_in_places dom (cs ++ ds) m)) e ∙ (ap (take (length xs + k)) (missing_both cost cs ds) ∙ take-append-add xs ys k)))) h
+
     pub part_more : (cs ds : List Location) → HoldsPart dom m store book cs → HoldsPart dom m store book (cs ++ ds)
     part_more cs ds p =
         let xs = missing_in_places dom cs m in
@@ -139,7 +146,7 @@ module _ {S : Type 0} (dom : Operations S) (m : Machine) where
     abbrev one_targets : List Target
     one_targets = place_targets m l
 
-    targets_same : (f : Found) → turns.targets_in m l [] f ≡ reports.targets_in (routines_of m.program) l f
+    pub targets_same : (f : Found) → turns.targets_in m l [] f ≡ reports.targets_in (routines_of m.program) l f
     targets_same (Misses r) = refl
     targets_same (In p) = go (targets (routines_of m.program) p l [])
       where
@@ -150,7 +157,7 @@ module _ {S : Type 0} (dom : Operations S) (m : Machine) where
     one_asks : targets_of m l [] ≡ one_targets
     one_asks = targets_same (procedure_of (routines_of m.program) l)
 
-    one_missing : missing_at dom l [] m ≡ missing_in_places dom one m
+    pub one_missing : missing_at dom l [] m ≡ missing_in_places dom one m
     one_missing =
         let s = names_of dom m.engine (routines_of m.program) same_name in
         ap (λ ts. fill_all s (is_kept m) [] (demanded (cell_value dom m) ts)) one_asks
@@ -166,7 +173,7 @@ module _ {S : Type 0} (dom : Operations S) (m : Machine) where
     one_chains = let e = ap length one_asks in omega arith
 
     -- It is refused only where it has no targets.
-    none_refused : (r : QueryRefusal) → IsChecked (routines_of m.program) → answer_at dom l [] m ≡ Refuses r → targets_of m l [] ≡ []
+    pub none_refused : (r : QueryRefusal) → IsChecked (routines_of m.program) → answer_at dom l [] m ≡ Refuses r → targets_of m l [] ≡ []
     none_refused r checked a = go (procedure_of (routines_of m.program) l) refl
       where
         not_answered : IsAnswered (answer_at dom l [] m) → ⊥
@@ -181,7 +188,7 @@ module _ {S : Type 0} (dom : Operations S) (m : Machine) where
         go (Misses why) there = refl
         go (In p) there = some p there (targets (routines_of m.program) p l []) refl
 
-    none_missing : (r : QueryRefusal) → IsChecked (routines_of m.program) → answer_at dom l [] m ≡ Refuses r → missing_in_places dom one m ≡ []
+    pub none_missing : (r : QueryRefusal) → IsChecked (routines_of m.program) → answer_at dom l [] m ≡ Refuses r → missing_in_places dom one m ≡ []
     none_missing r checked a =
         let s = names_of dom m.engine (routines_of m.program) same_name in
         sym one_missing ∙ ap (λ ts. fill_all s (is_kept m) [] (demanded (cell_value dom m) ts)) (none_refused r checked a)

@@ -91,7 +91,7 @@ next_found dom m ns i n there before mid after e k =
 
 -- How many cells are kept, and what they cost where a call fails.
 module _ {S : Type 0} (dom : Operations S) (store : Store S) (book : Book) (r : IsReady dom store book) where
-  cells_are : (m : Machine) → Holds dom store book m → len store.graph.cells ≡ length m.kept
+  pub cells_are : (m : Machine) → Holds dom store book m → len store.graph.cells ≡ length m.kept
   cells_are m h = kept_counted dom (flow_in book) store m.kept r.right h.same h.cells.once
 
   pub cells_with : (m : Machine) (xs : List CellName) → HoldsWith dom m store book xs → len store.graph.cells ≡ length m.kept + length xs
@@ -130,7 +130,7 @@ module _ {S : Type 0} (dom : Operations S) (old new : Store S) (before after : B
 
 -- A report ends, of which these are the locations.
 module _ {S : Type 0} (dom : Operations S) (m : Machine) (store : Store S) (book : Book) where
-  recosted : (ks : List CellName) (was cost : ℕ) → Holds dom store book (keeping ks was m) → Holds dom store (record book { cost = cost }) (keeping ks cost m)
+  pub recosted : (ks : List CellName) (was cost : ℕ) → Holds dom store book (keeping ks was m) → Holds dom store (record book { cost = cost }) (keeping ks cost m)
   recosted ks was cost h = record {
     is = ap (λ (z : Machine). keeping ks cost z) h.is;
     same = h.same;

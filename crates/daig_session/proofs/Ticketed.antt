@@ -13,19 +13,21 @@ use Rattle.cell_rows.specs.Targets.{Target}
 use Rattle.daig_query.specs.declared.store.Store.{Store}
 use Rattle.daig_query.specs.Filled.{Fills}
 use Rattle.daig_machine.specs.Machine.{Machine, Ticket, keeping, ticket_of, with_tickets, without_ticket}
-use Rattle.daig_machine.specs.Turns.{after_question, after_close, after_last_step, missing_at, with_ticket, after_step}
+use Rattle.daig_machine.specs.Turns.{after_question, after_close, answer_at, missing_at, refusal_in, with_filled, with_ticket}
+use Rattle.daig_machine.specs.declared.question.Question.{Question}
+use Rattle.std.specs.Prelude.{Option, IfSome}
 use Rattle.daig_machine.specs.Claims.{FillingKeeps}
 use Rattle.daig_tickets.specs.declared.tickets.OpenTicket.{OpenTicket}
 use Rattle.daig_tickets.specs.declared.tickets.Tickets.{Tickets}
 use Rattle.daig_tickets.specs.Tickets.{anew, number, ticket, tickets, AreOpen}
 use Rattle.daig_session.specs.declared.book.Book.{Book}
-use Rattle.daig_session.specs.declared.book.Going.{Going}
+use Rattle.daig_session.specs.declared.course.Course.{Course}
 use Rattle.daig_session.specs.declared.error.QueryError.{QueryError}
 use Rattle.daig_session.specs.declared.error.QueryError.TheVariants.{Refused, Memory}
 use Rattle.daig_session.specs.Books.{flow_in, machine_of, IsWithout}
-use Rattle.daig_session.specs.Going.{AreWaiting, IsAsked, IsGoing, IsRefused}
+use Rattle.daig_session.specs.Going.{AreWaiting, HasComeFar, IsAsked, IsRefused}
 use Rattle.daig_session.specs.Holds.{Holds, IsReady}
-use Rattle.daig_session.specs.Turns.{ask_error, Opens}
+use Rattle.daig_session.specs.Turns.{ask_error, StaysUnopened}
 use Rattle.daig_session.proofs.Answering.{answer_here}
 use Rattle.daig_session.proofs.Filled.{asked_holds, keeping_holds}
 use Rattle.daig_session.proofs.Ordered.{order_like}
@@ -39,14 +41,14 @@ module _ {S : Type 0} (dom : Operations S) (store : Store S) where
   tickets_count book m h = sym (ap (λ (z : Machine). length z.tickets) h.is) ∙ length-map book.tickets.open_ones.items ticket
 
   -- the machine with other tickets
-  pub ticketed_holds : (book : Book) (t : Tickets Going) (ts : List Ticket) (next : ℕ) (m : Machine) → Holds dom store book m → tickets t ≡ ts → t.next ≡ next → Holds dom store (record book { tickets = t }) (with_tickets ts next m)
+  pub ticketed_holds : (book : Book) (t : Tickets Course) (ts : List Ticket) (next : ℕ) (m : Machine) → Holds dom store book m → tickets t ≡ ts → t.next ≡ next → Holds dom store (record book { tickets = t }) (with_tickets ts next m)
   ticketed_holds book t ts next m h e n = record {
     is = ap (λ (z : Machine). with_tickets (tickets t) t.next z) h.is ∙ (ap (λ us. with_tickets us t.next m) e ∙ ap (λ k. with_tickets ts k m) n);
     same = h.same;
     cells = h.cells;
   }
 
-  pub ticketed_ready : (book : Book) (t : Tickets Going) → IsReady dom store book → AreOpen t → AreWaiting dom (flow_in book) store t.open_ones.items → IsReady dom store (record book { tickets = t })
+  pub ticketed_ready : (book : Book) (t : Tickets Course) → IsReady dom store book → AreOpen t → AreWaiting dom (flow_in book) store t.open_ones.items → IsReady dom store (record book { tickets = t })
   ticketed_ready book t r are waiting = record {
     right = r.right;
     order = record {
@@ -63,7 +65,7 @@ module _ {S : Type 0} (dom : Operations S) (store : Store S) where
   }
 
   -- the same tickets, of which one may have come to something else
-  pub retold_holds : (book : Book) (t : Tickets Going) (m : Machine) → Holds dom store book m → tickets t ≡ tickets book.tickets → t.next ≡ book.tickets.next → Holds dom store (record book { tickets = t }) m
+  pub retold_holds : (book : Book) (t : Tickets Course) (m : Machine) → Holds dom store book m → tickets t ≡ tickets book.tickets → t.next ≡ book.tickets.next → Holds dom store (record book { tickets = t }) m
   retold_holds book t m h e n = record {
     is = ap (λ us. with_tickets us t.next (machine_of book m.kept)) e ∙ (ap (λ k. with_tickets (tickets book.tickets) k (machine_of book m.kept)) n ∙ h.is);
     same = h.same;
@@ -74,7 +76,7 @@ module _ {S : Type 0} (dom : Operations S) (store : Store S) where
   pub without_flow : (place : ℕ) (old new : Book) → IsWithout place old new → flow_in new ≡ flow_in old
   without_flow place old new w = λ i. flow_of (w.setting i).engine (w.history i).now
 
-  module _ (place : ℕ) (old new : Book) (w : IsWithout place old new) (o : OpenTicket Going) (there : slice_get old.tickets.open_ones.items place ≡ Some o) where
+  module _ (place : ℕ) (old new : Book) (w : IsWithout place old new) (o : OpenTicket Course) (there : slice_get old.tickets.open_ones.items place ≡ Some o) where
     pub without_holds : (m : Machine) → Holds dom store old m → Holds dom store new m
     without_holds m h =
         let te : tickets new.tickets ≡ tickets old.tickets = ap (map ticket) (w.left o there) ∙ tickets_set old.tickets.open_ones.items place o (anew o) there refl in
@@ -86,14 +88,13 @@ module _ {S : Type 0} (dom : Operations S) (store : Store S) where
 
     pub without_ready : IsReady dom store old → IsReady dom store new
     without_ready r =
-        let waits = waiting_get dom (flow_in old) store old.tickets.open_ones.items place o r.waiting there in
         let flow = without_flow place old new w in
         record {
           right = subst (λ p. IsRight dom p store) (sym flow) r.right;
           order = order_like old new r.order (ap (λ (t : Times). t.now) w.history) (ap (λ (t : Times). t.past) w.history) (ap (λ (t : Times). t.future) w.history) w.setting w.next_is (still_open old.tickets new.tickets r.order.are_open (ap (map number) (w.left o there) ∙ numbers_set old.tickets.open_ones.items place o (anew o) there refl) w.next_ticket);
           waiting =
               subst (λ p. AreWaiting dom p store new.tickets.open_ones.items) (sym flow) (
-              subst (AreWaiting dom (flow_in old) store) (sym (w.left o there)) (waiting_set dom (flow_in old) store old.tickets.open_ones.items place (anew o) r.waiting (record { short = waits.short; going = tt })));
+              subst (AreWaiting dom (flow_in old) store) (sym (w.left o there)) (waiting_set dom (flow_in old) store old.tickets.open_ones.items place (anew o) r.waiting tt));
         }
 
     pub without_there : slice_get new.tickets.open_ones.items place ≡ Some (anew o)
@@ -113,7 +114,7 @@ ticket_at n zero (x ∷ xs) o d e h =
 ticket_at n (suc k) (x ∷ xs) o d e h =
     by_test x.number n (λ b. (if b then Some (ticket x) else ticket_of n (map ticket xs)) ≡ Some (ticket o)) (λ i. absurd (absent_at x.number k xs o d.0 e (h ∙ sym i))) (λ i. ticket_at n k xs o d.1 e h)
 
-pub ticket_here : {S : Type 0} (dom : Operations S) (store : Store S) (book : Book) (m : Machine) (n k : ℕ) (o : OpenTicket Going) → Holds dom store book m → AreOpen book.tickets → slice_get book.tickets.open_ones.items k ≡ Some o → o.number ≡ n → ticket_of n m.tickets ≡ Some (ticket o)
+pub ticket_here : {S : Type 0} (dom : Operations S) (store : Store S) (book : Book) (m : Machine) (n k : ℕ) (o : OpenTicket Course) → Holds dom store book m → AreOpen book.tickets → slice_get book.tickets.open_ones.items k ≡ Some o → o.number ≡ n → ticket_of n m.tickets ≡ Some (ticket o)
 ticket_here dom store book m n k o h are e q = sym (ap (λ (z : Machine). ticket_of n z.tickets) h.is) ∙ ticket_at n k book.tickets.open_ones.items o are.once e q
 
 pub no_ticket : {S : Type 0} (dom : Operations S) (store : Store S) (book : Book) (m : Machine) (n : ℕ) → Holds dom store book m → ticket_of n (tickets book.tickets) ≡ None → ticket_of n m.tickets ≡ None
@@ -121,45 +122,46 @@ no_ticket dom store book m n h e = sym (ap (λ (z : Machine). ticket_of n z.tick
 
 module _ {S : Type 0} (dom : Operations S) (book : Book) (store : Store S) where
   -- why no ticket is opened
-  pub ask_refused : (m : Machine) (l : Location) (string : List ℕ) (e : QueryError) → Holds dom store book m → length book.tickets.open_ones.items < 16 → IsRefused (answer dom (flow_in book).engine (flow_in book).program l string) e → Opens dom m (Holds dom store book) l string (Err (ask_error e))
-  ask_refused m l string (Refused r) h few is = (sym (answer_here dom book store m l string h) ∙ is, inr (let n = tickets_count dom store book m h in omega arith), h)
+  pub ask_refused : (m : Machine) (l : Location) (string : List ℕ) (e : QueryError) → Holds dom store book m → length book.tickets.open_ones.items < 16 → IsRefused (answer dom (flow_in book).engine (flow_in book).program l string) e →
+      StaysUnopened dom m (Holds dom store book) string (refusal_in (answer_at dom l string m)) (ask_error e)
+  ask_refused m l string (Refused r) h few is = (ap refusal_in (sym (answer_here dom book store m l string h) ∙ is), inr (let n = tickets_count dom store book m h in omega arith), h)
   ask_refused m l string Memory h few is = h
 
   -- one is opened
-  pub opened_holds : (t : Tickets Going) (l : Location) (string : List ℕ) (g : Going) (m : Machine) → Holds dom store book m →
-      t.open_ones.items ≡ book.tickets.open_ones.items ++ record { number = book.tickets.next; at = l; string = string; going = Some g } ∷ [] → t.next ≡ book.tickets.next + 1 → Holds dom store (record book { tickets = t }) (with_ticket l string m)
-  opened_holds t l string g m h items next =
+  pub opened_holds : (t : Tickets Course) (q : Question) (c : Option Course) (m : Machine) → Holds dom store book m →
+      t.open_ones.items ≡ book.tickets.open_ones.items ++ record { number = book.tickets.next; question = q; going = c } ∷ [] → t.next ≡ book.tickets.next + 1 → Holds dom store (record book { tickets = t }) (with_ticket q m)
+  opened_holds t q c m h items next =
       let n : book.tickets.next ≡ m.next_ticket = ap (λ (z : Machine). z.next_ticket) h.is in
       let here : tickets book.tickets ≡ m.tickets = ap (λ (z : Machine). z.tickets) h.is in
-      let o : OpenTicket Going = record { number = book.tickets.next; at = l; string = string; going = Some g } in
-      ticketed_holds dom store book t (m.tickets ++ record { number = m.next_ticket; at = l; string = string } ∷ []) (suc m.next_ticket) m h
-      (ap (map ticket) items ∙ (map_push ticket book.tickets.open_ones.items o ∙ (ap (λ ts. ts ++ ticket o ∷ []) here ∙ ap (λ k. m.tickets ++ record { number = k; at = l; string = string } ∷ []) n)))
+      let o : OpenTicket Course = record { number = book.tickets.next; question = q; going = c } in
+      ticketed_holds dom store book t (m.tickets ++ record { number = m.next_ticket; question = q } ∷ []) (suc m.next_ticket) m h
+      (ap (map ticket) items ∙ (map_push ticket book.tickets.open_ones.items o ∙ (ap (λ ts. ts ++ ticket o ∷ []) here ∙ ap (λ k. m.tickets ++ record { number = k; question = q } ∷ []) n)))
       (omega arith)
 
-  pub opened_ready : (t : Tickets Going) (l : Location) (string : List ℕ) (ts : List Target) (g : Going) → IsReady dom store book → AreOpen t → IsGoing dom (flow_in book) store l string g →
-      t.open_ones.items ≡ book.tickets.open_ones.items ++ record { number = book.tickets.next; at = l; string = string; going = Some g } ∷ [] → IsReady dom store (record book { tickets = t })
-  opened_ready t l string ts g r are going items =
-      ticketed_ready dom store book t r are (subst (AreWaiting dom (flow_in book) store) (sym items) (waiting_push dom (flow_in book) store book.tickets.open_ones.items (record { number = book.tickets.next; at = l; string = string; going = Some g }) r.waiting (record { short = going.asked.short; going = going })))
+  pub opened_ready : (t : Tickets Course) (q : Question) (c : Option Course) → IsReady dom store book → AreOpen t → IfSome c (HasComeFar dom (flow_in book) store q) →
+      t.open_ones.items ≡ book.tickets.open_ones.items ++ record { number = book.tickets.next; question = q; going = c } ∷ [] → IsReady dom store (record book { tickets = t })
+  opened_ready t q c r are course items =
+      ticketed_ready dom store book t r are (subst (AreWaiting dom (flow_in book) store) (sym items) (waiting_push dom (flow_in book) store book.tickets.open_ones.items (record { number = book.tickets.next; question = q; going = c }) r.waiting course))
 
   -- one is closed
-  pub closed_holds : (t : Tickets Going) (n : ℕ) (m : Machine) → Holds dom store book m → tickets t ≡ without_ticket n (tickets book.tickets) → t.next ≡ book.tickets.next → Holds dom store (record book { tickets = t }) (after_close n m)
+  pub closed_holds : (t : Tickets Course) (n : ℕ) (m : Machine) → Holds dom store book m → tickets t ≡ without_ticket n (tickets book.tickets) → t.next ≡ book.tickets.next → Holds dom store (record book { tickets = t }) (after_close n m)
   closed_holds t n m h e next =
       ticketed_holds dom store book t (without_ticket n m.tickets) m.next_ticket m h (e ∙ ap (λ (z : Machine). without_ticket n z.tickets) h.is) (next ∙ ap (λ (z : Machine). z.next_ticket) h.is)
 
-  pub closed_ready : (t : Tickets Going) (k : ℕ) → IsReady dom store book → AreOpen t → t.open_ones.items ≡ take k book.tickets.open_ones.items ++ drop (k + 1) book.tickets.open_ones.items → IsReady dom store (record book { tickets = t })
+  pub closed_ready : (t : Tickets Course) (k : ℕ) → IsReady dom store book → AreOpen t → t.open_ones.items ≡ take k book.tickets.open_ones.items ++ drop (k + 1) book.tickets.open_ones.items → IsReady dom store (record book { tickets = t })
   closed_ready t k r are items = ticketed_ready dom store book t r are (subst (AreWaiting dom (flow_in book) store) (sym items) (waiting_rest dom (flow_in book) store k book.tickets.open_ones.items r.waiting))
 
--- A ticket is stepped.
-module _ {S : Type 0} (dom : Operations S) (book : Book) (store new : Store S) (o : OpenTicket Going) (ts : List Target) (count : ℕ) (checked : IsChecked (flow_in book).program) (a : IsAsked (flow_in book).program o.at o.string ts) (f : Fills dom (flow_in book) ts store new count) (law : FillingKeeps dom) (m : Machine) (h : Holds dom store book m) where
+-- A ticket that asks at one place is stepped.
+module _ {S : Type 0} (dom : Operations S) (book : Book) (store new : Store S) (l : Location) (string : List ℕ) (ts : List Target) (count : ℕ) (checked : IsChecked (flow_in book).program) (a : IsAsked (flow_in book).program l string ts) (f : Fills dom (flow_in book) ts store new count) (law : FillingKeeps dom) (m : Machine) (h : Holds dom store book m) where
   -- more is missing
-  pub pending_holds : (t : Tickets Going) (most : ℕ) → tickets t ≡ tickets book.tickets → t.next ≡ book.tickets.next → count ≡ most → most < length (missing_at dom o.at o.string m) → Holds dom new (record book { tickets = t; cost = count }) (after_step dom (ticket o) most m)
+  pub pending_holds : (t : Tickets Course) (most : ℕ) → tickets t ≡ tickets book.tickets → t.next ≡ book.tickets.next → count ≡ most → most < length (missing_at dom l string m) → Holds dom new (record book { tickets = t; cost = count }) (with_filled (take most (missing_at dom l string m)) m)
   pending_holds t most e n c more =
-      let ms = missing_at dom o.at o.string m in
-      retold_holds dom new (record book { cost = count }) t (after_step dom (ticket o) most m)
+      let ms = missing_at dom l string m in
+      retold_holds dom new (record book { cost = count }) t (with_filled (take most ms) m)
       (subst (λ k. Holds dom new (record book { cost = count }) (keeping (m.kept ++ take k ms) (length (take k ms)) m)) c
-      (subst (λ k. Holds dom new (record book { cost = count }) (keeping (m.kept ++ take count ms) k m)) (sym (length-take-le count ms (omega arith))) (keeping_holds dom book store new o.at o.string ts count checked a f law m count h)))
+      (subst (λ k. Holds dom new (record book { cost = count }) (keeping (m.kept ++ take count ms) k m)) (sym (length-take-le count ms (omega arith))) (keeping_holds dom book store new l string ts count checked a f law m count h)))
       e n
 
   -- nothing is
-  pub done_holds : (t : Tickets Going) → tickets t ≡ without_ticket o.number (tickets book.tickets) → t.next ≡ book.tickets.next → count ≡ length (missing_at dom o.at o.string m) → Holds dom new (record book { tickets = t; cost = count }) (after_last_step dom (ticket o) m)
-  done_holds t e n c = closed_holds dom (record book { cost = count }) new t o.number (after_question dom o.at o.string m) (asked_holds dom book store new o.at o.string ts count checked a f law m count h c c) e n
+  pub done_holds : (t : Tickets Course) (n : ℕ) → tickets t ≡ without_ticket n (tickets book.tickets) → t.next ≡ book.tickets.next → count ≡ length (missing_at dom l string m) → Holds dom new (record book { tickets = t; cost = count }) (after_close n (after_question dom l string m))
+  done_holds t n e next c = closed_holds dom (record book { cost = count }) new t n (after_question dom l string m) (asked_holds dom book store new l string ts count checked a f law m count h c c) e next

@@ -15,7 +15,7 @@ use Rattle.daig_machine.specs.Machine.{Machine}
 use Rattle.daig_tickets.specs.Tickets.{anew, tickets, AreOpen}
 use Rattle.daig_tickets.specs.declared.tickets.OpenTicket.{OpenTicket}
 use Rattle.daig_session.specs.declared.book.Book.{Book}
-use Rattle.daig_session.specs.declared.book.Going.{Going}
+use Rattle.daig_session.specs.declared.course.Course.{Course}
 
 -- the present program as the layers below see it
 abbrev pub flow_in : Book → Plan
@@ -68,15 +68,15 @@ pub record IsInOrder (b : Book) : Type 0 where
   pub are_open : AreOpen b.tickets
 
 -- what holds of the ticket at a place
-abbrev pub OfTicketAt : List (OpenTicket Going) → (place : ℕ) → (OpenTicket Going → Type 0) → Type 0
-OfTicketAt tickets place holds = (o : OpenTicket Going) → slice_get tickets place ≡ Some o → holds o
+abbrev pub OfTicketAt : List (OpenTicket Course) → (place : ℕ) → (OpenTicket Course → Type 0) → Type 0
+OfTicketAt tickets place holds = (o : OpenTicket Course) → slice_get tickets place ≡ Some o → holds o
 
 -- The ticket at a place is another one now, made of the one that was there; the others are as they were.
-abbrev pub RemakesAt : (place : ℕ) → (OpenTicket Going → OpenTicket Going) → (old new : List (OpenTicket Going)) → Type 0
+abbrev pub RemakesAt : (place : ℕ) → (OpenTicket Course → OpenTicket Course) → (old new : List (OpenTicket Course)) → Type 0
 RemakesAt place made old new = OfTicketAt old place (λ o. new ≡ slice_set old place (made o))
 
 -- a ticket that has come so far
-abbrev pub come_to : Going → OpenTicket Going → OpenTicket Going
+abbrev pub come_to : Course → OpenTicket Course → OpenTicket Course
 come_to going o = record o { going = Some going }
 
 -- the machine with these kept names
@@ -127,7 +127,7 @@ pub record IsWithout (place : ℕ) (old new : Book) : Type 0 where
   pub next_is : new.next ≡ old.next
   pub next_ticket : new.tickets.next ≡ old.tickets.next
   pub cost : new.cost ≡ old.cost
-  pub left : (o : OpenTicket Going) → slice_get old.tickets.open_ones.items place ≡ Some o → new.tickets.open_ones.items ≡ slice_set old.tickets.open_ones.items place (anew o)
+  pub left : (o : OpenTicket Course) → slice_get old.tickets.open_ones.items place ≡ Some o → new.tickets.open_ones.items ≡ slice_set old.tickets.open_ones.items place (anew o)
 
 -- The same except which places the table has.
 pub record IsSame (old new : Book) : Type 0 where

@@ -1,6 +1,6 @@
 -- What is said of an engine, by the operations of its domain: what its cells are right for, how far questions have come in it,
 -- what it fills for them, and what is counted for that.
-use Rattle.std.specs.Prelude.{◌≡◌, ◌≤◌, ◌+◌, ◌*◌, ℕ, suc, List, length, map, Option, Some, Result, IfOk, IfErr}
+use Rattle.std.specs.Prelude.{◌≡◌, ◌≤◌, ◌+◌, ◌*◌, ℕ, suc, List, length, map, Option, Some, Result, IfOk, IfErr, IfSome}
 use Rattle.std.specs.FinMap.{len}
 use Rattle.imp_syntax.specs.declared.edit.Location.{Location}
 use Rattle.concrete_sem.specs.Values.{Variables, Heap}
@@ -18,10 +18,13 @@ use Rattle.daig_query.specs.Filled.{cells_added, missing, Fills}
 use Rattle.daig_query.specs.Renamed.{names_after}
 use Rattle.daig_query.specs.Right.{IsRight}
 use Rattle.daig_session.specs.declared.book.Book.{Book}
-use Rattle.daig_session.specs.declared.book.Going.{Going}
+use Rattle.daig_machine.specs.Turns.{refusal_by}
+use Rattle.daig_machine.specs.declared.question.Question.{Question}
+use Rattle.daig_session.specs.declared.course.Course.{Course}
+use Rattle.daig_session.specs.declared.course.Going.{Going}
 use Rattle.daig_session.specs.declared.error.QueryError.{QueryError}
 use Rattle.daig_session.specs.Books.{flow_in, OfTicketAt}
-use Rattle.daig_session.specs.Going.{IsAsked, IsGoing, IsRefused}
+use Rattle.daig_session.specs.Going.{HasComeFar, IsAsked, IsGoing, IsRefused, TellsRefusal}
 use Rattle.daig_session.specs.Holds.{IsReady}
 
 module _ {D S : Type 0} (operations : D → Operations S) (engine : Engine D S) where
@@ -45,13 +48,25 @@ module _ {D S : Type 0} (operations : D → Operations S) (engine : Engine D S) 
   abbrev pub RefusesBy : Plan → Location → (string : List ℕ) → QueryError → Type 0
   RefusesBy plan l string why = IsRefused (answer (operations engine.domain) plan.engine plan.program l string) why
 
-  -- The ticket at a place has come so far, ..
-  abbrev pub ResumesAt : Book → (place : ℕ) → Result Going QueryError → Type 0
-  ResumesAt book place result = OfTicketAt book.tickets.open_ones.items place (λ o. IfOk result (HasCome (flow_in book) o.at o.string))
+  -- A ticket's question has come so far, ..
+  abbrev pub HasComeFor : Plan → Question → Course → Type 0
+  HasComeFor plan q course = HasComeFar (operations engine.domain) plan engine.store q course
+
+  -- .. or is to begin, ..
+  abbrev pub BeginsFor : Plan → Question → Option Course → Type 0
+  BeginsFor plan q course = IfSome course (HasComeFor plan q)
+
+  -- .. or the program refuses it; ..
+  abbrev pub RefusesAsked : Plan → Question → QueryError → Type 0
+  RefusesAsked plan q why = TellsRefusal (refusal_by (operations engine.domain) plan.engine plan.program q) why
+
+  -- .. so the ticket at a place has come so far, ..
+  abbrev pub ResumesAt : Book → (place : ℕ) → Result Course QueryError → Type 0
+  ResumesAt book place result = OfTicketAt book.tickets.open_ones.items place (λ o. IfOk result (HasComeFor (flow_in book) o.question))
 
   -- .. or the program refuses its question.
-  abbrev pub RefusesAt : Book → (place : ℕ) → Result Going QueryError → Type 0
-  RefusesAt book place result = OfTicketAt book.tickets.open_ones.items place (λ o. IfErr result (RefusesBy (flow_in book) o.at o.string))
+  abbrev pub RefusesAt : Book → (place : ℕ) → Result Course QueryError → Type 0
+  RefusesAt book place result = OfTicketAt book.tickets.open_ones.items place (λ o. IfErr result (RefusesAsked (flow_in book) o.question))
 
   -- how many cells are missing for a question that has come so far
   abbrev pub missing_for : Book → Going → ℕ

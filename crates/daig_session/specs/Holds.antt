@@ -10,9 +10,9 @@ use Rattle.daig_machine.specs.Turns.{is_kept}
 use Rattle.daig_machine.specs.Claims.{KeepsCells}
 use Rattle.daig_tickets.specs.declared.tickets.OpenTicket.{OpenTicket}
 use Rattle.daig_session.specs.declared.book.Book.{Book}
-use Rattle.daig_session.specs.declared.book.Going.{Going}
+use Rattle.daig_session.specs.declared.course.Course.{Course}
 use Rattle.daig_session.specs.Books.{flow_in, machine_of, IsInOrder}
-use Rattle.daig_session.specs.Going.{AreWaiting, IsGoing}
+use Rattle.daig_session.specs.Going.{AreWaiting, HasComeFar}
 
 module _ {S : Type 0} (dom : Operations S) (store : Store S) (book : Book) where
   -- The cells are right for the present program; all else is in order; and how far tickets have come is good.
@@ -28,7 +28,7 @@ module _ {S : Type 0} (dom : Operations S) (store : Store S) (book : Book) where
     pub cells : KeepsCells dom m
 
   -- A ticket stands at a place, and this is what it has come to.
-  pub record IsAtPlace (place : ℕ) (g : Going) : Type 0 where
-    pub one : OpenTicket Going
+  pub record IsAtPlace (place : ℕ) (c : Course) : Type 0 where
+    pub one : OpenTicket Course
     pub there : slice_get book.tickets.open_ones.items place ≡ Some one
-    pub going : IsGoing dom (flow_in book) store one.at one.string g
+    pub course : HasComeFar dom (flow_in book) store one.question c

@@ -9,4 +9,5 @@ pub mod Questions
 pub mod Reports
 pub mod Sessions
 pub mod Sides
+pub mod Tours
 pub mod Turns

@@ -1,5 +1,5 @@
 -- What a question does to a session: what it fills, what it answers, and what is counted for it.
-use Rattle.std.specs.Prelude.{◌≡◌, ◌+◌, ◌*◌, ℕ, List, length, map, slice_get, Some, Result, Err, IfOk, IfErr, IfSome, MatchOption}
+use Rattle.std.specs.Prelude.{◌≡◌, ◌+◌, ◌*◌, ℕ, suc, List, length, map, slice_get, Some, Result, Err, IfOk, IfErr, IfSome, OnOk, None, MatchOption}
 use Rattle.imp_syntax.specs.declared.edit.Location.{Location}
 use Rattle.imp_check.specs.Slots.{routines_of}
 use Rattle.imp_flow.specs.Reached.{target_of}
@@ -7,24 +7,36 @@ use Rattle.domain_laws.specs.Operations.{Operations}
 use Rattle.concrete_sem.specs.Values.{Variables, Heap}
 use Rattle.daig_graph.specs.declared.value.Value.{Value}
 use Rattle.daig_query.specs.Answered.{AreFilled, Covers}
-use Rattle.daig_machine.specs.Machine.{Machine, ticket_of}
-use Rattle.daig_machine.specs.Turns.{after_question, missing_at, targets_of, IsBetween}
+use Rattle.daig_machine.specs.Machine.{Machine, keeping, ticket_of}
+use Rattle.daig_machine.specs.Turns.{after_question, missing_at, refusal_asked, string_of, targets_of, IsBetween}
+use Rattle.daig_machine.specs.declared.question.Question.{Question}
+use Rattle.daig_machine.specs.declared.question.Question.TheVariants as asks
 use Rattle.why_slice.specs.Claims.{Suffices}
 use Rattle.daig_tickets.specs.declared.tickets.NoTicket.{NoTicket}
 use Rattle.daig_tickets.specs.declared.tickets.OpenTicket.{OpenTicket}
 use Rattle.daig_tickets.specs.Tickets.{ticket as ticket_in}
-use Rattle.daig_session.specs.declared.book.Going.{Going}
+use Rattle.daig_session.specs.declared.course.Course.{Course}
+use Rattle.daig_session.specs.declared.course.Going.{Going}
 use Rattle.daig_session.specs.declared.error.AskError.{AskError}
 use Rattle.daig_session.specs.declared.error.QueryError.{QueryError}
 use Rattle.daig_session.specs.declared.error.StepError.{StepError}
 use Rattle.daig_session.specs.declared.parts.Parts.{Parts}
 use Rattle.daig_session.specs.declared.queries.Filled.{Filled}
 use Rattle.daig_session.specs.declared.stepping.StepResult.{StepResult}
-use Rattle.daig_session.specs.Books.{flow_in}
-use Rattle.daig_session.specs.Going.{IsAsked}
+use Rattle.daig_session.specs.declared.stepping.Stepped.{Stepped}
+use Rattle.daig_session.specs.declared.stepping.Stepped.TheVariants as stepped
+use Rattle.daig_session.specs.declared.book.Book.{Book}
+use Rattle.daig_session.specs.declared.course.Kind.{Kind}
+use Rattle.cell_rows.specs.Targets.{Target}
+use Rattle.daig_query.specs.declared.engine.Engine.{Engine}
+use Rattle.daig_query.specs.declared.walk.Walk.{Walk}
+use Rattle.daig_session.specs.Books.{flow_in, machine_of, OfTicketAt}
+use Rattle.daig_session.specs.Engines.{WorksAtMost}
+use Rattle.daig_session.specs.Going.{IsAsked, IsAtOne}
 use Rattle.daig_session.specs.Holds.{Holds}
 use Rattle.daig_session.specs.Sessions.{FromEach, StandsFor, TicksAtMost, TicksFilling}
-use Rattle.daig_session.specs.Turns.{work_of, Cancels, CoversDone, Explains, Fails, IsStep, IsStepOf, Opens, Questions}
+use Rattle.daig_session.specs.Tours.{IsTourFull}
+use Rattle.daig_session.specs.Turns.{chains_along, chains_read, work_of, work_until, Cancels, Explains, Fails, IsJudged, IsStep, IsStepOf, IsStepped, IsSteppedOf, IsTold, Opens, Questions, SoundDone, SoundUntil, StaysUnopened}
 
 -- a question that a session's program has, with these targets
 abbrev pub Asks : {D S : Type 0} → Parts D S → Location → List ℕ → Going → Type 0
@@ -85,13 +97,21 @@ abbrev pub SufficesIn : {D S : Type 0} → (operations : D → Operations S) →
 SufficesIn operations session l string = Suffices (operations session.engine.domain) session.book.setting.engine session.book.history.now l string
 
 -- What comes of opening a ticket, from each machine that the session stood for, ..
-abbrev pub OpensFrom : {D S : Type 0} → (operations : D → Operations S) → (old new : Parts D S) → Location → List ℕ → Result ℕ AskError → Type 0
-OpensFrom operations old new l string result = FromEach operations old new (λ dom m stands. Opens dom m stands l string result)
+abbrev pub OpensFrom : {D S : Type 0} → (operations : D → Operations S) → (old new : Parts D S) → Question → Result ℕ AskError → Type 0
+OpensFrom operations old new q result = FromEach operations old new (λ dom m stands. Opens dom m stands q result)
 
 -- .. where an error tells that none is opened, and the session stays, ..
-abbrev pub StaysUnopened : {D S F : Type 0} → (operations : D → Operations S) → Parts D S → Location → List ℕ → Result F AskError → Type 0
-StaysUnopened operations session l string result = FromEach operations session session (λ dom m stands.
-    IfErr result (λ e. Opens dom m stands l string (Err e)))
+abbrev pub StaysUnopenedFrom : {D S F : Type 0} → (operations : D → Operations S) → Parts D S → Question → Result F AskError → Type 0
+StaysUnopenedFrom operations session q result = FromEach operations session session (λ dom m stands.
+    IfErr result (StaysUnopened dom m stands (string_of q) (refusal_asked dom q m)))
+
+-- .. and else the program does not refuse it, ..
+abbrev pub NotRefuses : {D S T E : Type 0} → (operations : D → Operations S) → Parts D S → Question → Result T E → Type 0
+NotRefuses operations session q result = FromEach operations session session (λ dom m _. OnOk result (refusal_asked dom q m ≡ None))
+
+-- .. of a question at one place too, ..
+abbrev pub StaysUnasked : {D S F : Type 0} → (operations : D → Operations S) → Parts D S → Location → (string : List ℕ) → Result F AskError → Type 0
+StaysUnasked operations session l string result = StaysUnopenedFrom operations session (asks.State l string) result
 
 -- .. and of closing one.
 abbrev pub CancelsFrom : {D S : Type 0} → (operations : D → Operations S) → (old new : Parts D S) → (ticket : ℕ) → Result (Unit {0}) NoTicket → Type 0
@@ -102,38 +122,108 @@ module _ {D S : Type 0} (operations : D → Operations S) (old new : Parts D S) 
   abbrev pub StepsFrom : (most : ℕ) → Result (StepResult S) StepError → Type 0
   StepsFrom most result = FromEach operations old new (λ dom m stands. IsStepOf dom m stands most (ticket_of ticket m.tickets) result)
 
-  -- a state that it answers covers every run there
-  abbrev pub CoversStep : (covers : D → S → Heap → List Variables → Type 0) → Result (StepResult S) StepError → Type 0
-  CoversStep covers result = (m : Machine) → StandsFor operations old m → IfOk result (λ turn. IfSome (ticket_of ticket m.tickets) (λ t.
-      CoversDone (covers old.engine.domain) (routines_of old.book.history.now) t turn))
+  -- what it tells holds of every run
+  abbrev pub IsSoundStep : (covers : D → S → Heap → List Variables → Type 0) → Result (StepResult S) StepError → Type 0
+  IsSoundStep covers result = FromEach operations old new (λ dom m _. IfOk result (λ turn. IfSome (ticket_of ticket m.tickets) (λ t.
+      SoundDone dom (covers old.engine.domain) m.engine m.program t.question turn)))
 
   -- The work for it is counted, ..
   abbrev pub TicksForStep : (counted : D → ℕ) → (before after : ℕ) → Result (StepResult S) StepError → Type 0
   TicksForStep counted before after result = FromEach operations old new (λ dom m _. IfOk result (λ turn. IfSome (ticket_of ticket m.tickets) (λ t.
-      TicksAtMost counted old before after (work_of dom m t turn))))
+      TicksAtMost counted old before after (work_of dom m t.question turn))))
 
   -- .. or that for what was filled; nothing is counted where there is no such ticket.
   abbrev pub TicksForSomeStep : (counted : D → ℕ) → (before after : ℕ) → Type 0
   TicksForSomeStep counted before after = (m : Machine) → StandsFor operations old m → MatchOption (ticket_of ticket m.tickets) (after ≡ before) (λ t.
-      TicksFilling counted old new before after (2 * length (targets_of m t.at t.string)))
+      TicksFilling counted old new before after (2 * chains_read m t.question))
 
 -- The same of the ticket at a place.
 module _ {D S : Type 0} (operations : D → Operations S) (old new : Parts D S) (place : ℕ) where
-  abbrev pub IsThere : OpenTicket Going → Type 0
+  abbrev pub IsThere : OpenTicket Course → Type 0
   IsThere o = slice_get old.book.tickets.open_ones.items place ≡ Some o
 
   abbrev pub StepsThere : (most : ℕ) → Result (StepResult S) StepError → Type 0
-  StepsThere most result = (m : Machine) (o : OpenTicket Going) → StandsFor operations old m → IsThere o →
+  StepsThere most result = (m : Machine) (o : OpenTicket Course) → StandsFor operations old m → IsThere o →
       IsStep (operations old.engine.domain) m (StandsFor operations new) (ticket_in o) most result
 
-  abbrev pub CoversThere : (covers : D → S → Heap → List Variables → Type 0) → Result (StepResult S) StepError → Type 0
-  CoversThere covers result = (o : OpenTicket Going) → IsThere o →
-      IfOk result (CoversDone (covers old.engine.domain) (routines_of old.book.history.now) (ticket_in o))
+  abbrev pub IsSoundThere : (covers : D → S → Heap → List Variables → Type 0) → Result (StepResult S) StepError → Type 0
+  IsSoundThere covers result = (m : Machine) (o : OpenTicket Course) → StandsFor operations old m → IsThere o →
+      IfOk result (SoundDone (operations old.engine.domain) (covers old.engine.domain) m.engine m.program o.question)
 
   abbrev pub TicksForThere : (counted : D → ℕ) → (before after : ℕ) → Result (StepResult S) StepError → Type 0
-  TicksForThere counted before after result = (m : Machine) (o : OpenTicket Going) → StandsFor operations old m → IsThere o →
-      IfOk result (λ turn. TicksAtMost counted old before after (work_of (operations old.engine.domain) m (ticket_in o) turn))
+  TicksForThere counted before after result = (m : Machine) (o : OpenTicket Course) → StandsFor operations old m → IsThere o →
+      IfOk result (λ turn. TicksAtMost counted old before after (work_of (operations old.engine.domain) m o.question turn))
 
   abbrev pub TicksForSomeThere : (counted : D → ℕ) → (before after : ℕ) → Type 0
-  TicksForSomeThere counted before after = (m : Machine) (o : OpenTicket Going) → StandsFor operations old m → IsThere o →
-      TicksFilling counted old new before after (2 * length (targets_of m o.at o.string))
+  TicksForSomeThere counted before after = (m : Machine) (o : OpenTicket Course) → StandsFor operations old m → IsThere o →
+      TicksFilling counted old new before after (2 * chains_read m o.question)
+
+  -- .. before a report is judged
+  abbrev pub SteppedThere : (most : ℕ) → Result (Stepped S) StepError → Type 0
+  SteppedThere most result = (m : Machine) (o : OpenTicket Course) → StandsFor operations old m → IsThere o →
+      IsStepped (operations old.engine.domain) m (StandsFor operations new) (ticket_in o) most result
+
+  abbrev pub IsSoundUntilThere : (covers : D → S → Heap → List Variables → Type 0) → Result (Stepped S) StepError → Type 0
+  IsSoundUntilThere covers result = (m : Machine) (o : OpenTicket Course) → StandsFor operations old m → IsThere o →
+      IfOk result (SoundUntil (operations old.engine.domain) (covers old.engine.domain) m.engine m.program o.question)
+
+  abbrev pub TicksUntilThere : (counted : D → ℕ) → (before after : ℕ) → Result (Stepped S) StepError → Type 0
+  TicksUntilThere counted before after result = (m : Machine) (o : OpenTicket Course) → StandsFor operations old m → IsThere o →
+      IfOk result (λ turn. TicksAtMost counted old before after (work_until (operations old.engine.domain) m o.question turn))
+
+-- A step of a ticket before a report is judged.
+module _ {D S : Type 0} (operations : D → Operations S) (old new : Parts D S) (ticket : ℕ) where
+  abbrev pub StepsUntil : (most : ℕ) → Result (Stepped S) StepError → Type 0
+  StepsUntil most result = FromEach operations old new (λ dom m stands. IsSteppedOf dom m stands ticket most (ticket_of ticket m.tickets) result)
+
+  abbrev pub IsSoundUntil : (covers : D → S → Heap → List Variables → Type 0) → Result (Stepped S) StepError → Type 0
+  IsSoundUntil covers result = FromEach operations old new (λ dom m _. IfOk result (λ turn. IfSome (ticket_of ticket m.tickets) (λ t.
+      SoundUntil dom (covers old.engine.domain) m.engine m.program t.question turn)))
+
+  abbrev pub TicksUntil : (counted : D → ℕ) → (before after : ℕ) → Result (Stepped S) StepError → Type 0
+  TicksUntil counted before after result = FromEach operations old new (λ dom m _. IfOk result (λ turn. IfSome (ticket_of ticket m.tickets) (λ t.
+      TicksAtMost counted old before after (work_until dom m t.question turn))))
+
+-- nothing is missing any more where a report is to be judged
+abbrev pub IsFullTurn : {D S : Type 0} → (operations : D → Operations S) → Parts D S → Stepped S → Type 0
+IsFullTurn operations session (stepped.Told turn) = Unit {0}
+IsFullTurn operations session (stepped.Full kind filled) = IsTourFull operations session kind
+
+-- What is told of a report, for which nothing is missing: nothing more is kept.
+abbrev pub JudgesFrom : {D S E : Type 0} → (operations : D → Operations S) → (old new : Parts D S) → Kind → Result (StepResult S) E → Type 0
+JudgesFrom operations old new kind result = FromEach operations old new (λ dom m stands. IfOk result (λ turn.
+    IsJudged dom m kind turn × stands (keeping m.kept 0 m)))
+
+abbrev pub StaysUnjudged : {D S R E : Type 0} → (operations : D → Operations S) → (old new : Parts D S) → Result R E → Type 0
+StaysUnjudged operations old new result = FromEach operations old new (λ dom m stands. IfErr result (λ _. stands m))
+
+-- the work for it: two operations for each chain to its places; and one more where it fails
+abbrev pub TicksForJudging : {D S R E : Type 0} → (operations : D → Operations S) → (old new : Parts D S) → (counted : D → ℕ) → Kind → (before after : ℕ) → Result R E → Type 0
+TicksForJudging operations old new counted kind before after result = FromEach operations old new (λ dom m _. IfOk result (λ _.
+    TicksAtMost counted old before after (2 * chains_along m kind)))
+
+abbrev pub TicksWhileJudging : {D S : Type 0} → (operations : D → Operations S) → (old new : Parts D S) → (counted : D → ℕ) → Kind → (before after : ℕ) → Type 0
+TicksWhileJudging operations old new counted kind before after = FromEach operations old new (λ dom m _.
+    TicksAtMost counted old before after (suc (2 * chains_along m kind)))
+
+-- What is told of the question of the ticket at a place of a book, ..
+module _ {D S : Type 0} (operations : D → Operations S) (engine : Engine D S) (book : Book) (place : ℕ) where
+  -- .. which asks at one place, and of which nothing is missing: for each machine with the book's program ..
+  abbrev pub IsFilledAt : Walk → Type 0
+  IsFilledAt walk = OfTicketAt book.tickets.open_ones.items place (λ o. IsAtOne o.question (λ l string. (ts : List Target) ×
+      IsAsked (flow_in book).program l string ts × AreFilled (operations engine.domain) engine.store walk (flow_in book) ts))
+
+  abbrev pub OfMachineAt : (Machine → Question → Type 0) → Type 0
+  OfMachineAt holds = (m : Machine) → machine_of book m.kept ≡ m → OfTicketAt book.tickets.open_ones.items place (λ o. holds m o.question)
+
+  -- .. it is the answer, ..
+  abbrev pub TellsAtPlace : {E : Type 0} → Result (StepResult S) E → Type 0
+  TellsAtPlace result = OfMachineAt (λ m q. IfOk result (IsTold (operations engine.domain) m q))
+
+  -- .. it holds of every run, ..
+  abbrev pub IsSoundAtPlace : {E : Type 0} → (covers : D → S → Heap → List Variables → Type 0) → Result (StepResult S) E → Type 0
+  IsSoundAtPlace covers result = OfMachineAt (λ m q. IfOk result (SoundDone (operations engine.domain) (covers engine.domain) m.engine m.program q))
+
+  -- .. and two operations are counted for each chain that is read.
+  abbrev pub TicksAtPlace : (counted : D → ℕ) → (before after : ℕ) → Type 0
+  TicksAtPlace counted before after = OfMachineAt (λ m q. WorksAtMost counted engine before after (2 * chains_read m q))

@@ -71,6 +71,14 @@ HasCheck program n = (e : Effect) × (k : Check) × (checked_at program n ≡ ch
 abbrev pub places_of : List CheckedStatement → List Location
 places_of cs = map (λ c. Before c.number) cs
 
+-- those of a statement, if it has a check, and those of some statements, by their numbers
+abbrev pub checks_at : List Procedure → ℕ → List Location
+checks_at program n = places_of (checked_at program n)
+
+abbrev pub checks_among : List Procedure → List ℕ → List Location
+checks_among program [] = []
+checks_among program (n ∷ ns) = checks_at program n ++ checks_among program ns
+
 -- the number of chains to all of a machine's
 abbrev pub checked_chains : Machine → ℕ
 checked_chains m = chain_count (routines_of m.program) (places_of (checked_statements (routines_of m.program)))

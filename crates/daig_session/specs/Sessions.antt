@@ -1,8 +1,9 @@
 -- What is said of a session as a whole, by the operations of its domain.
 use Rattle.std.specs.Prelude.{◌≡◌, ◌+◌, ℕ, suc}
+use Rattle.std.specs.FinMap.{len}
 use Rattle.domain_laws.specs.Operations.{Operations}
 use Rattle.daig_query.specs.Filled.{cells_added}
-use Rattle.daig_query.specs.Swept.{IsBounded}
+use Rattle.daig_query.specs.Swept.{most_held, IsBounded, IsWithin}
 use Rattle.daig_machine.specs.Machine.{Machine}
 use Rattle.daig_session.specs.declared.parts.Parts.{Parts}
 use Rattle.daig_session.specs.Engines.{WorksAtMost}
@@ -38,6 +39,10 @@ IsWithinBound session = IsBounded session.engine.spare session.engine.store
 abbrev pub cells_filled : {D S : Type 0} → (old new : Parts D S) → ℕ
 cells_filled old new = cells_added old.engine.store new.engine.store
 
+-- It has as many cells after a call as before it.
+abbrev pub HasAsMany : {D S : Type 0} → (old new : Parts D S) → Type 0
+HasAsMany old new = len new.engine.store.graph.cells ≡ len old.engine.store.graph.cells
+
 -- So much work is counted at most, each piece as one operation of the session's domain.
 abbrev pub TicksAtMost : {D S : Type 0} → (counted : D → ℕ) → Parts D S → (before after work : ℕ) → Type 0
 TicksAtMost counted session before after work = WorksAtMost counted session.engine before after work
@@ -53,3 +58,7 @@ StaysBounded old new = IsWithinBound old → IsWithinBound new
 -- The same with nothing beside.
 abbrev pub TicksForFilled : {D S : Type 0} → (counted : D → ℕ) → (old new : Parts D S) → (before after : ℕ) → Type 0
 TicksForFilled counted old new before after = TicksAtMost counted old before after (suc (cells_filled old new))
+
+-- After a sweep a call keeps states and operations within their bound.
+abbrev pub BoundsSwept : {D S : Type 0} → (old new : Parts D S) → Type 0
+BoundsSwept old new = IsWithin (most_held old.engine.spare old.engine.store) old.engine.store → IsWithinBound new

@@ -4,7 +4,7 @@ ghost use Rattle.daig_session.specs.Going.{AreAsked};
 ghost use Rattle.daig_session.specs.Engines.{IsRightFor, HasCome, RefusesBy, IsFilledForOne};
 ghost use Rattle.daig_session.specs.Engines.{SaysForFilled, CoversForFilled, TicksForTargets};
 
-use crate::book::Going;
+use crate::course::Going;
 use crate::error::QueryError;
 use base_values::{Items, Memory};
 use batch_meaning::QueryRefusal;

@@ -7,22 +7,15 @@ ghost use Rattle.daig_session.specs.Books.{program_after, IsTurnedBy};
 ghost use Rattle.daig_session.specs.Moves.{IsNearest};
 ghost use Rattle.daig_session.specs.Sides.{programs_of, TurnsTo, TakesNearest, HasNearest};
 
-use base_values::{Items, Memory};
+use crate::course::Course;
+use base_values::Memory;
 use call_contexts::Setting;
-use daig_query::Walk;
 use daig_tickets::Tickets;
 use edit_history::History;
 use imp_chains::Widening;
-use imp_flow::{Flow, Target};
+use imp_flow::Flow;
 use imp_table::{Change, Table};
 use std::alloc::Global;
-
-/// How far a ticket has come: its targets in the present program, and the walk along them.
-#[derive(Drop)]
-pub(crate) struct Going {
-    pub(crate) targets: Items<Target>,
-    pub(crate) walk: Walk,
-}
 
 /// The programs before the present one, or those after it.
 #[derive(Clone, Copy)]
@@ -38,7 +31,7 @@ pub(crate) struct Book {
     pub(crate) history: History,
     pub(crate) setting: Setting,
     pub(crate) next: u32,
-    pub(crate) tickets: Tickets<Going>,
+    pub(crate) tickets: Tickets<Course>,
     pub(crate) cost: u64,
 }
 

@@ -1,8 +1,8 @@
 //! The statements of a program that have a check.
-ghost use Rattle.std.specs.Prelude.{◌≡◌, ◌++◌, ℕ, IfOk, IfSome, OnOk};
+ghost use Rattle.std.specs.Prelude.{◌≡◌, ◌++◌, ℕ, [], IfOk, IfSome, IsFalse, IsTrue, OnOk};
 ghost use Rattle.std.specs.Option.{option_copied};
 ghost use Rattle.imp_syntax.specs.Plain.{program_numbers};
-ghost use Rattle.daig_session.specs.Reports.{checked_at, checked_form, checked_stmt, IsChecked};
+ghost use Rattle.daig_session.specs.Reports.{checked_at, checked_form, checked_stmt, HasCheck, IsChecked};
 
 use base_values::{Items, Memory};
 use call_contexts::procedure_count;
@@ -59,4 +59,12 @@ pub(crate) fn checked_stmt<'a>(view: &View<'a>, id: StmtId) -> Option<&'a SlotSt
         Some(entry) => checked_in(&entry.form),
         None => None,
     }
+}
+
+/// Whether the statement of a number has a check. It takes constant time.
+pub(crate) fn is_checked(view: &View<'_>, id: StmtId) -> bool
+    ensures there { IsTrue result → HasCheck view.now id }
+    ensures none { IsFalse result → checked_at view.now id ≡ [] }
+{
+    checked_stmt(view, id).is_some()
 }

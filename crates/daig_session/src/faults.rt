@@ -129,7 +129,7 @@ impl<D: Domain> Session<D> {
     }
 
     /// A report of faults, with no sweep before it.
-    fn faults_now<L: Ledger>(
+    pub(crate) fn faults_now<L: Ledger>(
         &mut self,
         alloc: Global,
         steps: &mut Steps<L>,

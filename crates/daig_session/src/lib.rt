@@ -10,7 +10,7 @@
 //!
 //! - [`Session::query`] fills what is missing for one question, and answers it; [`Session::report`] asks before each
 //!   statement that has a check, one after another, [`Session::faults`] where each statement evaluates that can end a run.
-//! - [`Session::ask`] opens a ticket for a question, [`Session::step`] fills a few cells for it at a time,
+//! - [`Session::begin`] opens a ticket for one of these, [`Session::step`] fills a few cells for it at a time,
 //!   [`Session::cancel`] closes it. A ticket keeps how far it has come until the program is another one.
 //! - [`Session::prepare`] works an edit out beside what stands. [`Prepared::commit`] makes it, and cannot fail.
 //!   [`Session::undo`] and [`Session::redo`] go back and forth.
@@ -29,6 +29,7 @@
 mod asking;
 mod book;
 mod checks;
+mod course;
 mod edits;
 mod error;
 mod faults;
@@ -41,6 +42,7 @@ mod reports;
 mod session;
 mod stepping;
 mod tickets;
+mod touring;
 mod undo_redo;
 
 pub use edits::{Planned, Prepared};

@@ -13,7 +13,8 @@ ghost use Rattle.daig_session.specs.Engines.{IsAdded, TicksForAdded, FillsFirst,
 ghost use Rattle.daig_session.specs.Engines.{KeepsSetup};
 
 use crate::asking::{begun, read_answer};
-use crate::book::{Book, Going};
+use crate::book::Book;
+use crate::course::Going;
 use crate::error::QueryError;
 use crate::parts::Parts;
 use crate::session::Session;

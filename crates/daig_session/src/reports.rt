@@ -13,7 +13,7 @@ ghost use Rattle.daig_session.specs.Reports.{ReportsFrom, TicksForReport};
 ghost use Rattle.daig_session.specs.Reports.{AreFindingsSound, HasCheck, IsChecked};
 ghost use Rattle.daig_session.specs.Engines.{KeepsSetup};
 
-use crate::checks::{all_statements, checked_stmt};
+use crate::checks::{all_statements, checked_stmt, is_checked};
 use crate::session::Session;
 use alarm_report::Found;
 use base_values::{Items, Memory};
@@ -72,8 +72,7 @@ impl<D: Domain> Session<D> {
         ensures there { IsTrue result → HasCheck self.now.book.history.now id }
         ensures none { IsFalse result → checked_at self.now.book.history.now id ≡ [] }
     {
-        let view = self.parts.book.history.table().view();
-        checked_stmt(&view, id).is_some()
+        is_checked(&self.parts.book.history.table().view(), id)
     }
 
     /// What is found of a statement that has a check, by what is known before it.
@@ -178,7 +177,7 @@ impl<D: Domain> Session<D> {
     }
 
     /// A report, with no sweep before it.
-    fn report_now<L: Ledger>(
+    pub(crate) fn report_now<L: Ledger>(
         &mut self,
         alloc: Global,
         steps: &mut Steps<L>,

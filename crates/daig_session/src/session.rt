@@ -9,10 +9,10 @@ ghost use Rattle.daig_session.specs.Sessions.{IsReadyBy, StandsFor, OfEachMachin
 use crate::book::Book;
 use crate::parts::Parts;
 use base_values::Memory;
+use daig_machine::Question;
 use daig_query::Engine;
 use domain_laws::Domain;
 use imp_chains::Widening;
-use imp_syntax::Location;
 use imp_table::Table;
 use std::alloc::Global;
 use std::marker::Model;
@@ -130,17 +130,17 @@ impl<D: Domain> Session<D> {
         self.parts.book.tickets.next
     }
 
-    /// Where an open ticket asks; `None` where no ticket of this number is open. It takes time linear in the open tickets,
+    /// What an open ticket asks; `None` where no ticket of this number is open. It takes time linear in the open tickets,
     /// which are few.
-    pub fn ticket_at(&self, ticket: u64) -> Option<&Location>
+    pub fn question_of(&self, ticket: u64) -> Option<&Question>
         ensures is { OfEachMachine D.operations self.now (λ m. option_copied result ≡ option_map
-            (λ (t : Ticket). t.at) (ticket_of ticket m.tickets)) }
+            (λ (t : Ticket). t.question) (ticket_of ticket m.tickets)) }
     {
         match self.parts.book.tickets.place_of(ticket) {
             None => None,
             Some(place) => {
                 let one = &self.parts.book.tickets.open_ones[place];
-                Some(&one.at)
+                Some(&one.question)
             }
         }
     }

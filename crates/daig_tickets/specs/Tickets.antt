@@ -10,14 +10,14 @@ module _ {G : Type 0} where
   number o = o.number
 
   abbrev pub ticket : OpenTicket G → Ticket
-  ticket o = record { number = o.number; at = o.at; string = o.string }
+  ticket o = record { number = o.number; question = o.question }
 
   abbrev pub tickets : Tickets G → List Ticket
   tickets t = map ticket t.open_ones.items
 
   -- the ticket with nothing done for it
   abbrev pub anew : OpenTicket G → OpenTicket G
-  anew o = record { number = o.number; at = o.at; string = o.string; going = None }
+  anew o = record { number = o.number; question = o.question; going = None }
 
   -- the numbers are below this one
   abbrev pub AreBelow : ℕ → List (OpenTicket G) → Type 0

@@ -3,8 +3,8 @@ ghost use Rattle.std.specs.Prelude.{◌≡◌, ◌+◌, ◌<◌, ◌^◌, [], �
 ghost use Rattle.daig_machine.specs.Machine.{ticket_of, without_ticket};
 ghost use Rattle.daig_tickets.specs.Tickets.{anew, number, tickets, AreOpen, IsAt, IsPlaced};
 
-use base_values::{Items, Memory};
-use imp_syntax::Location;
+use base_values::Memory;
+use daig_machine::Question;
 use std::alloc::Global;
 use thiserror::Error;
 
@@ -16,12 +16,11 @@ const MOST_OPEN: usize = 16;
 #[error("no such ticket is open")]
 pub struct NoTicket;
 
-/// An open ticket: its number, where it asks and under which call string, and how far it has come.
+/// An open ticket: its number, what it asks, and how far it has come.
 #[derive(Drop)]
 pub struct OpenTicket<G> {
     pub number: u64,
-    pub at: Location,
-    pub string: Items<u32>,
+    pub question: Question,
     pub going: Option<G>,
 }
 
@@ -85,16 +84,15 @@ impl<G> Tickets<G> {
 
 impl<G: Drop> Tickets<G> {
     #[tactic(auto, using(crate::proofs::Opening::opens))]
-    /// Opens a ticket that has come so far, and gives its number. When memory runs out it opens none.
-    pub fn add(&mut self, at: Location, string: Items<u32>, going: G) -> Result<u64, Memory>
+    /// Opens a ticket, for which so much is done, and gives its number. When memory runs out it opens none.
+    pub fn add(&mut self, question: Question, going: Option<G>) -> Result<u64, Memory>
         requires tickets { AreOpen self.old }
         requires few { length self.old.open_ones.items < 16 }
         requires room { self.old.next < 2 ^ 63 }
         ensures tickets { AreOpen self.new }
         ensures number { IfOk result (λ n. n ≡ self.old.next) }
         ensures added { OnOk result (self.new.open_ones.items ≡ self.old.open_ones.items
-            ++ record { number = self.old.next; at = at; string = string; going = Some going }
-            ∷ []) }
+            ++ record { number = self.old.next; question = question; going = going } ∷ []) }
         ensures next { OnOk result (self.new.next ≡ self.old.next + 1) }
         ensures unchanged { OnErr result (self.new.open_ones.items ≡ self.old.open_ones.items) }
         ensures same_next { OnErr result (self.new.next ≡ self.old.next) }
@@ -102,9 +100,8 @@ impl<G: Drop> Tickets<G> {
         let number = self.next;
         self.open_ones.push(OpenTicket {
             number,
-            at,
-            string,
-            going: Some(going),
+            question,
+            going,
         })?;
         self.next = number + 1;
         Ok(number)

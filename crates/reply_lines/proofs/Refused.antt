@@ -3,13 +3,16 @@ use Rattle.std.proofs.Common.{◌≡◌, inl, inr, ◌⊎◌, ℕ, nat_le, nat_l
 use Rattle.imp_syntax.specs.Plain.{Procedure}
 use Rattle.imp_syntax.specs.declared.edit.Edit.{Edit}
 use Rattle.imp_syntax.specs.declared.edit.Location.{Location}
+use Rattle.imp_words.specs.declared.refusal.QueryRefusal.{QueryRefusal}
 use Rattle.domain_laws.specs.Operations.{Operations}
 use Rattle.batch_meaning.specs.Values.{Value, State, Over}
 use Rattle.batch_meaning.specs.Answers.{Answer, Refuses, Answers}
 use Rattle.imp_edit.specs.Refusals.{edit_refusal}
 use Rattle.imp_edit.specs.declared.error.EditError.{EditError}
 use Rattle.daig_machine.specs.Machine.{Machine, Ticket, ticket_of}
-use Rattle.daig_machine.specs.Turns.{answer_at, missing_at, redone, undone}
+use Rattle.daig_machine.specs.Turns.{answer_at, missing_asked, redone, refusal_asked, refusal_in, string_of, undone}
+use Rattle.daig_machine.specs.declared.question.Question.{Question}
+use Rattle.daig_machine.specs.declared.question.Question.TheVariants as what
 use Rattle.request_json.specs.declared.error.ReadError.{ReadError}
 use Rattle.request_json.specs.declared.request.Query.{Query}
 use Rattle.request_json.specs.declared.request.Request.{Request}
@@ -18,10 +21,10 @@ use Rattle.request_json.specs.declared.reply.Reply.{Reply}
 use Rattle.request_json.specs.declared.reply.Reply.TheVariants as r
 use Rattle.request_json.specs.declared.reply.Refusal.{Refusal}
 use Rattle.request_json.specs.declared.reply.Refusal.TheVariants as refusal
-use Rattle.request_json.specs.Requests.{request_of}
+use Rattle.request_json.specs.Requests.{query_of, request_of}
 use Rattle.serve_answers.specs.Readings.{Readings}
 use Rattle.serve_answers.specs.Edits.{replace_of, insert_of, delete_of, guard_of, declare_of, add_of, drop_of}
-use Rattle.serve_answers.specs.Turns.{Outcome, goes, state_reply, cancel_by, move_turn, state_by, why_by, ask_by, step_by, step_of, edit_by, edit_turn}
+use Rattle.serve_answers.specs.Turns.{Outcome, goes, state_reply, cancel_by, move_turn, state_by, why_by, begin_by, question_of, step_by, step_of, edit_by, edit_turn, whole_turn}
 use Rattle.serve_answers.specs.Lines.{request_turn, read_turn}
 use Rattle.reply_lines.specs.Refused.{ClosesTicket, RefusalsKeep}
 
@@ -53,23 +56,39 @@ module _ {S : Type 0} (dom : Operations S) (m : Machine) (line : List ℕ) where
   why_keeps query (Refuses w) = stays (r.Refused (refusal.Query w))
   why_keeps query (Answers v) = λ why is. absurd cc
 
-  ask_keeps : (query : Query) (a : Answer S) → Keeps (ask_by dom query a m)
-  ask_keeps query (Refuses w) = stays (r.Refused (refusal.Query w))
-  ask_keeps query (Answers v) = λ why is. absurd cc
+  begin_keeps : (question : Question) (refusal_is : Option QueryRefusal) → Keeps (begin_by dom question refusal_is m)
+  begin_keeps question (Some w) = stays (r.Refused (refusal.Query w))
+  begin_keeps question None = λ why is. absurd cc
 
   either_keeps : (b : Bool) (one other : Outcome) → Keeps one → Keeps other → Keeps (if b then one else other)
   either_keeps true one other first second = first
   either_keeps false one other first second = second
 
-  step_by_keeps : (ticket n : ℕ) (t : Ticket) (a : Answer S) → request_of line ≡ Ok (q.Step ticket n) → ticket_of ticket m.tickets ≡ Some t → answer_at dom t.at t.string m ≡ a → Keeps (step_by dom t n a m)
-  step_by_keeps ticket n t (Refuses w) reads open_one refuses = λ why is.
+  -- The whole request for a question that the program does not refuse is not refused.
+  state_told : (query : Query) (a : Answer S) (there : Machine) → refusal_in a ≡ None → Keeps (goes (state_by dom query a m).reply there)
+  state_told query (Refuses w) there none = absurd cc
+  state_told query (Answers v) there none = told_accepts query.at v there
+
+  why_told : (query : Query) (a : Answer S) (there : Machine) → refusal_in a ≡ None → Keeps (goes (why_by dom query a m).reply there)
+  why_told query (Refuses w) there none = absurd cc
+  why_told query (Answers v) there none = λ why is. absurd cc
+
+  whole_told : (question : Question) (there : Machine) → refusal_asked dom question m ≡ None → Keeps (goes (whole_turn dom question m).reply there)
+  whole_told (what.State l string) there none = state_told (query_of l string) (answer_at dom l string m) there none
+  whole_told (what.Why l string) there none = why_told (query_of l string) (answer_at dom l string m) there none
+  whole_told what.Report there none = λ why is. absurd cc
+  whole_told (what.Faults only) there none = λ why is. absurd cc
+
+  step_by_keeps : (ticket n : ℕ) (t : Ticket) (refusal_is : Option QueryRefusal) →
+      request_of line ≡ Ok (q.Step ticket n) → ticket_of ticket m.tickets ≡ Some t → refusal_asked dom t.question m ≡ refusal_is → Keeps (step_by dom t n refusal_is m)
+  step_by_keeps ticket n t (Some w) reads open_one refuses = λ why is.
       inr ((let gone : why ≡ refusal.Gone = cc in gone), record { ticket = ticket; steps = n; asked = t; cause = w; reads = reads; open_one = open_one; refuses = refuses; closes = refl })
-  step_by_keeps ticket n t (Answers v) reads open_one answers =
-      either_keeps (nat_lt n (length (missing_at dom t.at t.string m))) _ _ (λ why is. absurd cc) (told_accepts t.at v _)
+  step_by_keeps ticket n t None reads open_one none =
+      either_keeps (nat_lt n (length (missing_asked dom t.question m))) _ _ (λ why is. absurd cc) (whole_told t.question _ none)
 
   step_keeps : (ticket n : ℕ) (t : Option Ticket) → request_of line ≡ Ok (q.Step ticket n) → ticket_of ticket m.tickets ≡ t → Keeps (step_of dom n t m)
   step_keeps ticket n None reads open_one = stays (r.Refused refusal.NoTicket)
-  step_keeps ticket n (Some t) reads open_one = step_by_keeps ticket n t (answer_at dom t.at t.string m) reads open_one refl
+  step_keeps ticket n (Some t) reads open_one = step_by_keeps ticket n t (refusal_asked dom t.question m) reads open_one refl
 
   edit_by_keeps : (e : Edit) (error : Option EditError) → Keeps (edit_by dom e error m)
   edit_by_keeps e None = λ why is. absurd cc
@@ -98,9 +117,10 @@ module _ {S : Type 0} (dom : Operations S) (m : Machine) (line : List ℕ) where
   request_keeps readings (q.Why query) reads = why_keeps query (answer_at dom query.at query.string m)
   request_keeps readings q.Undo reads = move_keeps m.past refusal.NothingToUndo (undone dom m)
   request_keeps readings q.Redo reads = move_keeps m.future refusal.NothingToRedo (redone dom m)
-  request_keeps readings (q.Ask query) reads =
-      either_keeps (nat_lt 2 (length query.string)) _ _ (stays _) (
-      either_keeps (nat_le 16 (length m.tickets)) _ _ (stays _) (ask_keeps query (answer_at dom query.at query.string m)))
+  request_keeps readings (q.Begin task) reads =
+      let question = question_of task in
+      either_keeps (nat_lt 2 (length (string_of question))) _ _ (stays _) (
+      either_keeps (nat_le 16 (length m.tickets)) _ _ (stays _) (begin_keeps question (refusal_asked dom question m)))
   request_keeps readings (q.Step ticket n) reads = step_keeps ticket n (ticket_of ticket m.tickets) reads refl
   request_keeps readings (q.Cancel ticket) reads = cancel_keeps (ticket_of ticket m.tickets)
 

@@ -2,9 +2,8 @@
 use Rattle.std.specs.Prelude.{◌≡◌, ◌⊎◌, ℕ, List, Some, Ok}
 use Rattle.imp_words.specs.declared.refusal.QueryRefusal as words
 use Rattle.domain_laws.specs.Operations.{Operations}
-use Rattle.batch_meaning.specs.Answers.{Refuses}
 use Rattle.daig_machine.specs.Machine.{Machine, Ticket, ticket_of}
-use Rattle.daig_machine.specs.Turns.{answer_at, after_close}
+use Rattle.daig_machine.specs.Turns.{after_close, refusal_asked}
 use Rattle.request_json.specs.declared.request.Request.TheVariants as q
 use Rattle.request_json.specs.declared.reply.Reply.TheVariants as r
 use Rattle.request_json.specs.declared.reply.Refusal.{Refusal}
@@ -22,7 +21,7 @@ pub record ClosesTicket {S : Type 0} (dom : Operations S) (m next : Machine) (li
   pub cause : words.QueryRefusal
   pub reads : request_of line ≡ Ok (q.Step ticket steps)
   pub open_one : ticket_of ticket m.tickets ≡ Some asked
-  pub refuses : answer_at dom asked.at asked.string m ≡ Refuses cause
+  pub refuses : refusal_asked dom asked.question m ≡ Some cause
   pub closes : next ≡ after_close asked.number m
 
 -- A line that is refused leaves the machine as it is, or closes such a ticket.

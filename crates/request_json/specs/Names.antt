@@ -12,7 +12,7 @@ verbs =
     (codes "listing", v.Listing) ∷ (codes "run", v.Run) ∷ (codes "replace", v.Replace) ∷ (codes "insert", v.Insert) ∷
     (codes "delete", v.Delete) ∷ (codes "guard", v.Guard) ∷ (codes "declare", v.Declare) ∷ (codes "add", v.Add) ∷
     (codes "drop", v.Drop) ∷ (codes "why", v.Why) ∷ (codes "undo", v.Undo) ∷ (codes "redo", v.Redo) ∷
-    (codes "ask", v.Ask) ∷ (codes "step", v.Step) ∷ (codes "cancel", v.Cancel) ∷
+    (codes "ask", v.Ask) ∷ (codes "begin", v.Begin) ∷ (codes "step", v.Step) ∷ (codes "cancel", v.Cancel) ∷
     (codes "faults", v.Faults) ∷ []
 
 unfoldable pub verb_of : List ℕ → Option Verb

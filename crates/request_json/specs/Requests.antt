@@ -14,6 +14,8 @@ use Rattle.request_json.specs.declared.names.Verb.TheVariants as v
 use Rattle.request_json.specs.declared.request.Query.{Query}
 use Rattle.request_json.specs.declared.request.Request.{Request}
 use Rattle.request_json.specs.declared.request.Request.TheVariants as r
+use Rattle.request_json.specs.declared.request.Task.{Task}
+use Rattle.request_json.specs.declared.request.Task.TheVariants as task
 use Rattle.request_json.specs.Members.{json_of, text_at, number_at, string_at, inputs_at, greatest_id, greatest_ticket, greatest_count}
 use Rattle.request_json.specs.Names.{verb_of, verdict_of}
 use Rattle.request_json.specs.Places.{location_of, place_of, kind_of}
@@ -67,9 +69,10 @@ abbrev pub bounded_query : Option Query → Result Query ReadError
 bounded_query None = Err e.BadMember
 bounded_query (Some query) = if nat_le (length query.string) 2 then Ok query else Err e.LongString
 
-abbrev pub query_request : (Query → Request) → Result Query ReadError → Result Request ReadError
-query_request f (Err error) = Err error
-query_request f (Ok query) = Ok (f query)
+-- what is made of a query, or of a task, that is there
+abbrev pub made_of : {A B : Type 0} → (A → B) → Result A ReadError → Result B ReadError
+made_of f (Err error) = Err error
+made_of f (Ok a) = Ok (f a)
 
 abbrev pub run_at : Data → Option Request
 run_at request =
@@ -78,6 +81,26 @@ run_at request =
 
 abbrev pub faults_at : Data → Option Request
 faults_at request = option_map r.Faults (verdict_if_there (get (codes "only") request))
+
+-- What a ticket is opened for: `what` names a request for a state, for what it depends on, or for a report, whose members stand
+-- beside it.
+abbrev pub faults_task : Option (Option FaultVerdict) → Result Task ReadError
+faults_task None = Err e.BadMember
+faults_task (Some only) = Ok (task.Faults only)
+
+abbrev pub named_task : Data → Option Verb → Result Task ReadError
+named_task request (Some v.State) = made_of task.State (bounded_query (query_at request))
+named_task request (Some v.Why) = made_of task.Why (bounded_query (query_at request))
+named_task request (Some v.Report) = Ok task.Report
+named_task request (Some v.Faults) = faults_task (verdict_if_there (get (codes "only") request))
+named_task request _ = Err e.BadMember
+
+abbrev pub called_task : Data → Option (List ℕ) → Result Task ReadError
+called_task request None = Err e.BadMember
+called_task request (Some name) = named_task request (verb_of name)
+
+abbrev pub task_at : Data → Result Task ReadError
+task_at request = called_task request (text_at (codes "what") request)
 
 abbrev pub declare_at : Data → Option Request
 declare_at request = option_and_then (λ proc. both (r.Declare proc) (name_at request) (kind_at request)) (text_at (codes "proc") request)
@@ -108,7 +131,7 @@ cancel_at request = option_map r.Cancel (number_at greatest_ticket (codes "ticke
 
 -- the request that a verb asks of the members
 unfoldable pub verb_request : Verb → Data → Result Request ReadError
-verb_request v.State request = query_request r.State (bounded_query (query_at request))
+verb_request v.State request = made_of r.State (bounded_query (query_at request))
 verb_request v.Report request = Ok r.Report
 verb_request v.Cost request = Ok r.Cost
 verb_request v.Program request = Ok r.Program
@@ -121,10 +144,11 @@ verb_request v.Guard request = or_bad (guard_at request)
 verb_request v.Declare request = or_bad (declare_at request)
 verb_request v.Add request = or_bad (add_at request)
 verb_request v.Drop request = or_bad (drop_at request)
-verb_request v.Why request = query_request r.Why (bounded_query (query_at request))
+verb_request v.Why request = made_of r.Why (bounded_query (query_at request))
 verb_request v.Undo request = Ok r.Undo
 verb_request v.Redo request = Ok r.Redo
-verb_request v.Ask request = query_request r.Ask (bounded_query (query_at request))
+verb_request v.Ask request = made_of (λ query. r.Begin (task.State query)) (bounded_query (query_at request))
+verb_request v.Begin request = made_of r.Begin (task_at request)
 verb_request v.Step request = or_bad (step_at request)
 verb_request v.Cancel request = or_bad (cancel_at request)
 verb_request v.Faults request = or_bad (faults_at request)

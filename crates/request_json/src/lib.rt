@@ -39,5 +39,5 @@ pub use ids::put_ids;
 pub use line::json_of;
 pub use reading::read_request;
 pub use reply::{ProgramFault, Refusal, Reply};
-pub use request::{Query, Request};
+pub use request::{Query, Request, Task};
 pub use writing::reply_line;

@@ -1,6 +1,6 @@
 //! From a line to its request, or the first of its faults: the clauses of [`read_request`].
 ghost use Rattle.std.specs.Prelude.{◌≡◌, None, Some, IfOk, IfErr, codes};
-ghost use Rattle.request_json.specs.Requests.{verb_request, request_of, called_request, bounded_query, or_bad, query_at, run_at, replace_at, insert_at, delete_at, guard_at, declare_at, add_at, drop_at, step_at, cancel_at, faults_at};
+ghost use Rattle.request_json.specs.Requests.{verb_request, request_of, called_request, bounded_query, or_bad, query_at, run_at, replace_at, insert_at, delete_at, guard_at, declare_at, add_at, drop_at, step_at, cancel_at, faults_at, task_at};
 ghost use Rattle.request_json.specs.Members.{text_at};
 ghost use Rattle.serde_json.specs.View.{view};
 
@@ -11,7 +11,7 @@ use crate::fields::{
 };
 use crate::line::json_of;
 use crate::names::{Verb, verb_of};
-use crate::request::{Query, Request};
+use crate::request::{Query, Request, Task};
 use base_values::Memory;
 use serde_json::Value;
 use std::alloc::Global;
@@ -196,6 +196,27 @@ fn faults_at(request: &Value) -> Option<Request>
     }
 }
 
+/// What a ticket is opened for.
+fn task_at(alloc: Global, request: &Value) -> Result<Task, ReadError>
+    ensures task { IfOk result (λ task. task_at (view request.now) ≡ Ok task) }
+    ensures refused { IfErr result (λ error. (error ≡ ReadError.Memory → ⊥) →
+        task_at (view request.now) ≡ Err error) }
+{
+    let Some(name) = text_at(request, "what") else {
+        return Err(ReadError::BadMember);
+    };
+    match verb_of(name) {
+        Some(Verb::State) => Ok(Task::State(query_of(alloc, request)?)),
+        Some(Verb::Why) => Ok(Task::Why(query_of(alloc, request)?)),
+        Some(Verb::Report) => Ok(Task::Report),
+        Some(Verb::Faults) => match verdict_if_there(request) {
+            Some(only) => Ok(Task::Faults { only }),
+            None => Err(ReadError::BadMember),
+        },
+        _ => Err(ReadError::BadMember),
+    }
+}
+
 /// The request that a verb asks of the members.
 #[tactic(auto, unfolding(crate::specs::Requests::verb_request))]
 fn verb_request(alloc: Global, verb: Verb, request: &Value) -> Result<Request, ReadError>
@@ -220,7 +241,8 @@ fn verb_request(alloc: Global, verb: Verb, request: &Value) -> Result<Request, R
         Verb::Why => Ok(Request::Why(query_of(alloc, request)?)),
         Verb::Undo => Ok(Request::Undo),
         Verb::Redo => Ok(Request::Redo),
-        Verb::Ask => Ok(Request::Ask(query_of(alloc, request)?)),
+        Verb::Ask => Ok(Request::Begin(Task::State(query_of(alloc, request)?))),
+        Verb::Begin => Ok(Request::Begin(task_at(alloc, request)?)),
         Verb::Step => or_bad(step_at(request)),
         Verb::Cancel => or_bad(cancel_at(request)),
         Verb::Faults => or_bad(faults_at(request)),

@@ -83,8 +83,8 @@ pub enum Request {
     Undo,
     /// The program before the last undo.
     Redo,
-    /// A ticket for the state at a location, to be worked on in steps.
-    Ask(Query),
+    /// A ticket for a request, which is to be worked on in steps.
+    Begin(Task),
     /// Some steps of work on a ticket.
     Step {
         /// The ticket's number, below 2^63.
@@ -96,6 +96,22 @@ pub enum Request {
     Cancel {
         /// The ticket's number, below 2^63.
         ticket: u64,
+    },
+}
+
+/// A request that a ticket is opened for.
+#[derive(Debug, Drop)]
+pub enum Task {
+    /// The state at a location.
+    State(Query),
+    /// The statements that it depends on.
+    Why(Query),
+    /// The findings of all checks.
+    Report,
+    /// What is found of every fault that can end a run.
+    Faults {
+        /// The verdict of those that are wanted; all where there is none.
+        only: Option<FaultVerdict>,
     },
 }
 

@@ -7,6 +7,7 @@ use Rattle.imp_syntax.specs.declared.edit.Edit.{Edit}
 use Rattle.imp_syntax.specs.declared.edit.Location.{Location}
 use Rattle.imp_slots.specs.Fits.{IsChecked}
 use Rattle.imp_check.specs.Slots.{routines_of}
+use Rattle.imp_words.specs.declared.refusal.QueryRefusal.{QueryRefusal}
 use Rattle.domain_laws.specs.Operations.{Operations}
 use Rattle.batch_meaning.specs.Answers.{Answer, Refuses, Answers, Found, In, Misses, procedure_of}
 use Rattle.batch_meaning.specs.Batch.{LoopOptions}
@@ -21,7 +22,9 @@ use Rattle.serve_script.specs.Lines.{kept}
 use Rattle.serve_script.specs.Replies.{machine_after, next_to}
 use Rattle.daig_machine.specs.Claims.{AreKept, KeepsCells}
 use Rattle.daig_machine.specs.Machine.{Machine, Ticket, ticket_of}
-use Rattle.daig_machine.specs.Turns.{answer_at, back_to, missing_names, missing_at, missing_for_faults, missing_for_report, with_program, on_to, or_none, targets_in}
+use Rattle.daig_machine.specs.Turns.{answer_at, back_to, missing_asked, missing_names, missing_at, refusal_asked, string_of, with_program, on_to, or_none, targets_in}
+use Rattle.daig_machine.specs.declared.question.Question.{Question}
+use Rattle.daig_machine.specs.declared.question.Question.TheVariants as what
 use Rattle.daig_machine.proofs.Asking.{places_keep, question_keeps, report_keeps}
 use Rattle.daig_machine.proofs.Moving.{move_keeps}
 use Rattle.request_json.specs.declared.error.ReadError.{ReadError}
@@ -33,7 +36,7 @@ use Rattle.request_json.specs.declared.reply.Refusal.TheVariants as refusal
 use Rattle.request_json.specs.Requests.{request_of}
 use Rattle.serve_answers.specs.Readings.{Readings}
 use Rattle.serve_answers.specs.Edits.{replace_of, insert_of, delete_of, guard_of, declare_of, add_of, drop_of}
-use Rattle.serve_answers.specs.Turns.{Outcome, cancel_by, move_turn, state_by, why_by, ask_by, step_by, step_of, edit_by, edit_turn}
+use Rattle.serve_answers.specs.Turns.{Outcome, cancel_by, move_turn, state_by, why_by, begin_by, question_of, step_by, step_of, edit_by, edit_turn}
 use Rattle.serve_answers.specs.Lines.{Served, request_turn, read_turn, server}
 use Rattle.serve_answers.specs.Fine.{HasFinePrograms, IsProgramOf, opening}
 use Rattle.serve_answers.proofs.FineTurns.{lines_fine}
@@ -67,18 +70,15 @@ module _ {S : Type 0} (dom : Operations S) (m : Machine) (has : HasCells dom m) 
   gains_some : (l : Location) (string : List ℕ) (n : ℕ) → Gains (take n (missing_at dom l string m))
   gains_some l string n = gains_found l string n (procedure_of (routines_of m.program) l)
 
-  gains_all : (l : Location) (string : List ℕ) → Gains (missing_at dom l string m)
-  gains_all l string = subst Gains (take-length (missing_at dom l string m)) (gains_some l string (length (missing_at dom l string m)))
+  -- the first names that any question misses, and all of them
+  gains_first : (question : Question) (n : ℕ) → Gains (take n (missing_asked dom question m))
+  gains_first (what.State l string) n = gains_some l string n
+  gains_first (what.Why l string) n = gains_some l string n
+  gains_first what.Report n = report_keeps dom m.engine (routines_of m.program) checked m.kept has.cells (inputs_named dom) n
+  gains_first (what.Faults only) n = places_keep dom m.engine (routines_of m.program) checked m.kept has.cells (inputs_named dom) (fault_places (routines_of m.program)) n
 
-  gains_report : Gains (missing_for_report dom m)
-  gains_report =
-      let xs = missing_for_report dom m in
-      subst Gains (take-length xs) (report_keeps dom m.engine (routines_of m.program) checked m.kept has.cells (inputs_named dom) (length xs))
-
-  gains_faults : Gains (missing_for_faults dom m)
-  gains_faults =
-      let xs = missing_for_faults dom m in
-      subst Gains (take-length xs) (places_keep dom m.engine (routines_of m.program) checked m.kept has.cells (inputs_named dom) (fault_places (routines_of m.program)) (length xs))
+  gains_all : (question : Question) → Gains (missing_asked dom question m)
+  gains_all question = let xs = missing_asked dom question m in subst Gains (take-length xs) (gains_first question (length xs))
 
   -- ---- turns
 
@@ -98,23 +98,23 @@ module _ {S : Type 0} (dom : Operations S) (m : Machine) (has : HasCells dom m) 
 
   state_cells : (query : Query) (a : Answer S) → Leaves (state_by dom query a m)
   state_cells query (Refuses why) = has.cells
-  state_cells query (Answers v) = gains_all query.at query.string
+  state_cells query (Answers v) = gains_all (what.State query.at query.string)
 
   why_cells : (query : Query) (a : Answer S) → Leaves (why_by dom query a m)
   why_cells query (Refuses why) = has.cells
-  why_cells query (Answers v) = gains_all query.at query.string
+  why_cells query (Answers v) = gains_all (what.Why query.at query.string)
 
-  ask_cells : (query : Query) (a : Answer S) → Leaves (ask_by dom query a m)
-  ask_cells query (Refuses why) = has.cells
-  ask_cells query (Answers v) = has.cells
+  begin_cells : (question : Question) (why : Option QueryRefusal) → Leaves (begin_by dom question why m)
+  begin_cells question (Some why) = has.cells
+  begin_cells question None = has.cells
 
-  step_by_cells : (t : Ticket) (n : ℕ) (a : Answer S) → Leaves (step_by dom t n a m)
-  step_by_cells t n (Refuses why) = has.cells
-  step_by_cells t n (Answers v) = either_cells (nat_lt n (length (missing_at dom t.at t.string m))) _ _ (gains_some t.at t.string n) (gains_all t.at t.string)
+  step_by_cells : (t : Ticket) (n : ℕ) (why : Option QueryRefusal) → Leaves (step_by dom t n why m)
+  step_by_cells t n (Some why) = has.cells
+  step_by_cells t n None = either_cells (nat_lt n (length (missing_asked dom t.question m))) _ _ (gains_first t.question n) (gains_all t.question)
 
   step_cells : (n : ℕ) (t : Option Ticket) → Leaves (step_of dom n t m)
   step_cells n None = has.cells
-  step_cells n (Some t) = step_by_cells t n (answer_at dom t.at t.string m)
+  step_cells n (Some t) = step_by_cells t n (refusal_asked dom t.question m)
 
   -- another program, which is checked
   moved_cells : (program : List Procedure) (past future : List (List Procedure)) (next : ℕ) → IsChecked (routines_of program) → KeepsCells dom (with_program dom program past future next m)
@@ -141,8 +141,8 @@ module _ {S : Type 0} (dom : Operations S) (m : Machine) (has : HasCells dom m) 
   request_cells : (readings : Readings) (request : Request) → LeavesFine (request_turn readings dom request m) → Leaves (request_turn readings dom request m)
   unfolding request_turn
   request_cells readings (q.State query) fine = state_cells query (answer_at dom query.at query.string m)
-  request_cells readings q.Report fine = gains_report
-  request_cells readings (q.Faults only) fine = gains_faults
+  request_cells readings q.Report fine = gains_all what.Report
+  request_cells readings (q.Faults only) fine = gains_all (what.Faults only)
   request_cells readings q.Cost fine = has.cells
   request_cells readings q.Program fine = has.cells
   request_cells readings q.Listing fine = has.cells
@@ -157,9 +157,10 @@ module _ {S : Type 0} (dom : Operations S) (m : Machine) (has : HasCells dom m) 
   request_cells readings (q.Why query) fine = why_cells query (answer_at dom query.at query.string m)
   request_cells readings q.Undo fine = back_cells m.past refusal.NothingToUndo fine
   request_cells readings q.Redo fine = on_cells m.future refusal.NothingToRedo fine
-  request_cells readings (q.Ask query) fine =
-      either_cells (nat_lt 2 (length query.string)) _ _ has.cells (
-      either_cells (nat_le 16 (length m.tickets)) _ _ has.cells (ask_cells query (answer_at dom query.at query.string m)))
+  request_cells readings (q.Begin task) fine =
+      let question = question_of task in
+      either_cells (nat_lt 2 (length (string_of question))) _ _ has.cells (
+      either_cells (nat_le 16 (length m.tickets)) _ _ has.cells (begin_cells question (refusal_asked dom question m)))
   request_cells readings (q.Step ticket n) fine = step_cells n (ticket_of ticket m.tickets)
   request_cells readings (q.Cancel ticket) fine = cancel_cells (ticket_of ticket m.tickets)
 

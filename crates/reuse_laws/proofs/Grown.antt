@@ -2,6 +2,7 @@
 use Rattle.std.proofs.Common.{◌≡◌, ◌∙◌, ℕ, nat_le, nat_lt, Bool, true, false, List, [], ◌∷◌, ◌++◌, length, Option, Some, None, Result, Ok, Err, if◌then◌else◌, refl}
 use Rattle.std.proofs.lemmas.Bool.{or_left}
 use Rattle.std.proofs.lemmas.List.Elements.{All-head, All-tail}
+use Rattle.imp_words.specs.declared.refusal.QueryRefusal.{QueryRefusal}
 use Rattle.domain_laws.specs.Operations.{Operations}
 use Rattle.batch_meaning.specs.Answers.{Answer, Refuses, Answers}
 use Rattle.cell_names.specs.Paths.{CellName}
@@ -11,14 +12,15 @@ use Rattle.cell_graph.specs.Same.{same_name}
 use Rattle.serve_script.specs.Lines.{kept}
 use Rattle.serve_script.specs.Replies.{machine_after, next_to}
 use Rattle.daig_machine.specs.Machine.{Machine, Ticket, keeping, ticket_of, with_tickets}
-use Rattle.daig_machine.specs.Turns.{answer_at, missing_at}
+use Rattle.daig_machine.specs.Turns.{answer_at, missing_asked, refusal_asked, string_of}
+use Rattle.daig_machine.specs.declared.question.Question.{Question}
 use Rattle.request_json.specs.declared.error.ReadError.{ReadError}
 use Rattle.request_json.specs.declared.request.Query.{Query}
 use Rattle.request_json.specs.declared.request.Request.{Request}
 use Rattle.request_json.specs.declared.request.Request.TheVariants as q
 use Rattle.request_json.specs.Requests.{request_of}
 use Rattle.serve_answers.specs.Readings.{Readings}
-use Rattle.serve_answers.specs.Turns.{Outcome, cancel_by, state_by, why_by, ask_by, step_by, step_of}
+use Rattle.serve_answers.specs.Turns.{Outcome, cancel_by, state_by, why_by, begin_by, question_of, step_by, step_of}
 use Rattle.serve_answers.specs.Lines.{Served, request_turn, read_turn, server}
 use Rattle.serve_answers.specs.Histories.{AreQuiet, IsQuiet, IsQuietKept, IsQuietRead}
 use Rattle.reuse_laws.specs.Shorter.{KeepsMore}
@@ -60,17 +62,17 @@ module _ {S : Type 0} (dom : Operations S) (m : Machine) where
   why_grows query (Refuses why) = more_itself m
   why_grows query (Answers v) = more_names _ _
 
-  ask_grows : (query : Query) (a : Answer S) → GrowsIn (ask_by dom query a m)
-  ask_grows query (Refuses why) = more_itself m
-  ask_grows query (Answers v) = same_names _ _
+  begin_grows : (question : Question) (refusal : Option QueryRefusal) → GrowsIn (begin_by dom question refusal m)
+  begin_grows question (Some why) = more_itself m
+  begin_grows question None = same_names _ _
 
-  step_by_grows : (t : Ticket) (n : ℕ) (a : Answer S) → GrowsIn (step_by dom t n a m)
-  step_by_grows t n (Refuses why) = same_names _ _
-  step_by_grows t n (Answers v) = either_grows (nat_lt n (length (missing_at dom t.at t.string m))) _ _ (more_names _ _) (more_and_closed _ _ _)
+  step_by_grows : (t : Ticket) (n : ℕ) (refusal : Option QueryRefusal) → GrowsIn (step_by dom t n refusal m)
+  step_by_grows t n (Some why) = same_names _ _
+  step_by_grows t n None = either_grows (nat_lt n (length (missing_asked dom t.question m))) _ _ (more_names _ _) (more_and_closed _ _ _)
 
   step_grows : (n : ℕ) (t : Option Ticket) → GrowsIn (step_of dom n t m)
   step_grows n None = more_itself m
-  step_grows n (Some t) = step_by_grows t n (answer_at dom t.at t.string m)
+  step_grows n (Some t) = step_by_grows t n (refusal_asked dom t.question m)
 
   request_grows : (readings : Readings) (request : Request) → IsQuiet request → GrowsIn (request_turn readings dom request m)
   unfolding request_turn
@@ -91,9 +93,10 @@ module _ {S : Type 0} (dom : Operations S) (m : Machine) where
   request_grows readings (q.Why query) quiet = why_grows query (answer_at dom query.at query.string m)
   request_grows readings q.Undo quiet = absurd quiet
   request_grows readings q.Redo quiet = absurd quiet
-  request_grows readings (q.Ask query) quiet =
-      either_grows (nat_lt 2 (length query.string)) _ _ (more_itself m) (
-      either_grows (nat_le 16 (length m.tickets)) _ _ (more_itself m) (ask_grows query (answer_at dom query.at query.string m)))
+  request_grows readings (q.Begin task) quiet =
+      let question = question_of task in
+      either_grows (nat_lt 2 (length (string_of question))) _ _ (more_itself m) (
+      either_grows (nat_le 16 (length m.tickets)) _ _ (more_itself m) (begin_grows question (refusal_asked dom question m)))
   request_grows readings (q.Step ticket n) quiet = step_grows n (ticket_of ticket m.tickets)
   request_grows readings (q.Cancel ticket) quiet = cancel_grows (ticket_of ticket m.tickets)
 

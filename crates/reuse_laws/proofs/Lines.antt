@@ -2,6 +2,7 @@
 use Rattle.std.proofs.Common.{◌≡◌, ◌∙◌, ◌≤◌, ◌-◌, ℕ, min, nat_lt, Bool, true, false, List, ◌++◌, length, take, Option, Some, None, Result, Ok, if◌then◌else◌, refl, sym, ap, subst, arith, length-append}
 use Rattle.std.proofs.lemmas.Bool.{ltb-true, ltb-false}
 use Rattle.std.proofs.lemmas.List.{length-take}
+use Rattle.imp_words.specs.declared.refusal.QueryRefusal.{QueryRefusal}
 use Rattle.domain_laws.specs.Operations.{Operations}
 use Rattle.batch_meaning.specs.Values.{Value, State, Over}
 use Rattle.batch_meaning.specs.Answers.{Answer, Refuses, Answers}
@@ -10,15 +11,17 @@ use Rattle.cell_names.specs.Paths.{CellName}
 use Rattle.serve_script.specs.Lines.{kept}
 use Rattle.serve_script.specs.Replies.{machine_after, next_to}
 use Rattle.daig_machine.specs.Machine.{Machine, Ticket, ticket_of}
-use Rattle.daig_machine.specs.Turns.{answer_at, after_last_step, missing_at, after_step}
+use Rattle.daig_machine.specs.Turns.{answer_at, after_last_step, missing_asked, missing_at, after_step, refusal_asked, refusal_in}
+use Rattle.daig_machine.specs.declared.question.Question.{Question}
+use Rattle.daig_machine.specs.declared.question.Question.TheVariants as what
 use Rattle.request_json.specs.declared.error.ReadError.{ReadError}
 use Rattle.request_json.specs.declared.request.Query.{Query}
 use Rattle.request_json.specs.declared.request.Request.{Request}
 use Rattle.request_json.specs.declared.request.Request.TheVariants as q
 use Rattle.request_json.specs.declared.reply.Reply.TheVariants as r
-use Rattle.request_json.specs.Requests.{request_of}
+use Rattle.request_json.specs.Requests.{query_of, request_of}
 use Rattle.serve_answers.specs.Readings.{Readings}
-use Rattle.serve_answers.specs.Turns.{Outcome, goes, state_reply, state_by, why_by, step_by, step_of}
+use Rattle.serve_answers.specs.Turns.{Outcome, goes, state_reply, state_by, why_by, step_by, step_of, whole_turn}
 use Rattle.serve_answers.specs.Lines.{Served, request_turn, read_turn, server}
 use Rattle.serve_answers.specs.Fine.{opening}
 use Rattle.serve_answers.specs.Histories.{Asks, AnswerAlike, IsKeptAs}
@@ -90,51 +93,80 @@ module _ {S : Type 0} (dom : Operations S) (m n : Machine) (less : IsShorter dom
       subst (λ (a : Answer S). gain n (why_by dom query a n) ≤ gain m (why_by dom query (answer_at dom query.at query.string m) m)) (same query.at query.string) (why_less query (answer_at dom query.at query.string m))
   request_less first second q.Undo is = absurd is
   request_less first second q.Redo is = absurd is
-  request_less first second (q.Ask query) is = absurd is
+  request_less first second (q.Begin task) is = absurd is
   request_less first second (q.Step ticket count) is = absurd is
   request_less first second (q.Cancel ticket) is = absurd is
 
   -- ---- steps
 
-  step_by_less : (t : Ticket) (count : ℕ) (a : Answer S) → gain n (step_by dom t count a n) ≤ gain m (step_by dom t count a m)
-  step_by_less t count (Refuses why) = no_gain (length n.kept) _
-  step_by_less t count (Answers v) =
-      let few = missing_at dom t.at t.string n in
-      let all = missing_at dom t.at t.string m in
-      let first = step_gain n.kept few count (nat_lt count (length few)) (goes (r.Pending count) (after_step dom t count n)) (goes (state_reply dom t.at v n) (after_last_step dom t n)) refl refl refl in
-      let second = step_gain m.kept all count (nat_lt count (length all)) (goes (r.Pending count) (after_step dom t count m)) (goes (state_reply dom t.at v m) (after_last_step dom t m)) refl refl refl in
-      subst (λ (x : ℕ). x ≤ gain m (step_by dom t count (Answers v) m)) (sym first) (
-      subst (λ (x : ℕ). min count (length few) ≤ x) (sym second) (least_less count (length few) (length all) (less.question t.at t.string).most))
+  -- Any question misses no more, and is refused alike.
+  asked_less : (question : Question) → length (missing_asked dom question n) ≤ length (missing_asked dom question m)
+  asked_less (what.State l string) = (less.question l string).most
+  asked_less (what.Why l string) = (less.question l string).most
+  asked_less what.Report = less.report.most
+  asked_less (what.Faults only) = less.faults.most
+
+  refused_alike : (question : Question) → refusal_asked dom question m ≡ refusal_asked dom question n
+  refused_alike (what.State l string) = ap refusal_in (same l string)
+  refused_alike (what.Why l string) = ap refusal_in (same l string)
+  refused_alike what.Report = refl
+  refused_alike (what.Faults only) = refl
+
+  step_by_less : (t : Ticket) (count : ℕ) (why : Option QueryRefusal) → gain n (step_by dom t count why n) ≤ gain m (step_by dom t count why m)
+  step_by_less t count (Some why) = no_gain (length n.kept) _
+  step_by_less t count None =
+      let few = missing_asked dom t.question n in
+      let all = missing_asked dom t.question m in
+      let first = step_gain n.kept few count (nat_lt count (length few)) (goes (r.Pending count) (after_step dom t count n)) (goes (whole_turn dom t.question n).reply (after_last_step dom t n)) refl refl refl in
+      let second = step_gain m.kept all count (nat_lt count (length all)) (goes (r.Pending count) (after_step dom t count m)) (goes (whole_turn dom t.question m).reply (after_last_step dom t m)) refl refl refl in
+      subst (λ (x : ℕ). x ≤ gain m (step_by dom t count None m)) (sym first) (
+      subst (λ (x : ℕ). min count (length few) ≤ x) (sym second) (least_less count (length few) (length all) (asked_less t.question)))
 
   step_less : (count : ℕ) (t : Option Ticket) → gain n (step_of dom count t n) ≤ gain m (step_of dom count t m)
   step_less count None = no_gain (length n.kept) _
   step_less count (Some t) =
-      subst (λ (a : Answer S). gain n (step_by dom t count a n) ≤ gain m (step_by dom t count (answer_at dom t.at t.string m) m)) (same t.at t.string) (step_by_less t count (answer_at dom t.at t.string m))
+      subst (λ (why : Option QueryRefusal). gain n (step_by dom t count why n) ≤ gain m (step_by dom t count (refusal_asked dom t.question m) m)) (refused_alike t.question) (
+      step_by_less t count (refusal_asked dom t.question m))
 
-  -- an answer is not pending
+  -- a whole request is not pending
   told_now : (l : Location) (v : Value S) (count : ℕ) → state_reply dom l v n ≡ r.Pending count → ⊥
   told_now l (State s) count is = cc
   told_now l (Over head chain) count is = cc
 
-  either_pending : (t : Ticket) (count told_count : ℕ) (v : Value S) (few all : ℕ) (b c : Bool) → few ≤ all → nat_lt count few ≡ b → nat_lt count all ≡ c →
-      (if b then goes (r.Pending count) (after_step dom t count n) else goes (state_reply dom t.at v n) (after_last_step dom t n)).reply ≡ r.Pending told_count →
-      (if c then goes (r.Pending count) (after_step dom t count m) else goes (state_reply dom t.at v m) (after_last_step dom t m)).reply ≡ r.Pending told_count
-  either_pending t count told_count v few all true true most is_few is_all pending = pending
-  either_pending t count told_count v few all true false most is_few is_all pending =
-      let more = ltb-true count few is_few in let no_more = ltb-false count all is_all in absurd (omega arith)
-  either_pending t count told_count v few all false c most is_few is_all pending = absurd (told_now t.at v told_count pending)
+  state_now : (query : Query) (a : Answer S) (count : ℕ) → (state_by dom query a n).reply ≡ r.Pending count → ⊥
+  state_now query (Refuses why) count is = cc
+  state_now query (Answers v) count is = told_now query.at v count is
 
-  step_by_pending : (t : Ticket) (count told_count : ℕ) (a : Answer S) → (step_by dom t count a n).reply ≡ r.Pending told_count → (step_by dom t count a m).reply ≡ r.Pending told_count
-  step_by_pending t count told_count (Refuses why) pending = absurd cc
-  step_by_pending t count told_count (Answers v) pending =
-      let few = length (missing_at dom t.at t.string n) in
-      let all = length (missing_at dom t.at t.string m) in
-      either_pending t count told_count v few all (nat_lt count few) (nat_lt count all) (less.question t.at t.string).most refl refl pending
+  why_now : (query : Query) (a : Answer S) (count : ℕ) → (why_by dom query a n).reply ≡ r.Pending count → ⊥
+  why_now query (Refuses why) count is = cc
+  why_now query (Answers v) count is = cc
+
+  whole_now : (question : Question) (count : ℕ) → (whole_turn dom question n).reply ≡ r.Pending count → ⊥
+  whole_now (what.State l string) count is = state_now (query_of l string) (answer_at dom l string n) count is
+  whole_now (what.Why l string) count is = why_now (query_of l string) (answer_at dom l string n) count is
+  whole_now what.Report count is = cc
+  whole_now (what.Faults only) count is = cc
+
+  either_pending : (t : Ticket) (count told_count : ℕ) (few all : ℕ) (b c : Bool) → few ≤ all → nat_lt count few ≡ b → nat_lt count all ≡ c →
+      (if b then goes (r.Pending count) (after_step dom t count n) else goes (whole_turn dom t.question n).reply (after_last_step dom t n)).reply ≡ r.Pending told_count →
+      (if c then goes (r.Pending count) (after_step dom t count m) else goes (whole_turn dom t.question m).reply (after_last_step dom t m)).reply ≡ r.Pending told_count
+  either_pending t count told_count few all true true most is_few is_all pending = pending
+  either_pending t count told_count few all true false most is_few is_all pending =
+      let more = ltb-true count few is_few in let no_more = ltb-false count all is_all in absurd (omega arith)
+  either_pending t count told_count few all false c most is_few is_all pending = absurd (whole_now t.question told_count pending)
+
+  step_by_pending : (t : Ticket) (count told_count : ℕ) (why : Option QueryRefusal) → (step_by dom t count why n).reply ≡ r.Pending told_count → (step_by dom t count why m).reply ≡ r.Pending told_count
+  step_by_pending t count told_count (Some why) pending = absurd cc
+  step_by_pending t count told_count None pending =
+      let few = length (missing_asked dom t.question n) in
+      let all = length (missing_asked dom t.question m) in
+      either_pending t count told_count few all (nat_lt count few) (nat_lt count all) (asked_less t.question) refl refl pending
 
   step_pending : (count told_count : ℕ) (t : Option Ticket) → (step_of dom count t n).reply ≡ r.Pending told_count → (step_of dom count t m).reply ≡ r.Pending told_count
   step_pending count told_count None pending = absurd cc
   step_pending count told_count (Some t) pending =
-      step_by_pending t count told_count (answer_at dom t.at t.string m) (subst (λ (a : Answer S). (step_by dom t count a n).reply ≡ r.Pending told_count) (sym (same t.at t.string)) pending)
+      step_by_pending t count told_count (refusal_asked dom t.question m) (
+      subst (λ (why : Option QueryRefusal). (step_by dom t count why n).reply ≡ r.Pending told_count) (sym (refused_alike t.question)) pending)
 
 -- ---- lines
 

@@ -2,6 +2,7 @@
 use Rattle.std.proofs.Common.{◌≡◌, ℕ, nat_le, nat_lt, Bool, true, false, List, [], ◌∷◌, length, Option, Some, None, Result, Ok, Err, if◌then◌else◌, refl, sym}
 use Rattle.imp_syntax.specs.Plain.{Procedure}
 use Rattle.imp_syntax.specs.declared.edit.Edit.{Edit}
+use Rattle.imp_words.specs.declared.refusal.QueryRefusal.{QueryRefusal}
 use Rattle.domain_laws.specs.Operations.{Operations}
 use Rattle.batch_meaning.specs.Answers.{Answer, Refuses, Answers}
 use Rattle.imp_edit.specs.Refusals.{edit_refusal}
@@ -9,7 +10,8 @@ use Rattle.imp_edit.specs.declared.error.EditError.{EditError}
 use Rattle.serve_script.specs.Lines.{kept}
 use Rattle.serve_script.specs.Replies.{machine_after, next_to}
 use Rattle.daig_machine.specs.Machine.{Machine, Ticket, ticket_of, without_ticket}
-use Rattle.daig_machine.specs.Turns.{answer_at, missing_at, redone, undone}
+use Rattle.daig_machine.specs.Turns.{answer_at, missing_asked, redone, refusal_asked, string_of, undone}
+use Rattle.daig_machine.specs.declared.question.Question.{Question}
 use Rattle.request_json.specs.declared.error.ReadError.{ReadError}
 use Rattle.request_json.specs.declared.request.Query.{Query}
 use Rattle.request_json.specs.declared.request.Request.{Request}
@@ -19,7 +21,7 @@ use Rattle.request_json.specs.declared.reply.Refusal.TheVariants as refusal
 use Rattle.request_json.specs.Requests.{request_of}
 use Rattle.serve_answers.specs.Readings.{Readings}
 use Rattle.serve_answers.specs.Edits.{replace_of, insert_of, delete_of, guard_of, declare_of, add_of, drop_of}
-use Rattle.serve_answers.specs.Turns.{Outcome, cancel_by, move_turn, state_by, why_by, ask_by, step_by, step_of, edit_by, edit_turn}
+use Rattle.serve_answers.specs.Turns.{Outcome, cancel_by, move_turn, state_by, why_by, begin_by, question_of, step_by, step_of, edit_by, edit_turn}
 use Rattle.serve_answers.specs.Lines.{Served, request_turn, read_turn, server}
 use Rattle.serve_answers.specs.Fine.{HasFinePrograms, LinesKeepFine}
 use Rattle.serve_answers.proofs.Carried.{IsNext, Carries, replace_carries, insert_carries, add_carries, guard_carries, delete_carries, declare_carries, drop_carries}
@@ -48,18 +50,18 @@ why_fine : {S : Type 0} (dom : Operations S) (query : Query) (a : Answer S) (m :
 why_fine dom query (Refuses why) m h = h
 why_fine dom query (Answers v) m h = keeping_fine _ _ m h
 
-ask_by_fine : {S : Type 0} (dom : Operations S) (query : Query) (a : Answer S) (m : Machine) → HasFinePrograms m → LeavesFine (ask_by dom query a m)
-ask_by_fine dom query (Refuses why) m h = h
-ask_by_fine dom query (Answers v) m h = ticketed_fine _ _ m h
+begin_by_fine : {S : Type 0} (dom : Operations S) (question : Question) (refusal_is : Option QueryRefusal) (m : Machine) → HasFinePrograms m → LeavesFine (begin_by dom question refusal_is m)
+begin_by_fine dom question (Some why) m h = h
+begin_by_fine dom question None m h = ticketed_fine _ _ m h
 
-step_by_fine : {S : Type 0} (dom : Operations S) (t : Ticket) (n : ℕ) (a : Answer S) (m : Machine) → HasFinePrograms m → LeavesFine (step_by dom t n a m)
-step_by_fine dom t n (Refuses why) m h = ticketed_fine _ _ m h
-step_by_fine dom t n (Answers v) m h =
-    either_fine (nat_lt n (length (missing_at dom t.at t.string m))) _ _ (keeping_fine _ _ m h) (ticketed_fine _ _ _ (keeping_fine _ _ m h))
+step_by_fine : {S : Type 0} (dom : Operations S) (t : Ticket) (n : ℕ) (refusal_is : Option QueryRefusal) (m : Machine) → HasFinePrograms m → LeavesFine (step_by dom t n refusal_is m)
+step_by_fine dom t n (Some why) m h = ticketed_fine _ _ m h
+step_by_fine dom t n None m h =
+    either_fine (nat_lt n (length (missing_asked dom t.question m))) _ _ (keeping_fine _ _ m h) (ticketed_fine _ _ _ (keeping_fine _ _ m h))
 
 step_fine : {S : Type 0} (dom : Operations S) (n : ℕ) (t : Option Ticket) (m : Machine) → HasFinePrograms m → LeavesFine (step_of dom n t m)
 step_fine dom n None m h = h
-step_fine dom n (Some t) m h = step_by_fine dom t n (answer_at dom t.at t.string m) m h
+step_fine dom n (Some t) m h = step_by_fine dom t n (refusal_asked dom t.question m) m h
 
 edit_by_fine : {S : Type 0} (dom : Operations S) (e : Edit) (error : Option EditError) (m : Machine) → error ≡ edit_refusal e m.program m.next → IsNext m.next e → HasFinePrograms m → LeavesFine (edit_by dom e error m)
 edit_by_fine dom e None m is next h = committed_fine dom e m next (sym is) h
@@ -88,8 +90,9 @@ request_fine readings dom (q.Drop proc) m h = edit_fine dom (drop_of proc) m (dr
 request_fine readings dom (q.Why query) m h = why_fine dom query (answer_at dom query.at query.string m) m h
 request_fine readings dom q.Undo m h = move_fine m.past refusal.NothingToUndo (undone dom m) m (back_fine dom m.past m h.past h) h
 request_fine readings dom q.Redo m h = move_fine m.future refusal.NothingToRedo (redone dom m) m (on_fine dom m.future m h.future h) h
-request_fine readings dom (q.Ask query) m h =
-    either_fine (nat_lt 2 (length query.string)) _ _ h (either_fine (nat_le 16 (length m.tickets)) _ _ h (ask_by_fine dom query (answer_at dom query.at query.string m) m h))
+request_fine readings dom (q.Begin task) m h =
+    let question = question_of task in
+    either_fine (nat_lt 2 (length (string_of question))) _ _ h (either_fine (nat_le 16 (length m.tickets)) _ _ h (begin_by_fine dom question (refusal_asked dom question m) m h))
 request_fine readings dom (q.Step ticket n) m h = step_fine dom n (ticket_of ticket m.tickets) m h
 request_fine readings dom (q.Cancel ticket) m h = cancel_fine (ticket_of ticket m.tickets) m h
 

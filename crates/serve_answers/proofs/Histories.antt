@@ -89,7 +89,7 @@ module _ {S : Type 0} (dom : Operations S) where
   is_from readings m (q.Why query) is = why_from query m (answer_at dom query.at query.string m)
   is_from readings m q.Undo is = absurd is
   is_from readings m q.Redo is = absurd is
-  is_from readings m (q.Ask query) is = absurd is
+  is_from readings m (q.Begin task) is = absurd is
   is_from readings m (q.Step ticket n) is = absurd is
   is_from readings m (q.Cancel ticket) is = absurd is
 

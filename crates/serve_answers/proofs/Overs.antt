@@ -5,6 +5,7 @@ use Rattle.imp_syntax.specs.declared.edit.Edit.{Edit}
 use Rattle.imp_syntax.specs.declared.edit.Location.{Location}
 use Rattle.imp_slots.specs.Plain.{Routine}
 use Rattle.imp_check.specs.Slots.{routines_of}
+use Rattle.imp_words.specs.declared.refusal.QueryRefusal.{QueryRefusal}
 use Rattle.imp_words.specs.declared.refusal.QueryRefusal.TheVariants.{LongString}
 use Rattle.domain_laws.specs.Operations.{Operations}
 use Rattle.batch_meaning.specs.Values.{Value, State, Over}
@@ -12,7 +13,9 @@ use Rattle.batch_meaning.specs.Answers.{Answer, Refuses, Answers, Found, In, Mis
 use Rattle.imp_edit.specs.Refusals.{edit_refusal}
 use Rattle.imp_edit.specs.declared.error.EditError.{EditError}
 use Rattle.daig_machine.specs.Machine.{Machine, Ticket, ticket_of}
-use Rattle.daig_machine.specs.Turns.{answer_at, missing_at, redone, undone}
+use Rattle.daig_machine.specs.Turns.{answer_at, missing_asked, redone, refusal_asked, string_of, undone}
+use Rattle.daig_machine.specs.declared.question.Question.{Question}
+use Rattle.daig_machine.specs.declared.question.Question.TheVariants as what
 use Rattle.request_json.specs.declared.error.ReadError.{ReadError}
 use Rattle.request_json.specs.declared.request.Query.{Query}
 use Rattle.request_json.specs.declared.request.Request.{Request}
@@ -21,12 +24,12 @@ use Rattle.request_json.specs.declared.reply.Reply.{Reply}
 use Rattle.request_json.specs.declared.reply.Reply.TheVariants as r
 use Rattle.request_json.specs.declared.reply.Refusal.{Refusal}
 use Rattle.request_json.specs.declared.reply.Refusal.TheVariants as refusal
-use Rattle.request_json.specs.Requests.{request_of}
+use Rattle.request_json.specs.Requests.{query_of, request_of}
 use Rattle.serve_replies.specs.Runs.{asked_run, found_run, run_reply}
 use Rattle.serve_replies.specs.Texts.{program_reply}
 use Rattle.serve_answers.specs.Readings.{Readings}
 use Rattle.serve_answers.specs.Edits.{replace_of, insert_of, delete_of, guard_of, declare_of, add_of, drop_of}
-use Rattle.serve_answers.specs.Turns.{Outcome, state_reply, cancel_by, move_turn, state_by, why_by, ask_by, step_by, step_of, edit_by, edit_turn}
+use Rattle.serve_answers.specs.Turns.{Outcome, state_reply, cancel_by, move_turn, state_by, why_by, begin_by, question_of, step_by, step_of, edit_by, edit_turn, whole_turn}
 use Rattle.serve_answers.specs.Lines.{line_turn, request_turn, read_turn}
 use Rattle.serve_answers.specs.Overs.{HasOver, OversAreAnswers}
 
@@ -60,9 +63,9 @@ module _ {S : Type 0} (dom : Operations S) (m : Machine) where
   move_told [] otherwise there = tt
   move_told (p ∷ ps) otherwise there = tt
 
-  ask_by_told : (query : Query) (a : Answer S) → Told (ask_by dom query a m).reply
-  ask_by_told query (Refuses why) = tt
-  ask_by_told query (Answers v) = tt
+  begin_by_told : (question : Question) (refusal_is : Option QueryRefusal) → Told (begin_by dom question refusal_is m).reply
+  begin_by_told question (Some why) = tt
+  begin_by_told question None = tt
 
   either_told : (b : Bool) (one other : Outcome) → Told one.reply → Told other.reply → Told (if b then one else other).reply
   either_told true one other first second = first
@@ -88,13 +91,19 @@ module _ {S : Type 0} (dom : Operations S) (m : Machine) where
   why_told query (Refuses why) = tt
   why_told query (Answers v) = tt
 
-  step_by_told : (t : Ticket) (n : ℕ) (a : Answer S) → answer_at dom t.at t.string m ≡ a → Told (step_by dom t n a m).reply
-  step_by_told t n (Refuses why) is = tt
-  step_by_told t n (Answers v) is = either_told (nat_lt n (length (missing_at dom t.at t.string m))) _ _ tt (value_told t.at t.string v is)
+  whole_told : (question : Question) → Told (whole_turn dom question m).reply
+  whole_told (what.State l string) = state_told (query_of l string) (answer_at dom l string m) refl
+  whole_told (what.Why l string) = why_told (query_of l string) (answer_at dom l string m)
+  whole_told what.Report = tt
+  whole_told (what.Faults only) = tt
+
+  step_by_told : (t : Ticket) (n : ℕ) (refusal_is : Option QueryRefusal) → Told (step_by dom t n refusal_is m).reply
+  step_by_told t n (Some why) = tt
+  step_by_told t n None = either_told (nat_lt n (length (missing_asked dom t.question m))) _ _ tt (whole_told t.question)
 
   step_told : (n : ℕ) (t : Option Ticket) → Told (step_of dom n t m).reply
   step_told n None = tt
-  step_told n (Some t) = step_by_told t n (answer_at dom t.at t.string m) refl
+  step_told n (Some t) = step_by_told t n (refusal_asked dom t.question m)
 
   request_told : (readings : Readings) (request : Request) → Told (request_turn readings dom request m).reply
   unfolding request_turn
@@ -115,8 +124,9 @@ module _ {S : Type 0} (dom : Operations S) (m : Machine) where
   request_told readings (q.Why query) = why_told query (answer_at dom query.at query.string m)
   request_told readings q.Undo = move_told m.past refusal.NothingToUndo (undone dom m)
   request_told readings q.Redo = move_told m.future refusal.NothingToRedo (redone dom m)
-  request_told readings (q.Ask query) =
-      either_told (nat_lt 2 (length query.string)) _ _ tt (either_told (nat_le 16 (length m.tickets)) _ _ tt (ask_by_told query (answer_at dom query.at query.string m)))
+  request_told readings (q.Begin task) =
+      let question = question_of task in
+      either_told (nat_lt 2 (length (string_of question))) _ _ tt (either_told (nat_le 16 (length m.tickets)) _ _ tt (begin_by_told question (refusal_asked dom question m)))
   request_told readings (q.Step ticket n) = step_told n (ticket_of ticket m.tickets)
   request_told readings (q.Cancel ticket) = cancel_told (ticket_of ticket m.tickets)
 

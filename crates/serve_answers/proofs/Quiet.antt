@@ -2,6 +2,7 @@
 use Rattle.std.proofs.Common.{◌≡◌, ◌∙◌, ℕ, nat_le, nat_lt, Bool, true, false, List, [], ◌∷◌, length, take, Option, Some, None, Result, Ok, Err, if◌then◌else◌, refl}
 use Rattle.imp_syntax.specs.Plain.{Procedure}
 use Rattle.imp_syntax.specs.declared.edit.Edit.{Edit}
+use Rattle.imp_words.specs.declared.refusal.QueryRefusal.{QueryRefusal}
 use Rattle.imp_words.specs.declared.refusal.QueryRefusal.TheVariants.{LongString}
 use Rattle.domain_laws.specs.Operations.{Operations}
 use Rattle.batch_meaning.specs.Batch.{LoopOptions}
@@ -9,7 +10,8 @@ use Rattle.batch_meaning.specs.Answers.{Answer, Refuses, Answers}
 use Rattle.imp_edit.specs.Refusals.{edit_refusal}
 use Rattle.imp_edit.specs.declared.error.EditError.{EditError}
 use Rattle.daig_machine.specs.Machine.{Machine, Ticket, ticket_of}
-use Rattle.daig_machine.specs.Turns.{answer_at, missing_at, back_to, on_to}
+use Rattle.daig_machine.specs.Turns.{answer_at, missing_asked, refusal_asked, string_of, back_to, on_to}
+use Rattle.daig_machine.specs.declared.question.Question.{Question}
 use Rattle.request_json.specs.declared.error.ReadError.{ReadError}
 use Rattle.request_json.specs.declared.request.Query.{Query}
 use Rattle.request_json.specs.declared.request.Request.{Request}
@@ -19,7 +21,7 @@ use Rattle.request_json.specs.declared.reply.Refusal.{Refusal}
 use Rattle.request_json.specs.declared.reply.Refusal.TheVariants as refusal
 use Rattle.serve_answers.specs.Readings.{Readings}
 use Rattle.serve_answers.specs.Edits.{replace_of, insert_of, delete_of, guard_of, declare_of, add_of, drop_of}
-use Rattle.serve_answers.specs.Turns.{Outcome, cancel_by, move_turn, state_by, why_by, ask_by, step_by, step_of, edit_by, edit_turn}
+use Rattle.serve_answers.specs.Turns.{Outcome, cancel_by, move_turn, state_by, why_by, begin_by, question_of, step_by, step_of, edit_by, edit_turn}
 use Rattle.serve_answers.specs.Lines.{request_turn, read_turn}
 use Rattle.serve_answers.specs.Histories.{IsEdit, IsQuiet, IsQuietRead}
 
@@ -62,23 +64,23 @@ why_keeps : {S : Type 0} (dom : Operations S) (query : Query) (a : Answer S) (m 
 why_keeps dom query (Refuses w) m = keeps_all m
 why_keeps dom query (Answers v) m = record { program = refl; engine = refl; past = refl; future = refl }
 
-ask_by_keeps : {S : Type 0} (dom : Operations S) (query : Query) (a : Answer S) (m : Machine) → Keeps m (ask_by dom query a m)
-ask_by_keeps dom query (Refuses w) m = keeps_all m
-ask_by_keeps dom query (Answers v) m = record { program = refl; engine = refl; past = refl; future = refl }
+begin_by_keeps : {S : Type 0} (dom : Operations S) (question : Question) (refusal_is : Option QueryRefusal) (m : Machine) → Keeps m (begin_by dom question refusal_is m)
+begin_by_keeps dom question (Some w) m = keeps_all m
+begin_by_keeps dom question None m = record { program = refl; engine = refl; past = refl; future = refl }
 
 either_keeps : (b : Bool) (m : Machine) (one other : Outcome) → Keeps m one → Keeps m other → Keeps m (if b then one else other)
 either_keeps true m one other first second = first
 either_keeps false m one other first second = second
 
-step_by_keeps : {S : Type 0} (dom : Operations S) (t : Ticket) (n : ℕ) (a : Answer S) (m : Machine) → Keeps m (step_by dom t n a m)
-step_by_keeps dom t n (Refuses w) m = record { program = refl; engine = refl; past = refl; future = refl }
-step_by_keeps dom t n (Answers v) m =
-    either_keeps (nat_lt n (length (missing_at dom t.at t.string m))) m _ _
+step_by_keeps : {S : Type 0} (dom : Operations S) (t : Ticket) (n : ℕ) (refusal_is : Option QueryRefusal) (m : Machine) → Keeps m (step_by dom t n refusal_is m)
+step_by_keeps dom t n (Some w) m = record { program = refl; engine = refl; past = refl; future = refl }
+step_by_keeps dom t n None m =
+    either_keeps (nat_lt n (length (missing_asked dom t.question m))) m _ _
     (record { program = refl; engine = refl; past = refl; future = refl }) (record { program = refl; engine = refl; past = refl; future = refl })
 
 step_keeps : {S : Type 0} (dom : Operations S) (n : ℕ) (t : Option Ticket) (m : Machine) → Keeps m (step_of dom n t m)
 step_keeps dom n None m = keeps_all m
-step_keeps dom n (Some t) m = step_by_keeps dom t n (answer_at dom t.at t.string m) m
+step_keeps dom n (Some t) m = step_by_keeps dom t n (refusal_asked dom t.question m) m
 
 quiet_request : {S : Type 0} (readings : Readings) (dom : Operations S) (request : Request) (m : Machine) → IsQuiet request → Keeps m (request_turn readings dom request m)
 unfolding request_turn
@@ -99,9 +101,10 @@ quiet_request readings dom (q.Drop proc) m quiet = absurd quiet
 quiet_request readings dom (q.Why query) m quiet = why_keeps dom query (answer_at dom query.at query.string m) m
 quiet_request readings dom q.Undo m quiet = absurd quiet
 quiet_request readings dom q.Redo m quiet = absurd quiet
-quiet_request readings dom (q.Ask query) m quiet =
-    either_keeps (nat_lt 2 (length query.string)) m _ _ (keeps_all m) (
-    either_keeps (nat_le 16 (length m.tickets)) m _ _ (keeps_all m) (ask_by_keeps dom query (answer_at dom query.at query.string m) m))
+quiet_request readings dom (q.Begin task) m quiet =
+    let question = question_of task in
+    either_keeps (nat_lt 2 (length (string_of question))) m _ _ (keeps_all m) (
+    either_keeps (nat_le 16 (length m.tickets)) m _ _ (keeps_all m) (begin_by_keeps dom question (refusal_asked dom question m) m))
 quiet_request readings dom (q.Step ticket n) m quiet = step_keeps dom n (ticket_of ticket m.tickets) m
 quiet_request readings dom (q.Cancel ticket) m quiet = cancel_keeps (ticket_of ticket m.tickets) m
 
@@ -139,7 +142,7 @@ accepted_leads readings dom (q.Drop proc) m n is accepted = edit_leads dom (drop
 accepted_leads readings dom (q.Why query) m n is accepted = absurd is
 accepted_leads readings dom q.Undo m n is accepted = absurd is
 accepted_leads readings dom q.Redo m n is accepted = absurd is
-accepted_leads readings dom (q.Ask query) m n is accepted = absurd is
+accepted_leads readings dom (q.Begin task) m n is accepted = absurd is
 accepted_leads readings dom (q.Step ticket k) m n is accepted = absurd is
 accepted_leads readings dom (q.Cancel ticket) m n is accepted = absurd is
 

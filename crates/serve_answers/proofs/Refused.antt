@@ -3,6 +3,7 @@ use Rattle.std.proofs.Common.{◌≡◌, inl, inr, ℕ, nat_le, nat_lt, Bool, tr
 use Rattle.imp_syntax.specs.Plain.{Procedure}
 use Rattle.imp_syntax.specs.declared.edit.Edit.{Edit}
 use Rattle.imp_syntax.specs.declared.edit.Location.{Location}
+use Rattle.imp_words.specs.declared.refusal.QueryRefusal.{QueryRefusal}
 use Rattle.imp_words.specs.declared.refusal.QueryRefusal.TheVariants.{LongString}
 use Rattle.domain_laws.specs.Operations.{Operations}
 use Rattle.batch_meaning.specs.Values.{Value, State, Over}
@@ -10,7 +11,9 @@ use Rattle.batch_meaning.specs.Answers.{Answer, Refuses, Answers}
 use Rattle.imp_edit.specs.Refusals.{edit_refusal}
 use Rattle.imp_edit.specs.declared.error.EditError.{EditError}
 use Rattle.daig_machine.specs.Machine.{Machine, Ticket, ticket_of}
-use Rattle.daig_machine.specs.Turns.{answer_at, missing_at, redone, undone}
+use Rattle.daig_machine.specs.Turns.{answer_at, missing_asked, redone, refusal_asked, refusal_in, string_of, undone}
+use Rattle.daig_machine.specs.declared.question.Question.{Question}
+use Rattle.daig_machine.specs.declared.question.Question.TheVariants as what
 use Rattle.request_json.specs.declared.error.ReadError.{ReadError}
 use Rattle.request_json.specs.declared.request.Query.{Query}
 use Rattle.request_json.specs.declared.request.Request.{Request}
@@ -19,10 +22,10 @@ use Rattle.request_json.specs.declared.reply.Reply.{Reply}
 use Rattle.request_json.specs.declared.reply.Reply.TheVariants as r
 use Rattle.request_json.specs.declared.reply.Refusal.{Refusal}
 use Rattle.request_json.specs.declared.reply.Refusal.TheVariants as refusal
-use Rattle.request_json.specs.Requests.{request_of}
+use Rattle.request_json.specs.Requests.{query_of, request_of}
 use Rattle.serve_answers.specs.Readings.{Readings}
 use Rattle.serve_answers.specs.Edits.{replace_of, insert_of, delete_of, guard_of, declare_of, add_of, drop_of}
-use Rattle.serve_answers.specs.Turns.{Outcome, goes, state_reply, cancel_by, move_turn, state_by, why_by, ask_by, step_by, step_of, edit_by, edit_turn}
+use Rattle.serve_answers.specs.Turns.{Outcome, goes, state_reply, cancel_by, move_turn, state_by, why_by, begin_by, question_of, step_by, step_of, edit_by, edit_turn, whole_turn}
 use Rattle.serve_answers.specs.Lines.{request_turn, read_turn}
 use Rattle.serve_answers.specs.Claims.{IsSafe, RefusalsAreSafe}
 
@@ -50,9 +53,9 @@ why_safe : {S : Type 0} (dom : Operations S) (query : Query) (a : Answer S) (m :
 why_safe dom query (Refuses w) m = stays (r.Refused (refusal.Query w)) m
 why_safe dom query (Answers v) m = λ why is. cc
 
-ask_by_safe : {S : Type 0} (dom : Operations S) (query : Query) (a : Answer S) (m : Machine) → IsSafe (ask_by dom query a m) m
-ask_by_safe dom query (Refuses w) m = stays (r.Refused (refusal.Query w)) m
-ask_by_safe dom query (Answers v) m = λ why is. cc
+begin_by_safe : {S : Type 0} (dom : Operations S) (question : Question) (refusal_is : Option QueryRefusal) (m : Machine) → IsSafe (begin_by dom question refusal_is m) m
+begin_by_safe dom question (Some w) m = stays (r.Refused (refusal.Query w)) m
+begin_by_safe dom question None m = λ why is. cc
 
 either_safe : (b : Bool) (m : Machine) (one other : Outcome) → IsSafe one m → IsSafe other m → IsSafe (if b then one else other) m
 either_safe true m one other first second = first
@@ -67,14 +70,29 @@ pending_safe n there m = λ why is. cc
 next_safe : (n : ℕ) (there m : Machine) → IsSafe (goes (r.Next n) there) m
 next_safe n there m = λ why is. cc
 
-step_by_safe : {S : Type 0} (dom : Operations S) (t : Ticket) (n : ℕ) (a : Answer S) (m : Machine) → IsSafe (step_by dom t n a m) m
-step_by_safe dom t n (Refuses w) m = gone_safe _ m
-step_by_safe dom t n (Answers v) m =
-    either_safe (nat_lt n (length (missing_at dom t.at t.string m))) m _ _ (pending_safe n _ m) (λ why is. absurd (told_accepts dom t.at v m why is))
+-- the whole request for a question that the program does not refuse is not refused
+state_accepts : {S : Type 0} (dom : Operations S) (query : Query) (a : Answer S) (m : Machine) (why : Refusal) → refusal_in a ≡ None → (state_by dom query a m).reply ≡ r.Refused why → ⊥
+state_accepts dom query (Refuses w) m why none is = cc
+state_accepts dom query (Answers v) m why none is = told_accepts dom query.at v m why is
+
+why_accepts : {S : Type 0} (dom : Operations S) (query : Query) (a : Answer S) (m : Machine) (why : Refusal) → refusal_in a ≡ None → (why_by dom query a m).reply ≡ r.Refused why → ⊥
+why_accepts dom query (Refuses w) m why none is = cc
+why_accepts dom query (Answers v) m why none is = cc
+
+whole_accepts : {S : Type 0} (dom : Operations S) (question : Question) (m : Machine) (why : Refusal) → refusal_asked dom question m ≡ None → (whole_turn dom question m).reply ≡ r.Refused why → ⊥
+whole_accepts dom (what.State l string) m why none is = state_accepts dom (query_of l string) (answer_at dom l string m) m why none is
+whole_accepts dom (what.Why l string) m why none is = why_accepts dom (query_of l string) (answer_at dom l string m) m why none is
+whole_accepts dom what.Report m why none is = cc
+whole_accepts dom (what.Faults only) m why none is = cc
+
+step_by_safe : {S : Type 0} (dom : Operations S) (t : Ticket) (n : ℕ) (refusal_is : Option QueryRefusal) (m : Machine) → refusal_asked dom t.question m ≡ refusal_is → IsSafe (step_by dom t n refusal_is m) m
+step_by_safe dom t n (Some w) m some = gone_safe _ m
+step_by_safe dom t n None m none =
+    either_safe (nat_lt n (length (missing_asked dom t.question m))) m _ _ (pending_safe n _ m) (λ why is. absurd (whole_accepts dom t.question m why none is))
 
 step_safe : {S : Type 0} (dom : Operations S) (n : ℕ) (t : Option Ticket) (m : Machine) → IsSafe (step_of dom n t m) m
 step_safe dom n None m = stays (r.Refused refusal.NoTicket) m
-step_safe dom n (Some t) m = step_by_safe dom t n (answer_at dom t.at t.string m) m
+step_safe dom n (Some t) m = step_by_safe dom t n (refusal_asked dom t.question m) m refl
 
 edit_by_safe : {S : Type 0} (dom : Operations S) (e : Edit) (error : Option EditError) (m : Machine) → IsSafe (edit_by dom e error m) m
 edit_by_safe dom e None m = next_safe _ _ m
@@ -103,9 +121,10 @@ request_safe readings dom (q.Drop proc) m = edit_safe dom (drop_of proc) m
 request_safe readings dom (q.Why query) m = why_safe dom query (answer_at dom query.at query.string m) m
 request_safe readings dom q.Undo m = move_safe m.past refusal.NothingToUndo (undone dom m) m
 request_safe readings dom q.Redo m = move_safe m.future refusal.NothingToRedo (redone dom m) m
-request_safe readings dom (q.Ask query) m =
-    either_safe (nat_lt 2 (length query.string)) m _ _ (stays (r.Refused (refusal.Query LongString)) m) (
-    either_safe (nat_le 16 (length m.tickets)) m _ _ (stays (r.Refused refusal.ManyTickets) m) (ask_by_safe dom query (answer_at dom query.at query.string m) m))
+request_safe readings dom (q.Begin task) m =
+    let question = question_of task in
+    either_safe (nat_lt 2 (length (string_of question))) m _ _ (stays (r.Refused (refusal.Query LongString)) m) (
+    either_safe (nat_le 16 (length m.tickets)) m _ _ (stays (r.Refused refusal.ManyTickets) m) (begin_by_safe dom question (refusal_asked dom question m) m))
 request_safe readings dom (q.Step ticket n) m = step_safe dom n (ticket_of ticket m.tickets) m
 request_safe readings dom (q.Cancel ticket) m = cancel_safe (ticket_of ticket m.tickets) m
 

@@ -29,7 +29,9 @@ use Rattle.why_slice.specs.Upstream.{upstream}
 use Rattle.why_slice.specs.Claims.{Suffices, UpstreamSuffices}
 use Rattle.serve_script.specs.Replies.{machine_after}
 use Rattle.daig_machine.specs.Machine.{Machine, Ticket, ticket_of}
-use Rattle.daig_machine.specs.Turns.{answer_at, missing_at, or_none, redone, undone, upstream_at, upstream_in}
+use Rattle.daig_machine.specs.Turns.{answer_at, missing_asked, or_none, redone, refusal_asked, string_of, undone, upstream_at, upstream_in}
+use Rattle.daig_machine.specs.declared.question.Question.{Question}
+use Rattle.daig_machine.specs.declared.question.Question.TheVariants as what
 use Rattle.request_json.specs.declared.error.ReadError.{ReadError}
 use Rattle.request_json.specs.declared.request.Query.{Query}
 use Rattle.request_json.specs.declared.request.Request.{Request}
@@ -38,12 +40,12 @@ use Rattle.request_json.specs.declared.reply.Reply.{Reply}
 use Rattle.request_json.specs.declared.reply.Reply.TheVariants as r
 use Rattle.request_json.specs.declared.reply.Refusal.{Refusal}
 use Rattle.request_json.specs.declared.reply.Refusal.TheVariants as refusal
-use Rattle.request_json.specs.Requests.{request_of}
+use Rattle.request_json.specs.Requests.{query_of, request_of}
 use Rattle.serve_replies.specs.Runs.{asked_run, found_run, run_reply}
 use Rattle.serve_replies.specs.Texts.{program_reply}
 use Rattle.serve_answers.specs.Readings.{Readings}
 use Rattle.serve_answers.specs.Edits.{replace_of, insert_of, delete_of, guard_of, declare_of, add_of, drop_of}
-use Rattle.serve_answers.specs.Turns.{Outcome, state_reply, cancel_by, move_turn, state_by, why_by, ask_by, step_by, step_of, edit_by, edit_turn}
+use Rattle.serve_answers.specs.Turns.{Outcome, state_reply, cancel_by, move_turn, state_by, why_by, begin_by, question_of, step_by, step_of, edit_by, edit_turn, whole_turn}
 use Rattle.serve_answers.specs.Lines.{request_turn, read_turn, server}
 use Rattle.serve_answers.specs.Fine.{HasFinePrograms, opening}
 use Rattle.serve_answers.specs.Sound.{IsAsked, IsReplySound, TurnsAreSound, MomentsAreSound}
@@ -84,9 +86,9 @@ move_other : (side : List (List Procedure)) (otherwise : Refusal) (there m : Mac
 move_other [] otherwise there m = tt
 move_other (p ∷ ps) otherwise there m = tt
 
-ask_by_other : {S : Type 0} (dom : Operations S) (query : Query) (a : Answer S) (m : Machine) → IsOther (ask_by dom query a m).reply
-ask_by_other dom query (Refuses why) m = tt
-ask_by_other dom query (Answers v) m = tt
+begin_by_other : {S : Type 0} (dom : Operations S) (question : Question) (refusal_is : Option words.QueryRefusal) (m : Machine) → IsOther (begin_by dom question refusal_is m).reply
+begin_by_other dom question (Some why) m = tt
+begin_by_other dom question None m = tt
 
 either_other : (b : Bool) (one other : Outcome) → IsOther one.reply → IsOther other.reply → IsOther (if b then one else other).reply
 either_other true one other first second = first
@@ -114,7 +116,7 @@ module _ {S : Type 0} (dom : Operations S) (covers : S → Heap → List Variabl
     why = λ stmts is. absurd (subst (λ (x : Reply). IsOther x) is other);
   }
 
-  told_sound : (l : Location) (string : List ℕ) (v : Value S) → IsAsked m line l string → answer_at dom l string m ≡ Answers v → Sound (state_reply dom l v m)
+  told_sound : (l : Location) (string : List ℕ) (v : Value S) → IsAsked m line (what.State l string) → answer_at dom l string m ≡ Answers v → Sound (state_reply dom l v m)
   told_sound l string (State s) asked is = record {
     state = λ text same. record {
       at = l;
@@ -131,23 +133,13 @@ module _ {S : Type 0} (dom : Operations S) (covers : S → Heap → List Variabl
   }
   told_sound l string (Over n z) asked is = other_sound (state_reply dom l (Over n z) m) tt
 
-  state_sound : (query : Query) (a : Answer S) → IsAsked m line query.at query.string → answer_at dom query.at query.string m ≡ a → Sound (state_by dom query a m).reply
+  state_sound : (query : Query) (a : Answer S) → IsAsked m line (what.State query.at query.string) → answer_at dom query.at query.string m ≡ a → Sound (state_by dom query a m).reply
   state_sound query (Refuses why) asked is = other_sound (r.Refused (refusal.Query why)) tt
   state_sound query (Answers v) asked is = told_sound query.at query.string v asked is
 
   either_sound : (b : Bool) (one other : Outcome) → Sound one.reply → Sound other.reply → Sound (if b then one else other).reply
   either_sound true one other first second = first
   either_sound false one other first second = second
-
-  step_by_sound : (t : Ticket) (n : ℕ) (a : Answer S) → IsAsked m line t.at t.string → answer_at dom t.at t.string m ≡ a → Sound (step_by dom t n a m).reply
-  step_by_sound t n (Refuses why) asked is = other_sound (r.Refused refusal.Gone) tt
-  step_by_sound t n (Answers v) asked is =
-      either_sound (nat_lt n (length (missing_at dom t.at t.string m))) _ _ (other_sound (r.Pending n) tt) (told_sound t.at t.string v asked is)
-
-  step_sound : (ticket n : ℕ) (t : Option Ticket) → request_of line ≡ Ok (q.Step ticket n) → ticket_of ticket m.tickets ≡ t → Sound (step_of dom n t m).reply
-  step_sound ticket n None reads there = other_sound (r.Refused refusal.NoTicket) tt
-  step_sound ticket n (Some t) reads there =
-      step_by_sound t n (answer_at dom t.at t.string m) (inr (record { ticket = ticket; steps = n; asked = t; reads = reads; open_one = there; at = refl; under = refl })) refl
 
   report_sound : Sound (r.Report (report dom m.engine (routines_of m.program)))
   report_sound = record {
@@ -166,14 +158,14 @@ module _ {S : Type 0} (dom : Operations S) (covers : S → Heap → List Variabl
   present_sound : of_faults.IsReportSound (routines_of m.program) present
   present_sound = faulting m.engine (routines_of m.program) h.present.fine.fit
 
-  faults_sound : (only : Option FaultVerdict) → request_of line ≡ Ok (q.Faults only) → Sound (r.Faults (with_verdict only present))
-  faults_sound only reads = record {
+  faults_sound : (only : Option FaultVerdict) → IsAsked m line (what.Faults only) → Sound (r.Faults (with_verdict only present))
+  faults_sound only asked = record {
     state = λ text is. absurd cc;
     report = λ findings is. absurd cc;
     faults = λ found is.
         let same : with_verdict only present ≡ found = cc in record {
           each = λ f within. present_sound.each f (picked_of only present f (subst (λ (fs : List FaultFinding). Contains fs f) (sym same) within));
-          whole = λ asks. subst (of_faults.IsReportSound (routines_of m.program)) (all_asked line only present reads asks ∙ same) present_sound;
+          whole = λ asks. subst (of_faults.IsReportSound (routines_of m.program)) (all_asked m line only present asked asks ∙ same) present_sound;
         };
     why = λ stmts is. absurd cc;
   }
@@ -191,9 +183,9 @@ module _ {S : Type 0} (dom : Operations S) (covers : S → Heap → List Variabl
       subst (λ o. Suffices dom m.engine m.program l string (upstream dom m.engine (routines_of m.program) same_name l string p (or_none o))) (sym ts.1) (
       suffices m.engine same_name m.program l string p ts.0 same_is there ts.1)
 
-  why_sound : (query : Query) (a : Answer S) → request_of line ≡ Ok (q.Why query) → answer_at dom query.at query.string m ≡ a → Sound (why_by dom query a m).reply
-  why_sound query (Refuses why) reads is = other_sound (r.Refused (refusal.Query why)) tt
-  why_sound query (Answers v) reads is = record {
+  why_sound : (query : Query) (a : Answer S) → IsAsked m line (what.Why query.at query.string) → answer_at dom query.at query.string m ≡ a → Sound (why_by dom query a m).reply
+  why_sound query (Refuses why) asked is = other_sound (r.Refused (refusal.Query why)) tt
+  why_sound query (Answers v) asked is = record {
     state = λ text same. absurd cc;
     report = λ report same. absurd cc;
     faults = λ found same. absurd cc;
@@ -201,16 +193,34 @@ module _ {S : Type 0} (dom : Operations S) (covers : S → Heap → List Variabl
         let e : upstream_at dom query.at query.string m ≡ stmts = cc in record {
           at = query.at;
           string = query.string;
-          asks = reads;
+          asks = asked;
           suffice = subst (Suffices dom m.engine m.program query.at query.string) e (upstream_suffices query.at query.string (procedure_of (routines_of m.program) query.at) v refl is);
         };
   }
+
+  -- ---- steps
+
+  whole_sound : (question : Question) → IsAsked m line question → Sound (whole_turn dom question m).reply
+  whole_sound (what.State l string) asked = state_sound (query_of l string) (answer_at dom l string m) asked refl
+  whole_sound (what.Why l string) asked = why_sound (query_of l string) (answer_at dom l string m) asked refl
+  whole_sound what.Report asked = report_sound
+  whole_sound (what.Faults only) asked = faults_sound only asked
+
+  step_by_sound : (t : Ticket) (n : ℕ) (refusal_is : Option words.QueryRefusal) → IsAsked m line t.question → Sound (step_by dom t n refusal_is m).reply
+  step_by_sound t n (Some why) asked = other_sound (r.Refused refusal.Gone) tt
+  step_by_sound t n None asked =
+      either_sound (nat_lt n (length (missing_asked dom t.question m))) _ _ (other_sound (r.Pending n) tt) (whole_sound t.question asked)
+
+  step_sound : (ticket n : ℕ) (t : Option Ticket) → request_of line ≡ Ok (q.Step ticket n) → ticket_of ticket m.tickets ≡ t → Sound (step_of dom n t m).reply
+  step_sound ticket n None reads there = other_sound (r.Refused refusal.NoTicket) tt
+  step_sound ticket n (Some t) reads there =
+      step_by_sound t n (refusal_asked dom t.question m) (inr (record { ticket = ticket; steps = n; asked = t; reads = reads; open_one = there; asks = refl }))
 
   request_sound : (readings : Readings) (request : Request) → request_of line ≡ Ok request → Sound (request_turn readings dom request m).reply
   unfolding request_turn
   request_sound readings (q.State query) reads = state_sound query (answer_at dom query.at query.string m) (inl reads) refl
   request_sound readings q.Report reads = report_sound
-  request_sound readings (q.Faults only) reads = faults_sound only reads
+  request_sound readings (q.Faults only) reads = faults_sound only (inl reads)
   request_sound readings q.Cost reads = other_sound _ tt
   request_sound readings q.Program reads = other_sound _ (program_other m.next m.program)
   request_sound readings q.Listing reads = other_sound _ tt
@@ -222,11 +232,12 @@ module _ {S : Type 0} (dom : Operations S) (covers : S → Heap → List Variabl
   request_sound readings (q.Declare proc name kind) reads = other_sound _ (edit_other dom (declare_of proc name kind) m)
   request_sound readings (q.Add before text) reads = other_sound _ (edit_other dom (add_of readings m.next before text) m)
   request_sound readings (q.Drop proc) reads = other_sound _ (edit_other dom (drop_of proc) m)
-  request_sound readings (q.Why query) reads = why_sound query (answer_at dom query.at query.string m) reads refl
+  request_sound readings (q.Why query) reads = why_sound query (answer_at dom query.at query.string m) (inl reads) refl
   request_sound readings q.Undo reads = other_sound _ (move_other m.past refusal.NothingToUndo (undone dom m) m)
   request_sound readings q.Redo reads = other_sound _ (move_other m.future refusal.NothingToRedo (redone dom m) m)
-  request_sound readings (q.Ask query) reads =
-      other_sound _ (either_other (nat_lt 2 (length query.string)) _ _ tt (either_other (nat_le 16 (length m.tickets)) _ _ tt (ask_by_other dom query (answer_at dom query.at query.string m) m)))
+  request_sound readings (q.Begin task) reads =
+      let question = question_of task in
+      other_sound _ (either_other (nat_lt 2 (length (string_of question))) _ _ tt (either_other (nat_le 16 (length m.tickets)) _ _ tt (begin_by_other dom question (refusal_asked dom question m) m)))
   request_sound readings (q.Step ticket n) reads = step_sound ticket n (ticket_of ticket m.tickets) reads refl
   request_sound readings (q.Cancel ticket) reads = other_sound _ (cancel_other (ticket_of ticket m.tickets) m)
 

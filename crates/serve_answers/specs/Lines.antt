@@ -12,7 +12,7 @@ use Rattle.serve_replies.specs.Refusals.{line_refusal}
 use Rattle.serve_replies.specs.Texts.{long_reply}
 use Rattle.serve_answers.specs.Readings.{Readings}
 use Rattle.serve_answers.specs.Edits.{replace_of, insert_of, delete_of, guard_of, declare_of, add_of, drop_of}
-use Rattle.serve_answers.specs.Turns.{Outcome, refused, cost_turn, program_turn, listing_turn, run_turn, state_turn, report_turn, faults_turn, ask_turn, step_turn, cancel_turn, edit_turn, undo_turn, redo_turn, why_turn}
+use Rattle.serve_answers.specs.Turns.{Outcome, refused, cost_turn, program_turn, listing_turn, run_turn, state_turn, report_turn, faults_turn, begin_turn, question_of, step_turn, cancel_turn, edit_turn, undo_turn, redo_turn, why_turn}
 
 module _ {S : Type 0} (readings : Readings) (dom : Operations S) where
   -- What a request is replied, and the machine after it.
@@ -34,7 +34,7 @@ module _ {S : Type 0} (readings : Readings) (dom : Operations S) where
   request_turn (q.Why query) m = why_turn dom query m
   request_turn q.Undo m = undo_turn dom m
   request_turn q.Redo m = redo_turn dom m
-  request_turn (q.Ask query) m = ask_turn dom query m
+  request_turn (q.Begin task) m = begin_turn dom (question_of task) m
   request_turn (q.Step ticket n) m = step_turn dom ticket n m
   request_turn (q.Cancel ticket) m = cancel_turn ticket m
 

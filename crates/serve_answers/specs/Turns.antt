@@ -4,6 +4,7 @@ use Rattle.imp_syntax.specs.Plain.{Procedure}
 use Rattle.imp_syntax.specs.declared.edit.Edit.{Edit}
 use Rattle.imp_syntax.specs.declared.edit.Location.{Location}
 use Rattle.imp_check.specs.Slots.{routines_of}
+use Rattle.imp_words.specs.declared.refusal.QueryRefusal.{QueryRefusal}
 use Rattle.imp_words.specs.declared.refusal.QueryRefusal.TheVariants.{LongString}
 use Rattle.domain_laws.specs.Operations.{Operations}
 use Rattle.batch_meaning.specs.Values.{Value}
@@ -16,8 +17,13 @@ use Rattle.imp_edit.specs.Edited.{next_after}
 use Rattle.imp_edit.specs.Refusals.{edit_refusal}
 use Rattle.imp_edit.specs.declared.error.EditError.{EditError}
 use Rattle.daig_machine.specs.Machine.{Machine, Ticket, ticket_of}
-use Rattle.daig_machine.specs.Turns.{answer_at, after_question, after_close, after_edit, after_last_step, missing_at, with_ticket, redone, after_faults, after_report, after_step, undone, upstream_at}
+use Rattle.daig_machine.specs.Turns.{answer_at, after_question, after_close, after_edit, after_last_step, missing_asked, refusal_asked, string_of, with_ticket, redone, after_faults, after_report, after_step, undone, upstream_at}
+use Rattle.daig_machine.specs.declared.question.Question.{Question}
+use Rattle.daig_machine.specs.declared.question.Question.TheVariants as what
 use Rattle.request_json.specs.declared.request.Query.{Query}
+use Rattle.request_json.specs.declared.request.Task.{Task}
+use Rattle.request_json.specs.declared.request.Task.TheVariants as task
+use Rattle.request_json.specs.Requests.{query_of}
 use Rattle.request_json.specs.declared.reply.Reply.{Reply}
 use Rattle.request_json.specs.declared.reply.Reply.TheVariants as r
 use Rattle.request_json.specs.declared.reply.Refusal.{Refusal}
@@ -53,7 +59,16 @@ listing_turn m = goes (r.Listing (listing m.program)) m
 abbrev pub run_turn : List ℤ → (fuel : ℕ) → Option Location → Machine → Outcome
 run_turn inputs fuel at m = goes (asked_run (routines_of m.program) inputs fuel at) m
 
--- ---- tickets are given up
+-- ---- tickets
+
+-- the question that a ticket is opened for
+abbrev pub question_of : Task → Question
+question_of (task.State query) = what.State query.at query.string
+question_of (task.Why query) = what.Why query.at query.string
+question_of task.Report = what.Report
+question_of (task.Faults only) = what.Faults only
+
+-- a ticket is given up
 
 abbrev pub cancel_by : Option Ticket → Machine → Outcome
 cancel_by None m = refused refusal.NoTicket m
@@ -109,28 +124,35 @@ module _ {S : Type 0} (dom : Operations S) where
 
   -- ---- tickets
 
-  abbrev pub ask_by : Query → Answer S → Machine → Outcome
-  ask_by query (Refuses why) m = refused (refusal.Query why) m
-  ask_by query (Answers v) m = goes (r.Ticket m.next_ticket) (with_ticket query.at query.string m)
+  abbrev pub begin_by : Question → Option QueryRefusal → Machine → Outcome
+  begin_by question (Some why) m = refused (refusal.Query why) m
+  begin_by question None m = goes (r.Ticket m.next_ticket) (with_ticket question m)
 
-  -- a new ticket, unless the call string is too long or sixteen are open
-  abbrev pub ask_turn : Query → Machine → Outcome
-  ask_turn query m =
-      if nat_lt 2 (length query.string) then refused (refusal.Query LongString) m
+  -- a new ticket, unless the call string is too long, sixteen are open, or the program refuses the question
+  abbrev pub begin_turn : Question → Machine → Outcome
+  begin_turn question m =
+      if nat_lt 2 (length (string_of question)) then refused (refusal.Query LongString) m
       else if nat_le 16 (length m.tickets) then refused refusal.ManyTickets m
-      else ask_by query (answer_at dom query.at query.string m) m
+      else begin_by question (refusal_asked dom question m) m
 
-  -- Where more than n names are missing the first n are kept. Else the ticket is answered as a question is, and closed. It
+  -- the whole request for a question
+  abbrev pub whole_turn : Question → Machine → Outcome
+  whole_turn (what.State l string) m = state_turn (query_of l string) m
+  whole_turn (what.Why l string) m = why_turn (query_of l string) m
+  whole_turn what.Report m = report_turn m
+  whole_turn (what.Faults only) m = faults_turn only m
+
+  -- Where more than n names are missing the first n are kept. Else the ticket is replied as the whole request is, and closed. It
   -- is closed too where the present program refuses the question.
-  abbrev pub step_by : Ticket → (n : ℕ) → Answer S → Machine → Outcome
-  step_by t n (Refuses why) m = goes (r.Refused refusal.Gone) (after_close t.number m)
-  step_by t n (Answers v) m =
-      if nat_lt n (length (missing_at dom t.at t.string m)) then goes (r.Pending n) (after_step dom t n m)
-      else goes (state_reply t.at v m) (after_last_step dom t m)
+  abbrev pub step_by : Ticket → (n : ℕ) → Option QueryRefusal → Machine → Outcome
+  step_by t n (Some why) m = goes (r.Refused refusal.Gone) (after_close t.number m)
+  step_by t n None m =
+      if nat_lt n (length (missing_asked dom t.question m)) then goes (r.Pending n) (after_step dom t n m)
+      else goes (whole_turn t.question m).reply (after_last_step dom t m)
 
   abbrev pub step_of : (n : ℕ) → Option Ticket → Machine → Outcome
   step_of n None m = refused refusal.NoTicket m
-  step_of n (Some t) m = step_by t n (answer_at dom t.at t.string m) m
+  step_of n (Some t) m = step_by t n (refusal_asked dom t.question m) m
 
   abbrev pub step_turn : (ticket n : ℕ) → Machine → Outcome
   step_turn ticket n m = step_of n (ticket_of ticket m.tickets) m

@@ -5,6 +5,7 @@ use Rattle.fault_words.specs.declared.finding.FaultVerdict.{FaultVerdict}
 use Rattle.domain_laws.specs.Operations.{Operations}
 use Rattle.daig_machine.specs.Machine.{Machine}
 use Rattle.request_json.specs.declared.request.Query.{Query}
+use Rattle.request_json.specs.declared.request.Task.{Task}
 use Rattle.request_json.specs.declared.request.Request.{Request}
 use Rattle.request_json.specs.declared.request.Request.TheVariants as asks
 use Rattle.serve_answers.specs.Readings.{Readings}
@@ -42,27 +43,27 @@ not_filled p q is none fills = absurd (none (subst (λ (request : Request). Fill
 
 -- a request that is none of these is for an edit, ..
 pub only_edits : (p : Request) → ((query : Query) → p ≡ asks.State query → ⊥) → (p ≡ asks.Report → ⊥) → ((only : Option FaultVerdict) → p ≡ asks.Faults only → ⊥) → (p ≡ asks.Cost → ⊥) → (p ≡ asks.Program → ⊥) → (p ≡ asks.Listing → ⊥) → ((inputs : List ℤ) (fuel : ℕ) (at : Option Location) → p ≡ asks.Run inputs fuel at → ⊥) →
-    ((query : Query) → p ≡ asks.Why query → ⊥) → (p ≡ asks.Undo → ⊥) → (p ≡ asks.Redo → ⊥) → ((query : Query) → p ≡ asks.Ask query → ⊥) → ((ticket n : ℕ) → p ≡ asks.Step ticket n → ⊥) → ((ticket : ℕ) → p ≡ asks.Cancel ticket → ⊥) → Edits p
-only_edits (asks.State query) state report faults cost program listing run why undo redo ask step cancel = absurd (state query refl)
-only_edits asks.Report state report faults cost program listing run why undo redo ask step cancel = absurd (report refl)
-only_edits (asks.Faults only) state report faults cost program listing run why undo redo ask step cancel = absurd (faults only refl)
-only_edits asks.Cost state report faults cost program listing run why undo redo ask step cancel = absurd (cost refl)
-only_edits asks.Program state report faults cost program listing run why undo redo ask step cancel = absurd (program refl)
-only_edits asks.Listing state report faults cost program listing run why undo redo ask step cancel = absurd (listing refl)
-only_edits (asks.Run inputs fuel at) state report faults cost program listing run why undo redo ask step cancel = absurd (run inputs fuel at refl)
-only_edits (asks.Replace id text) state report faults cost program listing run why undo redo ask step cancel = tt
-only_edits (asks.Insert place text) state report faults cost program listing run why undo redo ask step cancel = tt
-only_edits (asks.Delete id) state report faults cost program listing run why undo redo ask step cancel = tt
-only_edits (asks.Guard id text) state report faults cost program listing run why undo redo ask step cancel = tt
-only_edits (asks.Declare proc name kind) state report faults cost program listing run why undo redo ask step cancel = tt
-only_edits (asks.Add before text) state report faults cost program listing run why undo redo ask step cancel = tt
-only_edits (asks.Drop proc) state report faults cost program listing run why undo redo ask step cancel = tt
-only_edits (asks.Why query) state report faults cost program listing run why undo redo ask step cancel = absurd (why query refl)
-only_edits asks.Undo state report faults cost program listing run why undo redo ask step cancel = absurd (undo refl)
-only_edits asks.Redo state report faults cost program listing run why undo redo ask step cancel = absurd (redo refl)
-only_edits (asks.Ask query) state report faults cost program listing run why undo redo ask step cancel = absurd (ask query refl)
-only_edits (asks.Step ticket n) state report faults cost program listing run why undo redo ask step cancel = absurd (step ticket n refl)
-only_edits (asks.Cancel ticket) state report faults cost program listing run why undo redo ask step cancel = absurd (cancel ticket refl)
+    ((query : Query) → p ≡ asks.Why query → ⊥) → (p ≡ asks.Undo → ⊥) → (p ≡ asks.Redo → ⊥) → ((task : Task) → p ≡ asks.Begin task → ⊥) → ((ticket n : ℕ) → p ≡ asks.Step ticket n → ⊥) → ((ticket : ℕ) → p ≡ asks.Cancel ticket → ⊥) → Edits p
+only_edits (asks.State query) state report faults cost program listing run why undo redo begin step cancel = absurd (state query refl)
+only_edits asks.Report state report faults cost program listing run why undo redo begin step cancel = absurd (report refl)
+only_edits (asks.Faults only) state report faults cost program listing run why undo redo begin step cancel = absurd (faults only refl)
+only_edits asks.Cost state report faults cost program listing run why undo redo begin step cancel = absurd (cost refl)
+only_edits asks.Program state report faults cost program listing run why undo redo begin step cancel = absurd (program refl)
+only_edits asks.Listing state report faults cost program listing run why undo redo begin step cancel = absurd (listing refl)
+only_edits (asks.Run inputs fuel at) state report faults cost program listing run why undo redo begin step cancel = absurd (run inputs fuel at refl)
+only_edits (asks.Replace id text) state report faults cost program listing run why undo redo begin step cancel = tt
+only_edits (asks.Insert place text) state report faults cost program listing run why undo redo begin step cancel = tt
+only_edits (asks.Delete id) state report faults cost program listing run why undo redo begin step cancel = tt
+only_edits (asks.Guard id text) state report faults cost program listing run why undo redo begin step cancel = tt
+only_edits (asks.Declare proc name kind) state report faults cost program listing run why undo redo begin step cancel = tt
+only_edits (asks.Add before text) state report faults cost program listing run why undo redo begin step cancel = tt
+only_edits (asks.Drop proc) state report faults cost program listing run why undo redo begin step cancel = tt
+only_edits (asks.Why query) state report faults cost program listing run why undo redo begin step cancel = absurd (why query refl)
+only_edits asks.Undo state report faults cost program listing run why undo redo begin step cancel = absurd (undo refl)
+only_edits asks.Redo state report faults cost program listing run why undo redo begin step cancel = absurd (redo refl)
+only_edits (asks.Begin task) state report faults cost program listing run why undo redo begin step cancel = absurd (begin task refl)
+only_edits (asks.Step ticket n) state report faults cost program listing run why undo redo begin step cancel = absurd (step ticket n refl)
+only_edits (asks.Cancel ticket) state report faults cost program listing run why undo redo begin step cancel = absurd (cancel ticket refl)
 
 -- .. and fills no names
 pub edits_not_filled : (p : Request) → Edits p → Fills (Ok p) → ⊥
@@ -83,6 +84,6 @@ edits_not_filled (asks.Drop proc) edits fills = fills
 edits_not_filled (asks.Why query) edits fills = absurd edits
 edits_not_filled asks.Undo edits fills = absurd edits
 edits_not_filled asks.Redo edits fills = absurd edits
-edits_not_filled (asks.Ask query) edits fills = absurd edits
+edits_not_filled (asks.Begin task) edits fills = absurd edits
 edits_not_filled (asks.Step ticket n) edits fills = absurd edits
 edits_not_filled (asks.Cancel ticket) edits fills = absurd edits

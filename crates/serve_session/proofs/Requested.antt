@@ -39,7 +39,7 @@ module _ {S : Type 0} (dom : Operations S) (readings : Readings) (m : Machine) w
   asked_turn (q.Why query) edits = absurd edits
   asked_turn q.Undo edits = absurd edits
   asked_turn q.Redo edits = absurd edits
-  asked_turn (q.Ask query) edits = absurd edits
+  asked_turn (q.Begin task) edits = absurd edits
   asked_turn (q.Step ticket n) edits = absurd edits
   asked_turn (q.Cancel ticket) edits = absurd edits
 

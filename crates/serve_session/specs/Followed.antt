@@ -1,12 +1,17 @@
 -- What is written for a line, and which machine stands after it.
 use Rattle.std.specs.Prelude.{◌≡◌, ◌≤◌, ◌+◌, ◌⊎◌, ℕ, List, [], Option, Some, None, Result, Ok, Err, IfErr, IfOk, Vec}
+use Rattle.fault_words.specs.declared.finding.FaultVerdict.{FaultVerdict}
+use Rattle.fault_words.specs.Picking.{with_verdict}
 use Rattle.imp_syntax.specs.declared.edit.Location.{Location}
+use Rattle.imp_syntax.specs.declared.edit.Location.TheVariants.{Before}
 use Rattle.imp_check.specs.Slots.{routines_of}
 use Rattle.domain_laws.specs.Operations.{Operations}
 use Rattle.batch_meaning.specs.Answers.{Answer}
 use Rattle.cell_names.specs.Paths.{CellName}
 use Rattle.daig_machine.specs.Machine.{Machine, Ticket, ticket_of}
-use Rattle.daig_machine.specs.Turns.{IsBetween, missing_at, missing_for_faults, missing_for_report}
+use Rattle.daig_machine.specs.Turns.{IsBetween, missing_asked, missing_at, missing_for_faults, missing_for_report}
+use Rattle.daig_machine.specs.declared.question.Question.{Question}
+use Rattle.daig_machine.specs.declared.question.Question.TheVariants as what
 use Rattle.daig_graph.specs.declared.value.Value.{Value}
 use Rattle.daig_query.specs.Answered.{Says}
 use Rattle.daig_session.specs.Sessions.{StandsFor}
@@ -20,7 +25,7 @@ use Rattle.daig_session.specs.declared.error.UndoError.{UndoError}
 use Rattle.daig_session.specs.declared.error.UndoError.TheVariants as undo
 use Rattle.daig_session.specs.declared.session.Session.{Session}
 use Rattle.daig_session.specs.declared.stepping.StepResult as stepping
-use Rattle.daig_session.specs.declared.stepping.StepResult.TheVariants.{Pending, Done}
+use Rattle.daig_session.specs.declared.stepping.StepResult.TheVariants as stepped
 use Rattle.request_json.specs.declared.error.ReadError.{ReadError}
 use Rattle.request_json.specs.declared.request.Query.{Query}
 use Rattle.request_json.specs.declared.request.Request.{Request}
@@ -61,7 +66,7 @@ Fills (Ok request) = ⊥
 -- what is missing for a ticket, if it is open, and for a request
 abbrev pub missing_for_ticket : {S : Type 0} → Operations S → Option Ticket → Machine → List CellName
 missing_for_ticket dom None m = []
-missing_for_ticket dom (Some t) m = missing_at dom t.at t.string m
+missing_for_ticket dom (Some t) m = missing_asked dom t.question m
 
 abbrev pub missing_of : {S : Type 0} → Operations S → Result Request ReadError → Machine → List CellName
 missing_of dom (Err error) m = []
@@ -101,11 +106,27 @@ abbrev pub Tells : {V E : Type 0} → Result V E → (items : V → List ℕ) �
 Tells line items (Some why) = IfOk line (λ v. items v ≡ reply_text (r.Refused why))
 Tells line items None = IfOk line (λ v. ⊥)
 
--- The line tells how many cells a step filled, or what it answers at a location.
-abbrev pub TellsTurn : {V E S : Type 0} → Result V E → (items : V → List ℕ) → Operations S → (stands : Machine → Type 0) → Location → stepping.StepResult S → Type 0
-TellsTurn line items dom stands at (Pending n) = IfOk line (λ v. items v ≡ reply_text (r.Pending n))
-TellsTurn {S = S} line items dom stands at (Done v) = (m : Machine) (a : Answer S) → stands m → Says a (Some v) →
+-- by what the answer to a question is told: the location of a state, any where there is none, and the verdict of faults that are wanted
+abbrev pub told_at : Question → Location
+told_at (what.State l string) = l
+told_at (what.Why l string) = l
+told_at what.Report = Before 0
+told_at (what.Faults only) = Before 0
+
+abbrev pub told_only : Question → Option FaultVerdict
+told_only (what.State l string) = None
+told_only (what.Why l string) = None
+told_only what.Report = None
+told_only (what.Faults only) = only
+
+-- The line tells how many cells a step filled, or what it answers: a state at a location, of faults those with a verdict.
+abbrev pub TellsTurn : {V E S : Type 0} → Result V E → (items : V → List ℕ) → Operations S → (stands : Machine → Type 0) → Location → Option FaultVerdict → stepping.StepResult S → Type 0
+TellsTurn line items dom stands at only (stepped.Pending n) = IfOk line (λ v. items v ≡ reply_text (r.Pending n))
+TellsTurn {S = S} line items dom stands at only (stepped.State v) = (m : Machine) (a : Answer S) → stands m → Says a (Some v) →
     IfOk line (λ w. items w ≡ reply_text (answer_reply dom (layout_at (routines_of m.program) at) a))
+TellsTurn line items dom stands at only (stepped.Why stmts) = IfOk line (λ v. items v ≡ reply_text (r.Why stmts))
+TellsTurn line items dom stands at only (stepped.Report found) = IfOk line (λ v. items v ≡ reply_text (r.Report found))
+TellsTurn line items dom stands at only (stepped.Faults found) = IfOk line (λ v. items v ≡ reply_text (r.Faults (with_verdict only found)))
 
 -- a request for an edit
 abbrev pub Edits : Request → Type 0
@@ -199,9 +220,9 @@ TellsAnswer {S = S} operations session at value line = (m : Machine) (a : Answer
     IfOk line (λ v. v.items ≡ reply_text (answer_reply (operations session.engine.domain) (layout_at (routines_of m.program) at) a))
 
 -- .. or what a step comes to.
-abbrev pub TellsStep : {D S E Z : Type 0} → (operations : D → Operations S) → Session D S → Location → stepping.StepResult S → Result (Vec ℕ Z) E → Type 0
-TellsStep operations session at turn line =
-    TellsTurn line (λ v. v.items) (operations session.engine.domain) (StandsFor operations session) at turn
+abbrev pub TellsStep : {D S E Z : Type 0} → (operations : D → Operations S) → Session D S → Location → Option FaultVerdict → stepping.StepResult S → Result (Vec ℕ Z) E → Type 0
+TellsStep operations session at only turn line =
+    TellsTurn line (λ v. v.items) (operations session.engine.domain) (StandsFor operations session) at only turn
 
 -- The domain stays, ..
 abbrev pub KeepsDomain : {D S : Type 0} → (old new : Session D S) → Type 0

@@ -8,7 +8,7 @@ ghost use Rattle.serve_session.specs.Followed.{OpensAtMostOne};
 
 use crate::edits::edit_request;
 use crate::questions::{faults_line, report_line, state_line, why_line};
-use crate::tickets::{ask_line, cancel_line, redo_line, step_line, undo_line};
+use crate::tickets::{begin_line, cancel_line, redo_line, step_line, undo_line};
 use crate::told::{cost_line, listing_line, program_line, run_line};
 use crate::written::line_of;
 use base_values::Memory;
@@ -46,7 +46,7 @@ fn request_line<D: Domain, L: Ledger>(
         Request::Why(query) => why_line(alloc, session, &query, steps),
         Request::Undo => undo_line(alloc, session),
         Request::Redo => redo_line(alloc, session),
-        Request::Ask(query) => ask_line(alloc, session, query),
+        Request::Begin(task) => begin_line(alloc, session, task),
         Request::Step { ticket, n } => step_line(alloc, session, ticket, n, steps),
         Request::Cancel { ticket } => cancel_line(alloc, session, ticket),
         edit => edit_request(alloc, session, edit),

@@ -43,6 +43,31 @@ fn ticket_stays_open(rt: HostRuntime) -> Result<(), Fail> {
     Ok(())
 }
 
+/// Counts to ten, and checks that.
+const CHECKED: Setup<'static> = Setup {
+    text: "proc main() { var i: int; i = 0; while (i < 10) { i = i + 1; } assert i == 10; }",
+    ..PLAIN
+};
+
+#[test]
+fn report_stays_open(rt: HostRuntime) -> Result<(), Fail> {
+    let script = [
+        Line::Report,
+        Line::Step(1, 2),
+        Line::Step(1, 100),
+        Line::Step(1, 100),
+    ];
+    for number in 3..10 {
+        let found = told(rt.alloc(), Failing::at(number), CHECKED, &script)?;
+        assert_eq!(rt;
+            found.as_str(),
+            "ticket 1; pending 2; Memory; report 1; ",
+            "{number}"
+        );
+    }
+    Ok(())
+}
+
 /// Counts to ten, with room for one result of an operation, and for one found last.
 const FORGETFUL: Setup<'static> = Setup { memo: 1, ..PLAIN };
 

@@ -2,7 +2,9 @@
 ghost use Rattle.std.specs.Prelude.{◌≡◌, ◌<◌};
 
 use crate::texts::{next_of, table_of};
-use crate::turns::{asked, queried, queried_twice, replaced, stepped};
+use crate::turns::{begun, queried, queried_twice, replaced, stepped};
+use base_values::Items;
+use daig_machine::Question;
 use daig_session::Session;
 use domain_laws::{Domain, Steps};
 use imp_chains::Widening;
@@ -23,6 +25,8 @@ pub(crate) enum Line<'a> {
     Twice(u32),
     /// A ticket for the place after a statement is opened.
     Ask(u32),
+    /// A ticket for the report is opened.
+    Report,
     /// So many cells are filled for a ticket.
     Step(u64, u32),
     /// The statement becomes the action of a text.
@@ -77,7 +81,15 @@ fn play<D: Domain, L: Ledger>(
         Line::Twice(stmt) => {
             queried_twice(alloc, session, &Location::After(StmtId::new(stmt)), steps)
         }
-        Line::Ask(stmt) => asked(alloc, session, Location::After(StmtId::new(stmt))),
+        Line::Ask(stmt) => begun(
+            alloc,
+            session,
+            Question::State {
+                at: Location::After(StmtId::new(stmt)),
+                string: Items::new(alloc),
+            },
+        ),
+        Line::Report => begun(alloc, session, Question::Report),
         Line::Step(ticket, most) => stepped(alloc, session, ticket, most, steps),
         Line::Replace(stmt, text) => replaced(alloc, session, stmt, text),
     }

@@ -4,9 +4,9 @@ ghost use Rattle.imp_edit.specs.Edited.{Continues};
 
 use crate::edits::replacement;
 use crate::values::shown;
-use base_values::Items;
 use call_contexts::place_of;
 use daig_graph::Value;
+use daig_machine::Question;
 use daig_session::{Session, StepResult};
 use domain_laws::{Domain, Steps};
 use imp_edit::EditError;
@@ -70,18 +70,43 @@ pub(crate) fn queried_twice<D: Domain, L: Ledger>(
     Ok(format!(in alloc; "{first} {none}; {again} {all}")?)
 }
 
-/// Opens a ticket for a location.
-pub(crate) fn asked<D: Domain>(
+/// Opens a ticket.
+pub(crate) fn begun<D: Domain>(
     alloc: Global,
     session: &mut Session<D>,
-    at: Location,
+    question: Question,
 ) -> Result<String, Fail> {
     if session.next_ticket() > 1000 {
         return Err("many tickets".into());
     }
-    match session.ask(alloc, at, Items::new(alloc)) {
+    match session.begin(alloc, question) {
         Ok(ticket) => Ok(format!(in alloc; "ticket {ticket}")?),
         Err(why) => Ok(format!(in alloc; "{why:?}")?),
+    }
+}
+
+/// What a step answers, by a state in a procedure.
+fn answered_step<D: Domain>(
+    alloc: Global,
+    session: &Session<D>,
+    proc: Option<ProcId>,
+    turn: StepResult<D::State>,
+) -> Result<String, Fail> {
+    match turn {
+        StepResult::Pending(filled) => Ok(format!(in alloc; "pending {filled}")?),
+        StepResult::State(value) => answered(alloc, session, proc, &value),
+        StepResult::Why(stmts) => {
+            let many = stmts.as_slice().len();
+            Ok(format!(in alloc; "why {many}")?)
+        }
+        StepResult::Report(findings) => {
+            let many = findings.as_slice().len();
+            Ok(format!(in alloc; "report {many}")?)
+        }
+        StepResult::Faults(findings) => {
+            let many = findings.as_slice().len();
+            Ok(format!(in alloc; "faults {many}")?)
+        }
     }
 }
 
@@ -93,13 +118,12 @@ pub(crate) fn stepped<D: Domain, L: Ledger>(
     most: u32,
     steps: &mut Steps<L>,
 ) -> Result<String, Fail> {
-    let proc = match session.ticket_at(ticket) {
-        Some(at) => proc_at(session.program(), at),
-        None => None,
+    let proc = match session.question_of(ticket) {
+        Some(Question::State { at, string: _ }) => proc_at(session.program(), at),
+        _ => None,
     };
     match session.step(alloc, ticket, most, steps) {
-        Ok(StepResult::Pending(filled)) => Ok(format!(in alloc; "pending {filled}")?),
-        Ok(StepResult::Done(value)) => answered(alloc, session, proc, &value),
+        Ok(turn) => answered_step(alloc, session, proc, turn),
         Err(why) => Ok(format!(in alloc; "{why:?}")?),
     }
 }

@@ -2,12 +2,13 @@ use Rattle.std.proofs.Common.{◌≡◌, List, ℕ, Some, slice_get, sym, subst,
 use Rattle.std.proofs.lemmas.Option.{slice_get_within}
 use Rattle.std.specs.Prelude.{IfErr, IfOk, IfSome}
 use Rattle.imp_flow.specs.Plans.{Plan}
-use Rattle.batch_meaning.specs.Answers.{answer}
+use Rattle.daig_query.specs.Right.{IsRight}
+use Rattle.daig_machine.specs.Turns.{refusal_by}
 use Rattle.daig_tickets.specs.declared.tickets.OpenTicket.{OpenTicket}
 use Rattle.daig_tickets.specs.Tickets.{anew}
-use Rattle.daig_session.specs.declared.book.Going.{Going}
+use Rattle.daig_session.specs.declared.course.Course.{Course}
 use Rattle.daig_session.specs.Books.{flow_in}
-use Rattle.daig_session.specs.Going.{IsGoing, IsRefused}
+use Rattle.daig_session.specs.Going.{HasComeFar, TellsRefusal}
 use Rattle.daig_session.proofs.TicketLemmas.{read_is, set_there}
 use Rattle.daig_session.proofs.Waiting.{waiting_get}
 use Rattle.daig_session.proofs.stepping.resumed.Goals as goal
@@ -27,7 +28,10 @@ returns-in-Some-clause-going g c = λ o e.
     let book = c.args.book.now in
     let store = c.args.engine.now.store in
     let waits = waiting_get dom (flow_in book) store book.tickets.open_ones.items c.args.place o c.requires.ready.waiting e in
-    subst (λ x. IfSome x (IsGoing dom (flow_in book) store o.at o.string)) (sym (c.take_going.ensures.taken o e) ∙ c.in-Some.is) waits.going
+    subst (λ x. IfSome x (HasComeFar dom (flow_in book) store o.question)) (sym (c.take_going.ensures.taken o e) ∙ c.in-Some.is) waits
+
+pub begun_course-requires : goal.begun_course-requires
+begun_course-requires g c = record { right = subst (λ (p : Plan). IsRight (g.D.Domain.operations c.args.engine.now.domain) p c.args.engine.now.store) (sym c.flow-flow.ensures.is) c.requires.ready.right }
 
 pub returns-in-None-clause-going : goal.returns-in-None-clause-going
 returns-in-None-clause-going g c = λ o e.
@@ -37,9 +41,8 @@ returns-in-None-clause-going g c = λ o e.
     let one = c.index-one.result.now in
     let there = subst (λ us. slice_get us c.args.place ≡ Some (anew o)) (sym (c.take_going.ensures.left o e)) (set_there book.tickets.open_ones.items c.args.place o (anew o) e) in
     let is = read_is c.take_going.new.open_ones.items c.args.place one (anew o) c.index-one.ensures there in
-    subst (λ (x : OpenTicket Going). IfOk c.begun.result (IsGoing dom (flow_in book) store x.at x.string)) is (
-    subst (λ (p : Plan). IfOk c.begun.result (IsGoing dom p store one.at one.string)) c.flow-flow.ensures.is (
-    subst (λ (xs : List ℕ). IfOk c.begun.result (IsGoing dom c.flow-flow.result store one.at xs)) c.as_slice.ensures.same c.begun.ensures.going))
+    subst (λ (x : OpenTicket Course). IfOk c.begun_course.result (HasComeFar dom (flow_in book) store x.question)) is (
+    subst (λ (p : Plan). IfOk c.begun_course.result (HasComeFar dom p store one.question)) c.flow-flow.ensures.is c.begun_course.ensures.course)
 
 pub returns-in-None-clause-refused : goal.returns-in-None-clause-refused
 returns-in-None-clause-refused g c = λ o e.
@@ -48,6 +51,5 @@ returns-in-None-clause-refused g c = λ o e.
     let one = c.index-one.result.now in
     let there = subst (λ us. slice_get us c.args.place ≡ Some (anew o)) (sym (c.take_going.ensures.left o e)) (set_there book.tickets.open_ones.items c.args.place o (anew o) e) in
     let is = read_is c.take_going.new.open_ones.items c.args.place one (anew o) c.index-one.ensures there in
-    subst (λ (x : OpenTicket Going). IfErr c.begun.result (IsRefused (answer dom (flow_in book).engine (flow_in book).program x.at x.string))) is (
-    subst (λ (p : Plan). IfErr c.begun.result (IsRefused (answer dom p.engine p.program one.at one.string))) c.flow-flow.ensures.is (
-    subst (λ (xs : List ℕ). IfErr c.begun.result (IsRefused (answer dom c.flow-flow.result.engine c.flow-flow.result.program one.at xs))) c.as_slice.ensures.same c.begun.ensures.refused))
+    subst (λ (x : OpenTicket Course). IfErr c.begun_course.result (TellsRefusal (refusal_by dom (flow_in book).engine (flow_in book).program x.question))) is (
+    subst (λ (p : Plan). IfErr c.begun_course.result (TellsRefusal (refusal_by dom p.engine p.program one.question))) c.flow-flow.ensures.is c.begun_course.ensures.refused)

@@ -56,10 +56,10 @@ unfolding request_turn
 returns-in-Redo-clause-turn g c = λ readings m h.
     turned c.redo_line.result (λ v. v.items) (g.D.Domain.operations c.args.session.now.engine.domain) m _ readings c.args.request q.Redo c.in-Redo.is (c.redo_line.ensures.turn m h)
 
-pub returns-in-Ask-clause-turn : goal.returns-in-Ask-clause-turn
+pub returns-in-Begin-clause-turn : goal.returns-in-Begin-clause-turn
 unfolding request_turn
-returns-in-Ask-clause-turn g c = λ readings m h.
-    turned c.ask_line.result (λ v. v.items) (g.D.Domain.operations c.args.session.now.engine.domain) m _ readings c.args.request (q.Ask c.in-Ask.query) c.in-Ask.is (c.ask_line.ensures.turn m h)
+returns-in-Begin-clause-turn g c = λ readings m h.
+    turned c.begin_line.result (λ v. v.items) (g.D.Domain.operations c.args.session.now.engine.domain) m _ readings c.args.request (q.Begin c.in-Begin.task) c.in-Begin.is (c.begin_line.ensures.turn m h)
 
 pub returns-in-Step-clause-turn : goal.returns-in-Step-clause-turn
 unfolding request_turn
@@ -121,8 +121,8 @@ returns-in-Undo-clause-between g c = λ readings m fills h. not_filled c.args.re
 pub returns-in-Redo-clause-between : goal.returns-in-Redo-clause-between
 returns-in-Redo-clause-between g c = λ readings m fills h. not_filled c.args.request q.Redo c.in-Redo.is (λ none. none) fills
 
-pub returns-in-Ask-clause-between : goal.returns-in-Ask-clause-between
-returns-in-Ask-clause-between g c = λ readings m fills h. not_filled c.args.request (q.Ask c.in-Ask.query) c.in-Ask.is (λ none. none) fills
+pub returns-in-Begin-clause-between : goal.returns-in-Begin-clause-between
+returns-in-Begin-clause-between g c = λ readings m fills h. not_filled c.args.request (q.Begin c.in-Begin.task) c.in-Begin.is (λ none. none) fills
 
 pub returns-in-Cancel-clause-between : goal.returns-in-Cancel-clause-between
 returns-in-Cancel-clause-between g c = λ readings m fills h. not_filled c.args.request (q.Cancel c.in-Cancel.ticket) c.in-Cancel.is (λ none. none) fills
@@ -142,11 +142,11 @@ returns-in-Run-clause-between g c = λ readings m fills h. not_filled c.args.req
 pub returns-in_default-clause-turn : goal.returns-in_default-clause-turn
 returns-in_default-clause-turn g c = λ readings m h.
     let other = c.in_default in
-    let edits = only_edits c.args.request other.not-State other.not-Report other.not-Faults other.not-Cost other.not-Program other.not-Listing other.not-Run other.not-Why other.not-Undo other.not-Redo other.not-Ask other.not-Step other.not-Cancel in
+    let edits = only_edits c.args.request other.not-State other.not-Report other.not-Faults other.not-Cost other.not-Program other.not-Listing other.not-Run other.not-Why other.not-Undo other.not-Redo other.not-Begin other.not-Step other.not-Cancel in
     c.edit_request.ensures.turn readings m edits h
 
 pub returns-in_default-clause-between : goal.returns-in_default-clause-between
 returns-in_default-clause-between g c = λ readings m fills h.
     let other = c.in_default in
-    let edits = only_edits c.args.request other.not-State other.not-Report other.not-Faults other.not-Cost other.not-Program other.not-Listing other.not-Run other.not-Why other.not-Undo other.not-Redo other.not-Ask other.not-Step other.not-Cancel in
+    let edits = only_edits c.args.request other.not-State other.not-Report other.not-Faults other.not-Cost other.not-Program other.not-Listing other.not-Run other.not-Why other.not-Undo other.not-Redo other.not-Begin other.not-Step other.not-Cancel in
     absurd (edits_not_filled c.args.request edits fills)

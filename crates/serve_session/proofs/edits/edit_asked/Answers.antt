@@ -70,7 +70,7 @@ returns-clause-makes c = λ readings.
       | q.Why query ↦ λ is. refl
       | q.Undo ↦ λ is. refl
       | q.Redo ↦ λ is. refl
-      | q.Ask query ↦ λ is. refl
+      | q.Begin task ↦ λ is. refl
       | q.Step ticket n ↦ λ is. refl
       | q.Cancel ticket ↦ λ is. refl
     ]) refl

@@ -1,14 +1,16 @@
-use Rattle.std.proofs.Common.{◌≡◌, ◌<◌, ◌≤◌, true, false, length, inl, refl, sym, subst, ◌∙◌, arith}
+use Rattle.std.proofs.Common.{◌≡◌, ◌<◌, ◌≤◌, true, false, length, map, inl, refl, sym, ap, subst, ◌∙◌, arith}
 use Rattle.std.specs.Prelude.{nat_lt}
 use Rattle.std.proofs.lemmas.Bool.Decides.{nat_tests}
 use Rattle.std.proofs.lemmas.Result.{err_from_is_err_and}
 use Rattle.imp_flow.specs.Plans.{Plan}
 use Rattle.batch_meaning.specs.Answers.{answer}
+use Rattle.daig_machine.specs.Turns.{refusal_in}
 use Rattle.daig_query.specs.Right.{IsRight}
 use Rattle.daig_session.specs.Books.{flow_in}
-use Rattle.daig_session.specs.Going.{IsGoing, IsRefused}
+use Rattle.imp_flow.specs.Reached.{target_of}
+use Rattle.daig_session.specs.Going.{IsAnswered, IsGoing, IsRefused}
 use Rattle.daig_session.proofs.Answering.{answer_here}
-use Rattle.daig_session.proofs.Asked.{too_long}
+use Rattle.daig_session.proofs.Asked.{asked_answered, too_long}
 use Rattle.daig_session.proofs.Ticketed.{ask_refused, tickets_count}
 use Rattle.daig_session.proofs.parts.Parts.asked_going.Goals as goal
 
@@ -18,7 +20,7 @@ returns-then-string-gt2-clause-unopened g c = λ m h.
     let dom = g.D.Domain.operations s.engine.domain in
     let flow = flow_in s.book in
     let long : nat_lt 2 (length c.args.string.now) ≡ true = grind (arith, nat_tests, c.if-string-gt2.true) in
-    (sym (answer_here dom s.book s.engine.store m c.args.at.now c.args.string.now h) ∙ too_long dom flow.engine flow.program c.args.at.now c.args.string.now long, inl refl, h)
+    (ap refusal_in (sym (answer_here dom s.book s.engine.store m c.args.at.now c.args.string.now h) ∙ too_long dom flow.engine flow.program c.args.at.now c.args.string.now long), inl refl, h)
 
 pub returns-then-is_full-clause-unopened : goal.returns-then-is_full-clause-unopened
 returns-then-is_full-clause-unopened g c = λ m h.
@@ -50,3 +52,12 @@ pub returns-clause-going : goal.returns-clause-going
 returns-clause-going g c =
     let s = c.args.self.now in
     subst (λ (p : Plan). IsGoing (g.D.Domain.operations s.engine.domain) p s.engine.store c.args.at.now c.args.string.now c.in_ok-going.going) c.flow-flow.ensures.is c.in_ok-going.ensures.going
+
+pub returns-clause-answered : goal.returns-clause-answered
+returns-clause-answered g c = λ m h.
+    let s = c.args.self.now in
+    let dom = g.D.Domain.operations s.engine.domain in
+    let flow = flow_in s.book in
+    let going = subst (λ (p : Plan). IsGoing dom p s.engine.store c.args.at.now c.args.string.now c.in_ok-going.going) c.flow-flow.ensures.is c.in_ok-going.ensures.going in
+    let answered = subst IsAnswered (answer_here dom s.book s.engine.store m c.args.at.now c.args.string.now h) (asked_answered dom flow.engine flow.program c.args.at.now c.args.string.now (map target_of c.in_ok-going.going.targets) c.requires.ready.right.checked going.asked) in
+    ap refusal_in answered.1

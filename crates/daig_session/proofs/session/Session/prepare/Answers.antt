@@ -1,6 +1,6 @@
 use Rattle.std.proofs.Common.{◌≡◌, refl, ap}
 use Rattle.daig_tickets.specs.declared.tickets.Tickets.{Tickets}
-use Rattle.daig_session.specs.declared.book.Going.{Going}
+use Rattle.daig_session.specs.declared.course.Course.{Course}
 use Rattle.daig_session.proofs.Unchanged.{parts_hold, parts_ready}
 use Rattle.daig_session.proofs.session.Session.prepare.Goals as goal
 
@@ -24,7 +24,7 @@ returns g c =
         holds = parts_hold g.D.Domain.operations old new c.planned.ensures.engine same;
         setup = (λ i. (c.planned.ensures.engine i).domain, λ i. (c.planned.ensures.engine i).spare);
         unmoved = λ i. (c.planned.ensures.engine i).store;
-        next_ticket = ap (λ (t : Tickets Going). t.next) same.tickets_are;
+        next_ticket = ap (λ (t : Tickets Course). t.next) same.tickets_are;
         accepted = c.in_ok-planned.ensures.accepted;
         refused = tt;
       },

@@ -1,14 +1,12 @@
-use Rattle.std.proofs.Common.{suc, ◌+◌, ◌*◌, ◌≤◌, ◌≡◌, length, sym, ap, subst, ◌∙◌}
+use Rattle.std.proofs.Common.{suc, ◌+◌, ◌*◌, ◌≤◌, ◌≡◌, sym, ap, subst}
 use Rattle.std.specs.Prelude.{IfOk, IfSome, MatchOption}
-use Rattle.imp_check.specs.Slots.{routines_of}
 use Rattle.daig_query.specs.Filled.{cells_added}
-use Rattle.daig_query.specs.Swept.{IsBounded}
-use Rattle.daig_query.proofs.Sweeps.{filled-bounded, right-in-tables}
+use Rattle.daig_query.specs.Swept.{most_held, IsWithin}
+use Rattle.daig_query.proofs.Sweeps.{right-in-tables}
 use Rattle.daig_machine.specs.Machine.{ticket_of}
-use Rattle.daig_machine.specs.Turns.{targets_of}
 use Rattle.daig_session.specs.Books.{flow_in}
 use Rattle.daig_session.specs.Holds.{Holds}
-use Rattle.daig_session.specs.Turns.{work_of, CoversDone, IsStepOf}
+use Rattle.daig_session.specs.Turns.{chains_read, work_of, IsStepOf, SoundDone}
 use Rattle.daig_session.proofs.Swept.{behind-holds, behind-ready, swept-added}
 use Rattle.daig_session.proofs.session.Session.step.Goals as goal
 
@@ -17,18 +15,17 @@ sweep-requires g c =
     let s = c.self.inside.parts in
     record { held = right-in-tables (g.D.Domain.operations s.engine.domain) (flow_in s.book) s.engine.store c.self.invariant.right }
 
-pub step_now-requires : goal.step_now-requires
-step_now-requires g c =
+pub invariant_of-self : goal.invariant_of-self
+invariant_of-self g c =
     let s = c.self.inside.parts in
     let ops = g.D.Domain.operations in
     let mid = c.sweep.new.self in
-    record { ready = behind-ready (ops s.engine.domain) (ops mid.domain) (ap ops c.sweep.ensures.domain) s.engine.store mid.store c.sweep.ensures.swept s.book c.sweep.ensures.right c.self.invariant }
+    behind-ready (ops s.engine.domain) (ops mid.domain) (ap ops c.sweep.ensures.domain) s.engine.store mid.store c.sweep.ensures.swept s.book c.sweep.ensures.right c.self.invariant
 
 pub returns-clause-bounded : goal.returns-clause-bounded
 returns-clause-bounded g c =
-    let new = c.step_now.new.self.engine in
-    subst (λ n. IsBounded n new.store) (sym (c.step_now.ensures.setup.1 ∙ c.sweep.ensures.spare))
-    (filled-bounded c.self.inside.parts.engine.spare c.sweep.new.self.store new.store c.sweep.ensures.bounded c.step_now.ensures.adds_few)
+    let mid = c.sweep.new.self in
+    c.step_now.ensures.bounded (subst (λ n. IsWithin (most_held n mid.store) mid.store) (sym c.sweep.ensures.spare) c.sweep.ensures.bounded)
 
 pub returns-clause-steps : goal.returns-clause-steps
 returns-clause-steps g c = rw (← c.self.view_is) (λ m h.
@@ -46,7 +43,7 @@ returns-clause-sound g c = rw (← c.self.view_is) (λ m h.
     let ops = g.D.Domain.operations in
     let mid = c.sweep.new.self in
     let stood = behind-holds (ops s.engine.domain) (ops mid.domain) (ap ops c.sweep.ensures.domain) s.engine.store mid.store c.sweep.ensures.swept s.book in
-    subst (λ d. IfOk c.step_now.result (λ turn. IfSome (ticket_of c.args.ticket m.tickets) (λ t. CoversDone (g.D.Domain.covers d) (routines_of c.self.inside.parts.book.history.now) t turn))) c.sweep.ensures.domain
+    subst (λ d. IfOk c.step_now.result (λ turn. IfSome (ticket_of c.args.ticket m.tickets) (λ t. SoundDone (ops d) (g.D.Domain.covers d) m.engine m.program t.question turn))) c.sweep.ensures.domain
     (c.step_now.ensures.sound m (stood m h)))
 
 pub returns-clause-ticked : goal.returns-clause-ticked
@@ -55,7 +52,7 @@ returns-clause-ticked g c = rw (← c.self.view_is) (λ m h.
     let ops = g.D.Domain.operations in
     let mid = c.sweep.new.self in
     let stood = behind-holds (ops s.engine.domain) (ops mid.domain) (ap ops c.sweep.ensures.domain) s.engine.store mid.store c.sweep.ensures.swept s.book in
-    subst (λ d. IfOk c.step_now.result (λ turn. IfSome (ticket_of c.args.ticket m.tickets) (λ t. c.step_now.new.steps ≤ c.args.steps.now + g.D.Domain.counted d * work_of (ops d) m t turn))) c.sweep.ensures.domain
+    subst (λ d. IfOk c.step_now.result (λ turn. IfSome (ticket_of c.args.ticket m.tickets) (λ t. c.step_now.new.steps ≤ c.args.steps.now + g.D.Domain.counted d * work_of (ops d) m t.question turn))) c.sweep.ensures.domain
     (c.step_now.ensures.ticked m (stood m h)))
 
 pub returns-clause-ticked_filled : goal.returns-clause-ticked_filled
@@ -67,6 +64,6 @@ returns-clause-ticked_filled g c = rw (← c.self.view_is) (λ m h.
     let new = c.step_now.new.self.engine.store in
     let old = c.self.inside.parts.engine.store in
     let same = swept-added old c.sweep.new.self.store new c.sweep.ensures.swept in
-    subst (λ d. MatchOption (ticket_of c.args.ticket m.tickets) (c.step_now.new.steps ≡ c.args.steps.now) (λ t. c.step_now.new.steps ≤ c.args.steps.now + g.D.Domain.counted d * suc (cells_added old new + 2 * length (targets_of m t.at t.string)))) c.sweep.ensures.domain
-    (subst (λ n. MatchOption (ticket_of c.args.ticket m.tickets) (c.step_now.new.steps ≡ c.args.steps.now) (λ t. c.step_now.new.steps ≤ c.args.steps.now + g.D.Domain.counted c.sweep.new.self.domain * suc (n + 2 * length (targets_of m t.at t.string)))) same
+    subst (λ d. MatchOption (ticket_of c.args.ticket m.tickets) (c.step_now.new.steps ≡ c.args.steps.now) (λ t. c.step_now.new.steps ≤ c.args.steps.now + g.D.Domain.counted d * suc (cells_added old new + 2 * chains_read m t.question))) c.sweep.ensures.domain
+    (subst (λ n. MatchOption (ticket_of c.args.ticket m.tickets) (c.step_now.new.steps ≡ c.args.steps.now) (λ t. c.step_now.new.steps ≤ c.args.steps.now + g.D.Domain.counted c.sweep.new.self.domain * suc (n + 2 * chains_read m t.question))) same
     (c.step_now.ensures.ticked_filled m (stood m h))))
