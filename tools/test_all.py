@@ -94,6 +94,7 @@ def suites() -> list[Suite]:
         Suite("examples and rows", python("run_examples.py", PROGRAM), True),
         Suite("precision", ["bench/score", "--check", "--program", PROGRAM], True),
         Suite("sessions of the documents", python("run_sessions.py", PROGRAM), True),
+        Suite("random tickets", python("random_tickets.py", PROGRAM), True),
     ]
 
 

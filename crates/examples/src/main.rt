@@ -31,11 +31,12 @@ const SERVED: [(&str, &str); 14] = [
 ];
 
 /// The files of rows.
-const ROWS: [&str; 17] = [
+const ROWS: [&str; 18] = [
     "states",
     "calls",
     "edits",
     "tickets",
+    "tickets_of_reports",
     "undo",
     "runs",
     "lines",
