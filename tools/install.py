@@ -156,7 +156,7 @@ def install(prefix: str) -> int:
     put.page("daig")
     put.copy_editor()
     for name in sorted(os.listdir(f"{ROOT}/docs")):
-        if name.endswith((".md", ".png", ".svg")):
+        if name.endswith((".md", ".png", ".svg", ".json")):
             put.copy(f"{ROOT}/docs/{name}", f"lib/daig/docs/{name}")
     put.command("daig-lsp", "editors/daig_lsp.py")
     commands = ["daig", "daig-lsp"]

@@ -100,6 +100,11 @@ def read(path: str) -> str:
         return text.read()
 
 
+def names() -> list[str]:
+    """The names of the files of rows."""
+    return sorted(it for it in os.listdir(DATA) if it.endswith(".rows"))
+
+
 def rows(name: str) -> list[Row]:
     """The rows of a file."""
     blocks = [it.strip("\n").split("\n") for it in re.split(r"\n\n+", read(f"{DATA}/{name}"))]
@@ -113,7 +118,7 @@ def main(program: str) -> int:
         script, wanted = read(f"{DATA}/{name}.jsonl"), read(f"{DATA}/{name}.expected")
         words = [program, "serve", "--domain", domain, f"{name}.imp"]
         checks.append((f"example {name}", partial(fault_of, words, DATA, script, wanted, 0)))
-    for name in sorted(it for it in os.listdir(DATA) if it.endswith(".rows")):
+    for name in names():
         for number, row in enumerate(rows(name), 1):
             checks.append((f"{name}, row {number}: {' '.join(row.words)}", partial(row.fault, program)))
     with ThreadPoolExecutor(len(os.sched_getaffinity(0))) as pool:

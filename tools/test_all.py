@@ -90,6 +90,7 @@ def suites() -> list[Suite]:
         Suite("the launcher", python("tests/run.py")),
         *crates[1:],
         Suite("what the documents say", python("check_documents.py")),
+        Suite("the protocol's schema", python("check_protocol.py")),
         *editor_suites(),
         Suite("examples and rows", python("run_examples.py", PROGRAM), True),
         Suite("precision", ["bench/score", "--check", "--program", PROGRAM], True),
