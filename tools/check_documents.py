@@ -5,7 +5,8 @@ Each link leads to a file, and to a heading of it. Each name in backticks is dec
 the protocol or the language; where a document says "`name` of `crate`", in that crate. Each row of docs/THEOREM.md, and
 each link that names clauses, names a function of that file that promises these clauses; a row is marked as a law exactly where
 its function takes no arguments. Each request of the protocol has an example. Each block of code is run, or is marked as
-one that is not. All documents together stay below a number of words; `--words` prints how many each has.
+one that is not. CHANGELOG.md begins with the version of the project. All documents together stay below a number of words;
+`--words` prints how many each has.
 """
 from __future__ import annotations
 
@@ -30,6 +31,7 @@ from tally import Tally
 
 MOST_WORDS = 15_000
 EDITOR = "editors/README.md"
+VERSION_FILE = "editors/daig_editor/__init__.py"
 SERVING = "crates/daig_server/src/serving.rt"
 RUN_BY_THE_EDITOR = {"README.md": "$ ./daig-check", "docs/CHECK.md": "./daig-check"}
 LINK = re.compile(r"!?\[((?:[^\[\]]|\[[^\]]*\])*)\]\(([^()\s]+)\)")
@@ -57,7 +59,7 @@ def read(path: str) -> str:
 
 @cache
 def documents() -> tuple[str, ...]:
-    """README, CONTRIBUTING, and what stands in docs/."""
+    """README, CONTRIBUTING, CHANGELOG, and what stands in docs/."""
     return tuple(run_sessions.all_documents())
 
 
@@ -331,6 +333,17 @@ def requests_read() -> list[str]:
     return re.findall(r'^ +"(\w+)" => Some\(Verb::', read("crates/request_json/src/names.rt"), re.M)
 
 
+def version_fault(changes: str, version: str) -> str:
+    """What is wrong with the first version that a list of changes tells of."""
+    told = re.search(r"(?m)^## (\S+)$", changes)
+    return "" if told and told[1] == version else f"{told[1] if told else 'none'} in place of {version}"
+
+
+def project_version() -> str:
+    found = re.search(r'(?m)^VERSION = "(.*)"$', read(VERSION_FILE))
+    return found[1] if found else ""
+
+
 def word_count(text: str) -> int:
     """The words of a text: what has a letter or a digit, without the targets of links."""
     return sum(bool(re.search(r"\w", it)) for it in re.sub(r"\]\([^)]*\)", "]", text).split())
@@ -369,6 +382,7 @@ def main(words: list[str]) -> int:
     made = ((crate_list.DOCUMENT, crate_list.document), (draw_graph.DOCUMENT, draw_graph.drawing))
     for document, make in made:
         tally.note(f"{document} is made by its script", "" if read(document) == make() else "run the script")
+    tally.note("CHANGELOG.md begins with the version", version_fault(read("CHANGELOG.md"), project_version()))
     total = sum(counts.values())
     print(f"{total:,} words, at most {MOST_WORDS:,}")
     tally.note("the number of words", "" if total <= MOST_WORDS else f"{total:,} are more than {MOST_WORDS:,}")

@@ -23,10 +23,12 @@ from kit import ROOT
 from progress import say
 
 LIST = "lib/daig/installed"
+PROVED = "the proved program"
 
 LAUNCHER = """#!/bin/sh
 here=$(readlink -f "$0") && prefix=${here%/bin/*} || exit 1
-. "$prefix/lib/daig/tools/words.sh"
+top=$prefix/lib/daig
+. "$top/tools/words.sh"
 
 tell_build() {
     cat "$prefix/lib/daig/build"
@@ -129,7 +131,7 @@ def built_program() -> tuple[str, str]:
     """The program to put there, and what is to be said of it."""
     proved = places.fresh_program("proved")
     if proved:
-        return proved, "the proved program"
+        return proved, PROVED
     made = places.fresh_program("quick")
     if not made:
         subprocess.run([sys.executable, f"{places.TOOLS}/quick_build.py"], stdin=subprocess.DEVNULL)
@@ -144,17 +146,16 @@ def build() -> str:
     return told.strip().partition("(")[2].removesuffix(")")
 
 
-def install(prefix: str) -> int:
-    program, words = built_program()
-    if not program:
-        return 1
-    put = Installation(prefix)
+def put_all(put: Installation, program: str) -> list[str]:
+    """Puts the program and all that stands beside it, and returns the names of the commands."""
     put.copy(program, "lib/daig/daig", 0o755)
     put.copy(f"{places.TOOLS}/words.sh", "lib/daig/tools/words.sh")
     put.write(build(), "lib/daig/build")
     put.write(LAUNCHER, "bin/daig", 0o755)
     put.page("daig")
     put.copy_editor()
+    for name in ("README.md", "CHANGELOG.md"):
+        put.copy(f"{ROOT}/{name}", f"lib/daig/{name}")
     for name in sorted(os.listdir(f"{ROOT}/docs")):
         if name.endswith((".md", ".png", ".svg", ".json")):
             put.copy(f"{ROOT}/docs/{name}", f"lib/daig/docs/{name}")
@@ -165,6 +166,14 @@ def install(prefix: str) -> int:
         put.command("daig-check", "daig-check")
         commands.append("daig-check")
     put.finish()
+    return commands
+
+
+def install(prefix: str) -> int:
+    program, words = built_program()
+    if not program:
+        return 1
+    commands = put_all(Installation(prefix), program)
     print(f"{', '.join(commands)} stand in {prefix}/bin: {words}")
     if f"{prefix}/bin" not in os.environ.get("PATH", "").split(os.pathsep):
         print(f"{prefix}/bin is not on the PATH: add it, as by export PATH={shlex.quote(prefix)}/bin:$PATH")

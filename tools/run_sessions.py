@@ -112,8 +112,8 @@ def run(document: str, program: str, tally: Tally) -> None:
 
 
 def all_documents() -> list[str]:
-    """README, CONTRIBUTING, and what stands in docs/."""
-    return ["README.md", "CONTRIBUTING.md", *sorted(f"docs/{it}" for it in os.listdir(f"{ROOT}/docs") if it.endswith(".md"))]
+    """README, CONTRIBUTING, CHANGELOG, and what stands in docs/."""
+    return ["README.md", "CONTRIBUTING.md", "CHANGELOG.md", *sorted(f"docs/{it}" for it in os.listdir(f"{ROOT}/docs") if it.endswith(".md"))]
 
 
 def main(program: str, *documents: str) -> int:

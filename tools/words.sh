@@ -1,9 +1,9 @@
 #!/bin/sh
 # What `daig` answers itself, so that the program may stay as it is specified: `--help`, `--version`, and on standard
 # error what the program's usage line, or its silence about a missing file, leaves open. The launcher of a checkout and
-# the installed command read this file, and call `answer` before they start the program.
+# the installed command read this file, and call `answer` before they start the program. They set `top` to the folder
+# where `editors` is.
 
-version=1.0
 certified="interval octagon listseg"
 domains="$certified shapes interval+listseg octagon+listseg interval+shapes octagon+shapes"
 
@@ -108,12 +108,17 @@ look_at_words() {
     done
 }
 
+# Writes the version, which stands in one place for the commands and the editor.
+tell_version() {
+    sed -n 's/^VERSION = "\(.*\)"$/\1/p' "$top/editors/daig_editor/__init__.py"
+}
+
 # Answers words that ask about the command itself, and ends then: answer WORD ..
 # The program shall see a write that fails, and not be ended by a signal of it.
 # `tell_build` is a function of the caller, which writes the commit and what kind of program it is.
 answer() {
     if [ "$1" = --version ] || [ "$1" = -V ]; then
-        printf 'daig %s (%s)\n' "$version" "$(tell_build)"
+        printf 'daig %s (%s)\n' "$(tell_version)" "$(tell_build)"
         exit
     fi
     for word; do

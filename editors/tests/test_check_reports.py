@@ -9,6 +9,7 @@ from html.parser import HTMLParser
 from pathlib import Path
 from typing import Any
 
+from daig_editor import VERSION
 from tests.check_tool import DEAD, EXAMPLES, FAILS, LOOPS, NO_PROGRAM, SAFE, TOP, UNSAFE, check, folder
 from tests.program import program
 
@@ -26,7 +27,7 @@ def test_golden() -> None:
     """Each format of the examples is as it is kept. DAIG_GOLDEN=write keeps what comes out."""
     for form in FORMATS:
         found = check("--format", form, "--try", 32, EXAMPLES.relative_to(TOP), where=TOP)
-        told = found.out.replace(TOP.as_uri(), "file:///checkout")
+        told = found.out.replace(TOP.as_uri(), "file:///checkout").replace(VERSION, "VERSION")
         path = GOLDEN / f"examples.{form}"
         if os.environ.get("DAIG_GOLDEN") == "write":
             path.write_text(told)

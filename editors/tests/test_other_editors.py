@@ -13,6 +13,7 @@ import zipfile
 from importlib import import_module
 from pathlib import Path
 
+from daig_editor import VERSION
 from daig_editor.server.choices import DOMAINS
 from tests.check_tool import UNSAFE, folder
 from tests.client import Client
@@ -68,7 +69,7 @@ def test_package() -> None:
         (identity,) = root.findall(".//{*}Identity")
         extension = here / "out/extension"
         told = json.loads((extension / "package.json").read_text())
-        assert (identity.get("Id"), identity.get("Version")) == (told["name"], told["version"])
+        assert (identity.get("Id"), identity.get("Version")) == (told["name"], told["version"]) == ("daig", VERSION)
         named = [told["main"], *(it["path"] for it in told["contributes"]["grammars"])]
         named += [it["configuration"] for it in told["contributes"]["languages"]]
         assert all((extension / it).is_file() for it in named), named

@@ -1,7 +1,8 @@
 #!/usr/bin/env python3
 """Packs the extension for Visual Studio Code, with the language server in it: pack.py [OUT.vsix].
 
-`code --install-extension OUT.vsix` installs it. No other tool is needed. The program daig is not in it.
+`code --install-extension OUT.vsix` installs it. No other tool is needed. The program daig is not in it. Its version is
+that of the language server; package.json has a stand-in.
 """
 from __future__ import annotations
 
@@ -9,11 +10,16 @@ import json
 import sys
 import zipfile
 from pathlib import Path
+from typing import Any
 from xml.sax.saxutils import quoteattr
 
 HERE = Path(__file__).resolve().parent
-# The files of the extension, and those of the language server.
-OWN = ("package.json", "language-configuration.json", "*.js", "syntaxes/*.json")
+sys.path.insert(0, str(HERE.parent))
+
+from daig_editor import VERSION  # noqa: E402
+
+# The files of the extension that are copied, and those of the language server.
+OWN = ("language-configuration.json", "*.js", "syntaxes/*.json")
 SERVER = ("daig_lsp.py", "daig_editor/**/*.py")
 TYPES = {"json": "application/json", "js": "application/javascript", "py": "text/x-python", "vsixmanifest": "text/xml"}
 MANIFEST = """<?xml version="1.0" encoding="utf-8"?>
@@ -34,9 +40,13 @@ MANIFEST = """<?xml version="1.0" encoding="utf-8"?>
 """
 
 
-def manifest() -> str:
+def extension() -> dict[str, Any]:
+    """What package.json tells, with the version."""
+    return {**json.loads((HERE / "package.json").read_text()), "version": VERSION}
+
+
+def manifest(told: dict[str, Any]) -> str:
     """What the package is."""
-    told = json.loads((HERE / "package.json").read_text())
     return MANIFEST.format(
         name=quoteattr(told["name"]),
         version=quoteattr(told["version"]),
@@ -58,7 +68,8 @@ def content_types() -> str:
 def pack(out: Path) -> None:
     """Writes the package."""
     with zipfile.ZipFile(out, "w", zipfile.ZIP_DEFLATED) as package:
-        package.writestr("extension.vsixmanifest", manifest())
+        package.writestr("extension.vsixmanifest", manifest(extension()))
+        package.writestr("extension/package.json", json.dumps(extension(), indent=2))
         package.writestr("[Content_Types].xml", content_types())
         for top, patterns, below in ((HERE, OWN, "extension"), (HERE.parent, SERVER, "extension/server")):
             for path in sorted(it for pattern in patterns for it in top.glob(pattern)):

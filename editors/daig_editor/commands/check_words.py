@@ -5,9 +5,10 @@ import argparse
 import os
 from typing import Callable, Iterable, NoReturn
 
+from daig_editor import VERSION
 from daig_editor.server.choices import DOMAIN, DOMAINS, FAULTS, WIDENINGS
 from daig_editor.reports.suggestion import meant
-from daig_editor.reports.tool import NAME, RULES, VERSION, explained
+from daig_editor.reports.tool import NAME, RULES, explained
 
 FORMATS = ("text", "brief", "json", "sarif", "html", "github", "junit")
 SHELLS = ("bash", "zsh", "fish")

@@ -5,6 +5,7 @@ import asyncio
 import traceback
 from typing import Awaitable, Callable
 
+from daig_editor import VERSION
 from daig_editor.checking.configuration import BadConfiguration, forget_configurations
 from daig_editor.checking.program import build_words
 from daig_editor.language.places import SourceText
@@ -32,7 +33,6 @@ from daig_editor.protocol.wire import (
     read_message,
 )
 from daig_editor.protocol.workspace import folders_of, workspace_symbols
-from daig_editor.reports.tool import VERSION
 from daig_editor.server.asking import Outdated
 from daig_editor.server.choices import found_program
 from daig_editor.server.document import Document

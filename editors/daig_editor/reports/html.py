@@ -4,6 +4,7 @@ from __future__ import annotations
 from html import escape
 from typing import Iterator, TypeVar
 
+from daig_editor import VERSION
 from daig_editor.language.places import SourceText
 from daig_editor.language.records import replace
 from daig_editor.language.tree import Span
@@ -11,7 +12,7 @@ from daig_editor.reports.finding import CheckedFile, Finding, Level, StateLine
 from daig_editor.reports.report import CANNOT_FAIL, Totals
 from daig_editor.reports.shown import shown
 from daig_editor.reports.text import details
-from daig_editor.reports.tool import NAME, VERSION
+from daig_editor.reports.tool import NAME
 
 STYLE = """
 :root { color-scheme: light dark; --text: #1d2430; --faint: #6b7688; --page: #fff; --line: #e3e7ee; --card: #f6f8fb;

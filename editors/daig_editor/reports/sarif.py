@@ -7,13 +7,14 @@ from pathlib import Path
 from typing import Iterator
 from urllib.parse import quote
 
+from daig_editor import VERSION
 from daig_editor.language.places import SourceText
 from daig_editor.language.tree import Span
 from daig_editor.reports.finding import TROUBLE, CheckedFile, Finding, Weight
 from daig_editor.reports.project import ProjectPath
 from daig_editor.reports.regions import utf16_region
 from daig_editor.reports.shown import plain_json
-from daig_editor.reports.tool import CANNOT_FAIL_PROPERTY, FAULTS_PROPERTY, NAME, PRINT, RULES, VERSION, Rule
+from daig_editor.reports.tool import CANNOT_FAIL_PROPERTY, FAULTS_PROPERTY, NAME, PRINT, RULES, Rule
 from daig_editor.server.choices import Faults
 
 Json = dict[str, object]
@@ -47,7 +48,7 @@ class SarifReport:
 
     def end(self) -> str:
         """The whole log."""
-        driver: Json = {"name": NAME, "version": VERSION, "semanticVersion": f"{VERSION}.0"}
+        driver: Json = {"name": NAME, "version": VERSION, "semanticVersion": VERSION}
         driver |= {"informationUri": _document(""), "rules": [_rule(it) for it in RULES.values()]}
         run: Json = {
             "tool": {"driver": driver},

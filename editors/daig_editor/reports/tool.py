@@ -1,11 +1,10 @@
-"""What the tool says of itself: its name, its version, and the rules that its findings have."""
+"""What the tool says of itself: its name, and the rules that its findings have."""
 from __future__ import annotations
 
 from daig_editor.language.records import dataclass
 
 
 NAME = "daig-check"
-VERSION = "1.0"
 # The names of the fingerprint in SARIF, of a run's property which says what faults it tells, and of a file's which says
 # that no run of it ends with one.
 PRINT, FAULTS_PROPERTY, CANNOT_FAIL_PROPERTY = "daig/v1", "daig/faults", "daig/noRunCanFail"
