@@ -125,6 +125,26 @@ def test_certificates() -> None:
         assert not list((here / "new").iterdir())
 
 
+def test_no_two_files_share_a_certificate() -> None:
+    """Files whose paths differ in the ending alone, or in where they begin, have certificates of their own."""
+    other = LOOPS.replace("10", "12")
+    with folder(a_imp=LOOPS, a=other) as here:
+        (here / "a.octagon").write_text(LOOPS)
+        (here / "in").mkdir()
+        below = here / "in" / here.relative_to("/")
+        below.mkdir(parents=True)
+        (below / "a.imp").write_text(other)
+        both: tuple[tuple[Path, list[object]], ...] = (
+            (here, ["a.imp", "a", "a.octagon"]), (here / "in", [below / "a.imp", here / "a.imp"])
+        )
+        for where, files in both:
+            many = 2 * len(files)
+            found = check("--cert", here / "kept", *files, where=where)
+            assert found.err.endswith(f"; certificates: 0 hold, {many} written\n"), found
+            found = check("--cert", here / "kept", *files, where=where)
+            assert found.err.endswith(f"; certificates: {many} hold, 0 written\n"), found
+
+
 def test_examples_are_certified() -> None:
     """The certificates of all examples hold, by both parts of the domain."""
     with folder() as here:

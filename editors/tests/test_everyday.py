@@ -7,6 +7,7 @@ import tempfile
 import time
 from pathlib import Path
 
+from daig_editor import VERSION
 from daig_editor.protocol.fitting import MOST_PLACES, MOST_TOLD
 from daig_editor.protocol.workspace import path_of
 from tests.client import Client, Json
@@ -82,7 +83,7 @@ def test_version() -> None:
         for options in choices:
             client = Client(options, environment={"DAIG_PROGRAM": program()})
             version = client.about["version"]
-            assert version.startswith("1.0 (") and (options.get("daig") or program()) in version, version
+            assert version.startswith(f"{VERSION} (") and (options.get("daig") or program()) in version, version
             client.close()
 
 
@@ -118,6 +119,26 @@ def test_actions_of_a_line() -> None:
     where = {"textDocument": {"uri": URI}, "range": {"start": spot, "end": spot}}
     for diagnostics, titles in (([], []), (told, ["Show what this hangs on"]), (told * 2, ["Show what this hangs on"])):
         found = client.request("textDocument/codeAction", {**where, "context": {"diagnostics": diagnostics}})
+        assert [it["title"] for it in found] == titles, found
+    client.close()
+
+
+def test_actions_of_diagnostics() -> None:
+    """Where the client names diagnostics, what is done for these is offered, and nothing for others at the place."""
+    text = "proc main() {\n  var x: int; var y: int;\n  x = input; y = input; assert x == 1; assert y == 2;\n}\n"
+    client, told = opened({"runs": 0}, text)
+    assert codes(told) == ["assert", "assert"], told
+    at_first = {"textDocument": {"uri": URI}, "range": told[0]["range"]}
+    for about in (told[0], told[1]):
+        found = client.request("textDocument/codeAction", {**at_first, "context": {"diagnostics": [about]}})
+        assert [it["arguments"][1] for it in found] == [about["range"]["start"]], found
+    moved = [{**told[1], "range": told[0]["range"], "code": "null"}]
+    assert client.request("textDocument/codeAction", {**at_first, "context": {"diagnostics": moved}}) == []
+    client.change(URI, 2, [{"text": text.replace("assert y", "assert yy").replace("assert x", "assert xx")}])
+    told = client.diagnostics(2)
+    whole_line = {"textDocument": {"uri": URI}, "range": {"start": {"line": 2, "character": 0}, "end": told[1]["range"]["end"]}}
+    for diagnostics, titles in (([], ["Write `x`", "Write `y`"]), (told[1:], ["Write `y`"]), (told, ["Write `x`", "Write `y`"])):
+        found = client.request("textDocument/codeAction", {**whole_line, "context": {"diagnostics": diagnostics}})
         assert [it["title"] for it in found] == titles, found
     client.close()
 

@@ -1,7 +1,8 @@
 """Keeps certificates of files: one that holds stays, any other is written anew and verified.
 
-A certificate speaks of one domain, so a file has one for each part of a product. It stands at FOLDER/PATH.DOMAIN.cert,
-where PATH is the file's path without `.imp`.
+A certificate speaks of one domain, so a file has one for each part of a product. That of PATH.imp stands at
+FOLDER/PATH.DOMAIN.cert. Further words before `cert` tell a PATH with another ending, and one from the root of all files, so
+that no two files share one.
 """
 from __future__ import annotations
 
@@ -49,12 +50,15 @@ async def certify(checked: CheckedFile, folder: str, settings: Settings) -> None
 
 
 def certificate_path(folder: str, name: str, domain: str) -> str:
-    """Where a file's certificate stands: by its path from where the tool was started, or by its whole path."""
+    """Where a file's certificate stands: by its path from where the tool was started, or by its whole path where it is
+    not below."""
     real = os.path.realpath(name)
-    path = os.path.relpath(real)
-    if path.startswith(".."):
-        path = real.lstrip(os.sep)
-    return os.path.join(folder, f"{path.removesuffix('.imp')}.{domain}.cert")
+    path, ending = os.path.relpath(real), "cert"
+    if not path.endswith(".imp"):
+        ending = f"whole.{ending}"
+    if path.startswith(f"..{os.sep}"):
+        path, ending = real.lstrip(os.sep), f"outside.{ending}"
+    return os.path.join(folder, f"{path.removesuffix('.imp')}.{domain}.{ending}")
 
 
 @contextlib.contextmanager

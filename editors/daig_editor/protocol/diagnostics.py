@@ -47,12 +47,17 @@ def _reported(document: Document, report: Report) -> list[Json]:
     if report.over and over and document.options.tells("budget"):
         told.append(_diagnostic(document, over, WARNING, report.over.words, code="budget"))
     for finding in report.findings:
-        span = shift.span(finding.place.head)
+        span = place_of(document, shift, finding)
         if span and document.options.tells(finding.rule):
             told.append(_finding(document, shift, finding, span, report.partial))
     if document.shown and not report.partial:
         told += _shown(document, shift, document.shown.of, document.shown.causes)
     return told
+
+
+def place_of(document: Document, shift: Shift, finding: Finding) -> Span | None:
+    """The part of the present text that a finding is about, where its statement stands there as it was."""
+    return shift.span(finding.place.head)
 
 
 def _diagnostic(

@@ -166,19 +166,14 @@ async def _actions(document: Document, params: Json, _: Abilities) -> object:
     start = document.text.place(member(params, "range", "start"))
     end = member(params, "range", "end")
     stop = document.text.place(end) if end else start
-    places = [(start, stop), *_told_places(document, params)]
     await document.followed()
-    found: dict[str, Json] = {}
-    for place in places:
-        for it in actions(document, *place):
-            found.setdefault(str(it["title"]), it)
-    return list(found.values())
+    return actions(document, start, stop, _told_diagnostics(params))
 
 
-def _told_places(document: Document, params: Json) -> list[tuple[int, int]]:
-    """The places of the diagnostics that the client asks for, which may be all of a line."""
+def _told_diagnostics(params: Json) -> list[Json]:
+    """The diagnostics that the client asks for, which may be all of a line."""
     told = member(params, "context", "diagnostics")
-    return [_range(document, it) for it in told if isinstance(it, dict)] if isinstance(told, list) else []
+    return [it for it in told if isinstance(it, dict)] if isinstance(told, list) else []
 
 
 async def _diagnostic(document: Document, _params: Json, _: Abilities) -> object:
